@@ -5,7 +5,7 @@ use lib.ListN.{get_elem?}
 use Rattle.atomic_table.specs.Table.{Me, keeps, Allows, Splits, Joins, opening}
 use Rattle.atomic_table.proofs.Lists.{at_set, at_snoc, set_else}
 use Rattle.agreement.specs.declared.rule.View.{View}
-use Rattle.agreement.specs.Rule.{shares, Tells, IsAgreed, first_view, spent, less, part, taking_in, refilled, set_to, LooksRound, IsSetTo}
+use Rattle.agreement.specs.Rule.{shares, Records, IsAgreed, first_view, spent, less, part, taking_in, refilled, set_to, LooksRound, IsSetTo}
 
 module _ {V : Type 0} where
   -- the sum of the shares after one view became another
@@ -34,24 +34,24 @@ module _ {V : Type 0} where
   two_shares (x ∷ xs) (suc i) (suc j) v u apart e d = let s = two_shares xs i j v u (λ h. apart (ap suc h)) e d in omega arith
 
   -- all views with a share tell this value
-  abbrev AllTell : ℕ → V → List (View V) → Type 0
-  AllTell count value vs = (place : ℕ) (v : View V) → get_elem? vs place ≡ some v → Tells count value v
+  abbrev AllRecord : ℕ → V → List (View V) → Type 0
+  AllRecord count value vs = (place : ℕ) (v : View V) → get_elem? vs place ≡ some v → Records count value v
 
   -- the others tell the value, and so does the view that is written
-  all_tell_set : (count : ℕ) (value : V) (vs : List (View V)) (i : ℕ) (w : View V) → ((j : ℕ) (u : View V) → j ≢ i → get_elem? vs j ≡ some u → Tells count value u) → Tells count value w → AllTell count value (set vs i w)
-  all_tell_set count value vs i w others mine j u e =
-      ⊎_elim (λ (t : (j ≡ i) × (w ≡ u)). subst (Tells count value) t.1 mine) (λ (t : (j ≢ i) × (get_elem? vs j ≡ some u)). others j u t.0 t.1) (at_set vs i j w u e)
+  all_record_set : (count : ℕ) (value : V) (vs : List (View V)) (i : ℕ) (w : View V) → ((j : ℕ) (u : View V) → j ≢ i → get_elem? vs j ≡ some u → Records count value u) → Records count value w → AllRecord count value (set vs i w)
+  all_record_set count value vs i w others mine j u e =
+      ⊎_elim (λ (t : (j ≡ i) × (w ≡ u)). subst (Records count value) t.1 mine) (λ (t : (j ≢ i) × (get_elem? vs j ≡ some u)). others j u t.0 t.1) (at_set vs i j w u e)
 
   -- the view that is added tells the value too
-  all_tell_snoc : (count : ℕ) (value : V) (vs : List (View V)) (w : View V) → AllTell count value vs → Tells count value w → AllTell count value (vs ++ w ∷ [])
-  all_tell_snoc count value vs w all mine j u e = ⊎_elim (all j u) (λ (t : w ≡ u). subst (Tells count value) t mine) (at_snoc vs w u j e)
+  all_record_snoc : (count : ℕ) (value : V) (vs : List (View V)) (w : View V) → AllRecord count value vs → Records count value w → AllRecord count value (vs ++ w ∷ [])
+  all_record_snoc count value vs w all mine j u e = ⊎_elim (all j u) (λ (t : w ≡ u). subst (Records count value) t mine) (at_snoc vs w u j e)
 
   -- the opening keeps the rule
   pub begins : (value : V) (count : ℕ) (words : List ℕ) → IsAgreed count (opening words [] (first_view value count))
-  begins value count words = record { all_there = omega arith; value = value; told = one }
+  begins value count words = record { all_there = omega arith; value = value; recorded = one }
     where
-      one : (j : ℕ) (u : View V) → get_elem? (first_view value count ∷ []) j ≡ some u → Tells count value u
-      one zero u e = subst (Tells count value) (some-injective _ _ e) (λ _. (refl, refl, refl))
+      one : (j : ℕ) (u : View V) → get_elem? (first_view value count ∷ []) j ≡ some u → Records count value u
+      one zero u e = subst (Records count value) (some-injective _ _ e) (λ _. (refl, refl, refl))
       one (suc j) u e = absurd (some-ne-none u (sym e))
 
   -- shares that are there may go to a new place
@@ -61,13 +61,13 @@ module _ {V : Type 0} where
       let both = shares_snoc (set s.views id (less v n)) (part v n) in
       let sum = holds.all_there in
       let value = holds.value in
-      let tells = holds.told id v at in
+      let records = holds.recorded id v at in
       record {
         all_there = omega arith;
         value = value;
-        told = all_tell_snoc count value (set s.views id (less v n)) (part v n)
-            (all_tell_set count value s.views id (less v n) (λ j u _ e. holds.told j u e) (λ h. tells (omega arith)))
-            (λ h. let told = tells (omega arith) in (told.0, told.0, told.2));
+        recorded = all_record_snoc count value (set s.views id (less v n)) (part v n)
+            (all_record_set count value s.views id (less v n) (λ j u _ e. holds.recorded j u e) (λ h. records (omega arith)))
+            (λ h. let recorded = records (omega arith) in (recorded.0, recorded.0, recorded.2));
       }
 
   -- what another place knew, before this one's view changed
@@ -75,8 +75,8 @@ module _ {V : Type 0} where
   other_was vs id other x w apart e = sym (set_else vs id other x apart) ∙ e
 
   -- a view that tells the value, with the shares of another, keeps the rule once that other is spent
-  joins : (count id : ℕ) (v : View V) (other : ℕ) (w both : View V) (none : V) → both.share ≡ v.share + w.share → ((value : V) → Tells count value v → Tells count value w → Tells count value both) → Joins (IsAgreed count) id v other w both (spent none)
-  joins count id v other w both none sum tells s holds at apart there =
+  joins : (count id : ℕ) (v : View V) (other : ℕ) (w both : View V) (none : V) → both.share ≡ v.share + w.share → ((value : V) → Records count value v → Records count value w → Records count value both) → Joins (IsAgreed count) id v other w both (spent none)
+  joins count id v other w both none sum records s holds at apart there =
       let was = other_was s.views id other both w apart there in
       let mine = shares_set s.views id v both at in
       let all = shares_set (set s.views id both) other w (spent none) there in
@@ -85,8 +85,8 @@ module _ {V : Type 0} where
       record {
         all_there = omega arith;
         value = value;
-        told = all_tell_set count value (set s.views id both) other (spent none)
-            (λ j u _ e. all_tell_set count value s.views id both (λ i y _ d. holds.told i y d) (tells value (holds.told id v at) (holds.told other w was)) j u e)
+        recorded = all_record_set count value (set s.views id both) other (spent none)
+            (λ j u _ e. all_record_set count value s.views id both (λ i y _ d. holds.recorded i y d) (records value (holds.recorded id v at) (holds.recorded other w was)) j u e)
             (λ h. absurd (omega arith));
       }
 
@@ -96,7 +96,7 @@ module _ {V : Type 0} where
 
   -- any place may take in another with a share, and tell what that one told
   pub refills : (count id : ℕ) (v : View V) (other : ℕ) (w : View V) (none : V) → 0 < w.share → Joins (IsAgreed count) id v other w (refilled v w) (spent none)
-  refills count id v other w none some_theirs = joins count id v other w (refilled v w) none refl (λ value mine theirs _. let told = theirs some_theirs in (told.0, told.0, told.2))
+  refills count id v other w none some_theirs = joins count id v other w (refilled v w) none refl (λ value mine theirs _. let recorded = theirs some_theirs in (recorded.0, recorded.0, recorded.2))
 
   -- a place with a share may look round
   pub looks : (count slots id : ℕ) (me : Me (Unit {0}) (View V)) (word : ℕ) (f : ℕ → ℕ) → 0 < me.0.share → Allows (IsAgreed count) slots id me word f (λ n after. LooksRound me after)
@@ -106,13 +106,13 @@ module _ {V : Type 0} where
       let mine = one_share s.views id v at in
       let sum = holds.all_there in
       let value = holds.value in
-      let told = holds.told id v at some_mine in
-      let known = told.2 in (
+      let recorded = holds.recorded id v at some_mine in
+      let known = recorded.2 in (
         v,
         keeps,
         tt,
-        record { all_there = omega arith; value = value; told = all_tell_set count value s.views id v (λ j u _ e. holds.told j u e) (λ _. told) },
-        (refl, told.1 ∙ sym told.0, omega arith),
+        record { all_there = omega arith; value = value; recorded = all_record_set count value s.views id v (λ j u _ e. holds.recorded j u e) (λ _. recorded) },
+        (refl, recorded.1 ∙ sym recorded.0, omega arith),
       )
 
   -- a place with all shares may change the value
@@ -122,14 +122,14 @@ module _ {V : Type 0} where
       let w = set_to v value in
       let same = shares_set s.views id v w at in
       let sum = holds.all_there in
-      let known = (holds.told id v at (omega arith)).2 in (
+      let known = (holds.recorded id v at (omega arith)).2 in (
         w,
         keeps,
         tt,
         record {
           all_there = omega arith;
           value = value;
-          told = all_tell_set count value s.views id w
+          recorded = all_record_set count value s.views id w
               (λ j u apart e some_theirs. absurd (let most = two_shares s.views id j v u apart at e in omega arith))
               (λ _. (refl, refl, known));
         },

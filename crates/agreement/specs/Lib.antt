@@ -1,3 +1,3 @@
-pub mod Telling
+pub mod SeatView
 pub mod Rule
 pub mod Place

@@ -3,7 +3,7 @@ use Rattle.std.specs.Prelude.{◌≡◌, ◌<◌, []}
 use Rattle.atomic_table.specs.Seated.{TableId}
 use Rattle.atomic_table.specs.declared.shared.Seat.{Seat}
 use Rattle.agreement.specs.declared.rule.View.{View}
-use Rattle.agreement.specs.Telling.{Telling}
+use Rattle.agreement.specs.SeatView.{SeatView}
 
 module _ {V : Type 0} where
   -- the place is at this table, has taken no slot of it, and its agreement has some shares
@@ -14,8 +14,8 @@ module _ {V : Type 0} where
     pub some_share : 0 < place.me.0.count
 
   -- what a seat tells that sits at this place
-  abbrev pub told_at : Seat (Unit {0}) (View V) → Telling V
-  told_at place = record {
+  abbrev pub recorded_at : Seat (Unit {0}) (View V) → SeatView V
+  recorded_at place = record {
     agreement = record { table = place.table_id; count = place.me.0.count };
     value = place.me.0.value;
     share = place.me.0.share;

@@ -12,14 +12,14 @@ module _ {V : Type 0} where
   shares (v ∷ vs) = v.share + shares vs
 
   -- a view with a share tells this value and this number of shares, and what it took in last told the same value
-  abbrev pub Tells : ℕ → V → View V → Type 0
-  Tells count value v = 0 < v.share → (v.value ≡ value) × (v.taken_value ≡ value) × (v.count ≡ count)
+  abbrev pub Records : ℕ → V → View V → Type 0
+  Records count value v = 0 < v.share → (v.value ≡ value) × (v.taken_value ≡ value) × (v.count ≡ count)
 
   -- no share was lost or made, and there is one value that all views with a share tell
   pub record IsAgreed (count : ℕ) (s : State (Unit {0}) (View V)) : Type 0 where
     pub all_there : shares s.views ≡ count
     pub value : V
-    pub told : (place : ℕ) (v : View V) → get_elem? s.views place ≡ some v → Tells count value v
+    pub recorded : (place : ℕ) (v : View V) → get_elem? s.views place ≡ some v → Records count value v
 
   -- a view that has taken in nothing
   abbrev pub fresh : V → ℕ → ℕ → View V

@@ -1,5 +1,5 @@
 ghost use Rattle.std.specs.Prelude.{◌≡◌, ◌+◌, ◌-◌, ◌<◌, ◌≤◌, IfOk};
-ghost use Rattle.agreement.specs.Telling.{with_share, with_value, IsSpent};
+ghost use Rattle.agreement.specs.SeatView.{with_share, with_value, IsSpent};
 
 use crate::places::{self, Board, Place};
 use crate::{Change, Value};
@@ -22,12 +22,12 @@ pub struct Seat<V: Value> {
 
 impl<V: Value> Model for Seat<V> {
     ghost use Rattle.std.specs.Arc.{arc_value};
-    ghost use Rattle.agreement.specs.Telling.{Telling};
-    ghost use Rattle.agreement.specs.Place.{IsPlaceAt, told_at};
+    ghost use Rattle.agreement.specs.SeatView.{SeatView};
+    ghost use Rattle.agreement.specs.Place.{IsPlaceAt, recorded_at};
 
-    ghost Value = { Telling V };
+    ghost Value = { SeatView V };
 
-    ghost view = { λ s. told_at s.place };
+    ghost view = { λ s. recorded_at s.place };
 
     ghost invariant = { λ s. IsPlaceAt (arc_value s.board).shared.table_id s.place };
 }

@@ -44,8 +44,8 @@ module _ (words : List (List ℕ)) where
   no_memory (usage.Words error) none = inl none
   no_memory fault none = absurd none
 
-  pub told : (error : Error) (fault : UsageFault) → HasKind (fault_of program words) error → IsNoMemory fault ⊎ (fault ≡ usage.Words error) → MistakesCommand words fault
-  told error fault has why =
+  pub reported : (error : Error) (fault : UsageFault) → HasKind (fault_of program words) error → IsNoMemory fault ⊎ (fault ≡ usage.Words error) → MistakesCommand words fault
+  reported error fault has why =
       elim why [
         | inl none ↦ no_memory fault none
         | inr is ↦ let Fails : UsageFault → Type 0 = λ f. MistakesCommand words f in subst Fails (sym is) has
@@ -137,7 +137,7 @@ pub of_script : (name : List ℕ) (found : Found) (fault : UsageFault) → name 
 of_script name found usage.NoCommand is h = absurd (no_command found h)
 of_script name found fault is h = inr (inr (inr (is, h)))
 
--- where clap tells it of a command, it is want of memory
+-- where clap tells it of a command, it is lack of memory
 no_words : (name : List ℕ) (found : Found) (error : Error) → IsFaultOf name found (usage.Words error) → kind_of error ≡ OutOfMemory
 no_words name found error h = elim h [
   | inl run ↦ run.1

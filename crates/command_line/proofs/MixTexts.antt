@@ -9,59 +9,59 @@ use Rattle.std.proofs.lemmas.Fmt.{decimal_injective}
 use Rattle.std.proofs.lemmas.List.{take-append-drop, drop_more, take_more, take_all, map-append, get_or-map}
 use Rattle.workload.specs.declared.mix.Mix.{Mix}
 use Rattle.workload.specs.Limits.{IsMix}
-use Rattle.command_line.specs.MixText.{AreCards, IsMixText, cards_text, told_of}
+use Rattle.command_line.specs.MixText.{AreCards, IsMixText, cards_text, reported_of}
 
 -- ---- one kind more
 
 -- the kind's own number, where it was not told before
-told-new : (letter count : ℕ) (cards : List (ℕ × ℕ)) → told_of cards letter ≡ None → told_of (cards ++ (letter, count) ∷ []) letter ≡ Some count
-told-new letter count [] none = ap (λ (b : Bool). cond b (Some count) None) (eq-eqb letter letter refl)
-told-new letter count (one ∷ cards) none =
+reported-new : (letter count : ℕ) (cards : List (ℕ × ℕ)) → reported_of cards letter ≡ None → reported_of (cards ++ (letter, count) ∷ []) letter ≡ Some count
+reported-new letter count [] none = ap (λ (b : Bool). cond b (Some count) None) (eq-eqb letter letter refl)
+reported-new letter count (one ∷ cards) none =
     let If : Bool → Option ℕ → Option ℕ = λ b rest. cond b (Some one.1) rest in
     elim (eqb_tells one.0 letter) [
-      | inl h ↦ let no : Some one.1 ≡ None = sym (ap (λ (b : Bool). If b (told_of cards letter)) h.0) ∙ none in absurd cc
+      | inl h ↦ let no : Some one.1 ≡ None = sym (ap (λ (b : Bool). If b (reported_of cards letter)) h.0) ∙ none in absurd cc
       | inr h ↦
-          let before : told_of cards letter ≡ None = sym (ap (λ (b : Bool). If b (told_of cards letter)) h.0) ∙ none in
-          ap (λ (b : Bool). If b (told_of (cards ++ (letter, count) ∷ []) letter)) h.0 ∙ told-new letter count cards before
+          let before : reported_of cards letter ≡ None = sym (ap (λ (b : Bool). If b (reported_of cards letter)) h.0) ∙ none in
+          ap (λ (b : Bool). If b (reported_of (cards ++ (letter, count) ∷ []) letter)) h.0 ∙ reported-new letter count cards before
     ]
 
 -- another kind's is as before
-told-other : (letter count other : ℕ) → other ≢ letter → (cards : List (ℕ × ℕ)) → told_of (cards ++ (letter, count) ∷ []) other ≡ told_of cards other
-told-other letter count other apart [] = ap (λ (b : Bool). cond b (Some count) None) (ne_eqb letter other (λ e. apart (sym e)))
-told-other letter count other apart (one ∷ cards) = ap (λ (rest : Option ℕ). cond (eqb one.0 other) (Some one.1) rest) (told-other letter count other apart cards)
+reported-other : (letter count other : ℕ) → other ≢ letter → (cards : List (ℕ × ℕ)) → reported_of (cards ++ (letter, count) ∷ []) other ≡ reported_of cards other
+reported-other letter count other apart [] = ap (λ (b : Bool). cond b (Some count) None) (ne_eqb letter other (λ e. apart (sym e)))
+reported-other letter count other apart (one ∷ cards) = ap (λ (rest : Option ℕ). cond (eqb one.0 other) (Some one.1) rest) (reported-other letter count other apart cards)
 
 -- a kind that is told is told
-told-there : (letter count : ℕ) (more cards : List (ℕ × ℕ)) → told_of (cards ++ (letter, count) ∷ more) letter ≡ None → ⊥
-told-there letter count more [] none =
-    let is : cond (eqb letter letter) (Some count) (told_of more letter) ≡ Some count = ap (λ (b : Bool). cond b (Some count) (told_of more letter)) (eq-eqb letter letter refl) in
+reported-there : (letter count : ℕ) (more cards : List (ℕ × ℕ)) → reported_of (cards ++ (letter, count) ∷ more) letter ≡ None → ⊥
+reported-there letter count more [] none =
+    let is : cond (eqb letter letter) (Some count) (reported_of more letter) ≡ Some count = ap (λ (b : Bool). cond b (Some count) (reported_of more letter)) (eq-eqb letter letter refl) in
     let no : Some count ≡ None = sym is ∙ none in
     absurd cc
-told-there letter count more (one ∷ cards) none =
-    let If : Bool → Option ℕ = λ b. cond b (Some one.1) (told_of (cards ++ (letter, count) ∷ more) letter) in
+reported-there letter count more (one ∷ cards) none =
+    let If : Bool → Option ℕ = λ b. cond b (Some one.1) (reported_of (cards ++ (letter, count) ∷ more) letter) in
     elim (eqb_tells one.0 letter) [
       | inl h ↦ let no : Some one.1 ≡ None = sym (ap If h.0) ∙ none in absurd cc
-      | inr h ↦ told-there letter count more cards (sym (ap If h.0) ∙ none)
+      | inr h ↦ reported-there letter count more cards (sym (ap If h.0) ∙ none)
     ]
 
-are_cards-push : (letter count : ℕ) → Contains (codes "NPODL") letter → count ≤ 1000 → (cards : List (ℕ × ℕ)) → AreCards cards → told_of cards letter ≡ None
+are_cards-push : (letter count : ℕ) → Contains (codes "NPODL") letter → count ≤ 1000 → (cards : List (ℕ × ℕ)) → AreCards cards → reported_of cards letter ≡ None
     → AreCards (cards ++ (letter, count) ∷ [])
 are_cards-push letter count known few [] are none = (known, few, refl, tt)
 are_cards-push letter count known few (one ∷ cards) are none =
-    let If : Bool → Option ℕ = λ b. cond b (Some one.1) (told_of cards letter) in
+    let If : Bool → Option ℕ = λ b. cond b (Some one.1) (reported_of cards letter) in
     elim (eqb_tells one.0 letter) [
       | inl h ↦ let no : Some one.1 ≡ None = sym (ap If h.0) ∙ none in absurd cc
       | inr h ↦
-          (are.0, are.1, told-other letter count one.0 h.1 cards ∙ are.2, are_cards-push letter count known few cards are.3 (sym (ap If h.0) ∙ none))
+          (are.0, are.1, reported-other letter count one.0 h.1 cards ∙ are.2, are_cards-push letter count known few cards are.3 (sym (ap If h.0) ∙ none))
     ]
 
 -- each kind was told once at most
 apart : (letter count : ℕ) (more cards : List (ℕ × ℕ)) → AreCards (cards ++ (letter, count) ∷ more)
-    → Contains (codes "NPODL") letter × (count ≤ 1000) × (told_of cards letter ≡ None)
+    → Contains (codes "NPODL") letter × (count ≤ 1000) × (reported_of cards letter ≡ None)
 apart letter count more [] are = (are.0, are.1, refl)
 apart letter count more (one ∷ cards) are =
     let rest = apart letter count more cards are.3 in
-    let other : one.0 ≢ letter = λ e. told-there letter count more cards (subst (λ (l : ℕ). told_of (cards ++ (letter, count) ∷ more) l ≡ None) e are.2) in
-    (rest.0, rest.1, ap (λ (b : Bool). cond b (Some one.1) (told_of cards letter)) (ne_eqb one.0 letter other) ∙ rest.2)
+    let other : one.0 ≢ letter = λ e. reported-there letter count more cards (subst (λ (l : ℕ). reported_of (cards ++ (letter, count) ∷ more) l ≡ None) e are.2) in
+    (rest.0, rest.1, ap (λ (b : Bool). cond b (Some one.1) (reported_of cards letter)) (ne_eqb one.0 letter other) ∙ rest.2)
 
 -- ---- a text is that of one number of cards
 
@@ -85,42 +85,42 @@ begins (one ∷ cards) (other ∷ all) rest are are' e =
 
 -- ---- the five numbers
 
-counts-push : (cards : List (ℕ × ℕ)) (place count : ℕ) → place < 5 → told_of cards (slice_index (codes "NPODL") place) ≡ None
-    → map (told_of (cards ++ (slice_index (codes "NPODL") place, count) ∷ [])) (codes "NPODL") ≡ slice_set (map (told_of cards) (codes "NPODL")) place (Some count)
+counts-push : (cards : List (ℕ × ℕ)) (place count : ℕ) → place < 5 → reported_of cards (slice_index (codes "NPODL") place) ≡ None
+    → map (reported_of (cards ++ (slice_index (codes "NPODL") place, count) ∷ [])) (codes "NPODL") ≡ slice_set (map (reported_of cards) (codes "NPODL")) place (Some count)
 counts-push cards zero count here none =
-    let n = told-new 78 count cards none in
-    let p = told-other 78 count 80 (λ e. omega arith) cards in
-    let o = told-other 78 count 79 (λ e. omega arith) cards in
-    let d = told-other 78 count 68 (λ e. omega arith) cards in
-    let l = told-other 78 count 76 (λ e. omega arith) cards in
+    let n = reported-new 78 count cards none in
+    let p = reported-other 78 count 80 (λ e. omega arith) cards in
+    let o = reported-other 78 count 79 (λ e. omega arith) cards in
+    let d = reported-other 78 count 68 (λ e. omega arith) cards in
+    let l = reported-other 78 count 76 (λ e. omega arith) cards in
     cc
 counts-push cards (suc zero) count here none =
-    let n = told-other 80 count 78 (λ e. omega arith) cards in
-    let p = told-new 80 count cards none in
-    let o = told-other 80 count 79 (λ e. omega arith) cards in
-    let d = told-other 80 count 68 (λ e. omega arith) cards in
-    let l = told-other 80 count 76 (λ e. omega arith) cards in
+    let n = reported-other 80 count 78 (λ e. omega arith) cards in
+    let p = reported-new 80 count cards none in
+    let o = reported-other 80 count 79 (λ e. omega arith) cards in
+    let d = reported-other 80 count 68 (λ e. omega arith) cards in
+    let l = reported-other 80 count 76 (λ e. omega arith) cards in
     cc
 counts-push cards (suc (suc zero)) count here none =
-    let n = told-other 79 count 78 (λ e. omega arith) cards in
-    let p = told-other 79 count 80 (λ e. omega arith) cards in
-    let o = told-new 79 count cards none in
-    let d = told-other 79 count 68 (λ e. omega arith) cards in
-    let l = told-other 79 count 76 (λ e. omega arith) cards in
+    let n = reported-other 79 count 78 (λ e. omega arith) cards in
+    let p = reported-other 79 count 80 (λ e. omega arith) cards in
+    let o = reported-new 79 count cards none in
+    let d = reported-other 79 count 68 (λ e. omega arith) cards in
+    let l = reported-other 79 count 76 (λ e. omega arith) cards in
     cc
 counts-push cards (suc (suc (suc zero))) count here none =
-    let n = told-other 68 count 78 (λ e. omega arith) cards in
-    let p = told-other 68 count 80 (λ e. omega arith) cards in
-    let o = told-other 68 count 79 (λ e. omega arith) cards in
-    let d = told-new 68 count cards none in
-    let l = told-other 68 count 76 (λ e. omega arith) cards in
+    let n = reported-other 68 count 78 (λ e. omega arith) cards in
+    let p = reported-other 68 count 80 (λ e. omega arith) cards in
+    let o = reported-other 68 count 79 (λ e. omega arith) cards in
+    let d = reported-new 68 count cards none in
+    let l = reported-other 68 count 76 (λ e. omega arith) cards in
     cc
 counts-push cards (suc (suc (suc (suc zero)))) count here none =
-    let n = told-other 76 count 78 (λ e. omega arith) cards in
-    let p = told-other 76 count 80 (λ e. omega arith) cards in
-    let o = told-other 76 count 79 (λ e. omega arith) cards in
-    let d = told-other 76 count 68 (λ e. omega arith) cards in
-    let l = told-new 76 count cards none in
+    let n = reported-other 76 count 78 (λ e. omega arith) cards in
+    let p = reported-other 76 count 80 (λ e. omega arith) cards in
+    let o = reported-other 76 count 79 (λ e. omega arith) cards in
+    let d = reported-other 76 count 68 (λ e. omega arith) cards in
+    let l = reported-new 76 count cards none in
     cc
 counts-push cards (suc (suc (suc (suc (suc k))))) count here none = absurd (omega arith)
 
@@ -131,7 +131,7 @@ pub record Reads (word : List ℕ) (counts : List (Option ℕ)) (n : ℕ) : Type
   pub cards : List (ℕ × ℕ)
   pub texts : take n (slice_split (λ byte. eqb byte 44) word) ≡ map cards_text cards
   pub are_cards : AreCards cards
-  pub counts_are : counts ≡ map (told_of cards) (codes "NPODL")
+  pub counts_are : counts ≡ map (reported_of cards) (codes "NPODL")
 
 pub reads-none : (word : List ℕ) → Reads word (None ∷ None ∷ None ∷ None ∷ None ∷ []) 0
 reads-none word = record { cards = []; texts = refl; are_cards = tt; counts_are = refl }
@@ -153,7 +153,7 @@ module _ (word : List ℕ) (counts : List (Option ℕ)) (n : ℕ) (reads : Reads
         ∙ ap₂ (λ (xs ys : List (List ℕ)). xs ++ ys) reads.texts (drop_more (parts_of word) n part here ∙ ap (λ (x : List ℕ). x ∷ drop (n + 1) (parts_of word)) (sym is))
 
     of_more : (more : List (ℕ × ℕ)) → AreCards (reads.cards ++ more) → part ∷ drop (n + 1) (parts_of word) ≡ map cards_text more
-        → (letter : ℕ) × (count : ℕ) × (part ≡ cards_text (letter, count)) × Contains (codes "NPODL") letter × (count ≤ 1000) × (told_of reads.cards letter ≡ None)
+        → (letter : ℕ) × (count : ℕ) × (part ≡ cards_text (letter, count)) × Contains (codes "NPODL") letter × (count ≤ 1000) × (reported_of reads.cards letter ≡ None)
     of_more [] are e = absurd cc
     of_more (one ∷ more) are e =
         let known = apart one.0 one.1 more reads.cards are in
@@ -161,7 +161,7 @@ module _ (word : List ℕ) (counts : List (Option ℕ)) (n : ℕ) (reads : Reads
         (one.0, one.1, first, known.0, known.1, known.2)
 
     -- where the word is a mix's text, it tells a kind that was not told so far
-    next : (mix : Mix) → IsMixText word mix → (letter : ℕ) × (count : ℕ) × (part ≡ cards_text (letter, count)) × Contains (codes "NPODL") letter × (count ≤ 1000) × (told_of reads.cards letter ≡ None)
+    next : (mix : Mix) → IsMixText word mix → (letter : ℕ) × (count : ℕ) × (part ≡ cards_text (letter, count)) × Contains (codes "NPODL") letter × (count ≤ 1000) × (reported_of reads.cards letter ≡ None)
     next mix text =
         let more = begins reads.cards text.cards (part ∷ drop (n + 1) (parts_of word)) reads.are_cards text.are_cards (sym text.text ∙ parted) in
         of_more more.0 (subst AreCards more.1 text.are_cards) more.2
@@ -170,33 +170,33 @@ module _ (word : List ℕ) (counts : List (Option ℕ)) (n : ℕ) (reads : Reads
     pub fails_by_part : ((letter count : ℕ) → Contains (codes "NPODL") letter → count ≤ 1000 → part ≢ cards_text (letter, count)) → (mix : Mix) → IsMixText word mix → ⊥
     fails_by_part none mix text = let one = next mix text in none one.0 one.1 one.3 one.4 one.2
 
-    module _ (place count : ℕ) (low : place < 5) (few : count ≤ 1000) (tells : part ≡ cards_text (slice_index (codes "NPODL") place, count)) where
-      counted : slice_index_or counts place None ≡ told_of reads.cards (slice_index (codes "NPODL") place)
+    module _ (place count : ℕ) (low : place < 5) (few : count ≤ 1000) (reports : part ≡ cards_text (slice_index (codes "NPODL") place, count)) where
+      counted : slice_index_or counts place None ≡ reported_of reads.cards (slice_index (codes "NPODL") place)
       counted =
           ap (λ (l : List (Option ℕ)). slice_index_or l place None) reads.counts_are
-          ∙ get_or-map (told_of reads.cards) (codes "NPODL") place 0 None low
+          ∙ get_or-map (reported_of reads.cards) (codes "NPODL") place 0 None low
 
       -- nor where the part tells a kind once more
       pub fails_by_kind : is_some (slice_index_or counts place None) ≡ true → (mix : Mix) → IsMixText word mix → ⊥
       fails_by_kind there mix text =
           let one = next mix text in
-          let letters : one.0 ≡ slice_index (codes "NPODL") place = let e : cards_text (one.0, one.1) ≡ cards_text (slice_index (codes "NPODL") place, count) = sym one.2 ∙ tells in cc in
-          let none : slice_index_or counts place None ≡ None = counted ∙ ap (told_of reads.cards) (sym letters) ∙ one.5 in
+          let letters : one.0 ≡ slice_index (codes "NPODL") place = let e : cards_text (one.0, one.1) ≡ cards_text (slice_index (codes "NPODL") place, count) = sym one.2 ∙ reports in cc in
+          let none : slice_index_or counts place None ≡ None = counted ∙ ap (reported_of reads.cards) (sym letters) ∙ one.5 in
           let no : true ≡ false = sym there ∙ ap is_some none in
           absurd cc
 
-      none_told : (told : Option ℕ) → is_some told ≡ false → told ≡ None
-      none_told None e = refl
-      none_told (Some x) e = absurd cc
+      none_reported : (reported : Option ℕ) → is_some reported ≡ false → reported ≡ None
+      none_reported None e = refl
+      none_reported (Some x) e = absurd cc
 
       pub reads-more : is_some (slice_index_or counts place None) ≡ false → Reads word (slice_set counts place (Some count)) (n + 1)
       reads-more not_there =
           let letter = slice_index (codes "NPODL") place in
-          let none : told_of reads.cards letter ≡ None = sym counted ∙ none_told (slice_index_or counts place None) not_there in
+          let none : reported_of reads.cards letter ≡ None = sym counted ∙ none_reported (slice_index_or counts place None) not_there in
           record {
             cards = reads.cards ++ (letter, count) ∷ [];
             texts = take_more (parts_of word) n part here
-                ∙ ap₂ (λ (xs ys : List (List ℕ)). xs ++ ys) reads.texts (ap (λ (x : List ℕ). x ∷ []) (sym is ∙ tells))
+                ∙ ap₂ (λ (xs ys : List (List ℕ)). xs ++ ys) reads.texts (ap (λ (x : List ℕ). x ∷ []) (sym is ∙ reports))
                 ∙ sym (map-append cards_text reads.cards ((letter, count) ∷ []));
             are_cards = are_cards-push letter count (place, low, get_or-map (λ (x : ℕ). x) (codes "NPODL") place 0 letter low) few reads.cards reads.are_cards none;
             counts_are = ap (λ (l : List (Option ℕ)). slice_set l place (Some count)) reads.counts_are ∙ sym (counts-push reads.cards place count low none);
@@ -213,7 +213,7 @@ module _ (word : List ℕ) (counts : List (Option ℕ)) (n : ℕ) (reads : Reads
         → mix.order_statuses ≡ unwrap_or (slice_index_or counts 2 None) 0 → mix.deliveries ≡ unwrap_or (slice_index_or counts 3 None) 0
         → mix.stock_levels ≡ unwrap_or (slice_index_or counts 4 None) 0 → IsMixText word mix
     is_text mix orders payments statuses deliveries levels =
-        let at : (place : ℕ) → unwrap_or (slice_index_or counts place None) 0 ≡ unwrap_or (slice_index_or (map (told_of reads.cards) (codes "NPODL")) place None) 0 =
+        let at : (place : ℕ) → unwrap_or (slice_index_or counts place None) 0 ≡ unwrap_or (slice_index_or (map (reported_of reads.cards) (codes "NPODL")) place None) 0 =
         λ place. ap (λ (l : List (Option ℕ)). unwrap_or (slice_index_or l place None) 0) reads.counts_are in
         record {
           cards = reads.cards;
@@ -240,8 +240,8 @@ module _ (word : List ℕ) (counts : List (Option ℕ)) (n : ℕ) (reads : Reads
     same_numbers mix text =
         let more = begins reads.cards text.cards [] reads.are_cards text.are_cards (sym text.text ∙ all_read ∙ sym (append-nil (map cards_text reads.cards))) in
         let same : text.cards ≡ reads.cards = more.1 ∙ ap (λ (l : List (ℕ × ℕ)). reads.cards ++ l) (nothing more.0 more.2) ∙ append-nil reads.cards in
-        let of : (letter : ℕ) → told_of text.cards letter ≡ told_of reads.cards letter = λ letter. ap (λ (l : List (ℕ × ℕ)). told_of l letter) same in
-        let at : (place : ℕ) → slice_index_or (map (told_of reads.cards) (codes "NPODL")) place None ≡ slice_index_or counts place None =
+        let of : (letter : ℕ) → reported_of text.cards letter ≡ reported_of reads.cards letter = λ letter. ap (λ (l : List (ℕ × ℕ)). reported_of l letter) same in
+        let at : (place : ℕ) → slice_index_or (map (reported_of reads.cards) (codes "NPODL")) place None ≡ slice_index_or counts place None =
         λ place. ap (λ (l : List (Option ℕ)). slice_index_or l place None) (sym reads.counts_are) in (
           text.new_orders ∙ ap (λ (o : Option ℕ). unwrap_or o 0) (of 78 ∙ at 0),
           text.payments ∙ ap (λ (o : Option ℕ). unwrap_or o 0) (of 80 ∙ at 1),

@@ -29,7 +29,7 @@ fails_by c words result is kinds =
     let Fails : App → Type 0 = λ a. FailsBy (fault_of a words) result in
     subst Fails is.app (kinds (ap is_simple_and_free is.app ∙ program_is_free))
 
--- a kind that is not want of memory is among those that are told
+-- a kind that is not lack of memory is among those that are told
 pub among : (kinds : List ErrorKind) (e : Error) (kind : ErrorKind) → HasKind kinds e → kind_of e ≡ kind → (kind ≡ OutOfMemory → ⊥) → IsAmong kind kinds
 among kinds e kind has is other =
     elim has [

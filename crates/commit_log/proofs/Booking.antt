@@ -5,8 +5,8 @@ use mathlib.Core.Option.{some}
 use lib.ListN.{get_elem?}
 use Rattle.atomic_table.proofs.Lists.{at_set, at_index}
 use Rattle.atomic_table.specs.Seated.{TableId}
-use Rattle.agreement.specs.Telling.{Telling}
-use Rattle.length_word.specs.Reaching.{Reaching, reaching}
+use Rattle.agreement.specs.SeatView.{SeatView}
+use Rattle.length_word.specs.LengthView.{LengthView, length_view}
 use Rattle.commit_log.specs.declared.entry.Entry.{Entry}
 use Rattle.commit_log.specs.declared.mine.Item.{Item}
 use Rattle.commit_log.specs.declared.mine.Mine.{Mine}
@@ -41,31 +41,31 @@ items_of-other session entries entry apart =
     ∙ ap (λ (b : Bool). before ++ (if b then item (0 + length entries) entry.number entry.request entry.reply ∷ [] else [])) (ne_eqb session entry.session apart)
     ∙ append-nil before
 
-pub book_more : (length_table : TableId) (mine_tables : ℕ → TableId) (entries : List Entry) (word : Reaching) (seats : List (Telling Mine)) → IsBookOf length_table mine_tables entries word seats
-    → (entry : Entry) (seat : Telling Mine) (longer : Reaching)
+pub book_more : (length_table : TableId) (mine_tables : ℕ → TableId) (entries : List Entry) (word : LengthView) (seats : List (SeatView Mine)) → IsBookOf length_table mine_tables entries word seats
+    → (entry : Entry) (seat : SeatView Mine) (longer : LengthView)
     → entry.session < 64
     → length entries < 16777216
-    → longer ≡ reaching length_table (length entries + 1)
+    → longer ≡ length_view length_table (length entries + 1)
     → seat ≡ seat_at (mine_tables entry.session) (mine_of (items_of entry.session entries ++ item (length entries) entry.number entry.request entry.reply ∷ []))
     → IsBookOf length_table mine_tables (entries ++ entry ∷ []) longer (set seats entry.session seat)
-book_more length_table mine_tables entries word seats book entry seat longer small room grown told =
+book_more length_table mine_tables entries word seats book entry seat longer small room grown recorded =
     let long = length-append entries (entry ∷ []) in record {
-      told_length = grown ∙ ap (reaching length_table) (omega arith);
+      recorded_length = grown ∙ ap (length_view length_table) (omega arith);
       most = omega arith;
       sessions = All-append (λ (e : Entry). e.session < 64) entries (entry ∷ []) book.sessions (All-cons (λ (e : Entry). e.session < 64) entry [] small (All-nil (λ (e : Entry). e.session < 64)));
       seat_each = length-set seats entry.session seat ∙ book.seat_each;
-      each_tells = λ session other at.
+      each_records = λ session other at.
           ⊎_elim
           (λ (x : (session ≡ entry.session) × (seat ≡ other)).
-          sym x.1 ∙ told
+          sym x.1 ∙ recorded
           ∙ ap (λ items. seat_at (mine_tables entry.session) (mine_of items)) (sym (items_of-own entries entry))
           ∙ ap (λ s. seat_at (mine_tables s) (mine_of (items_of s (entries ++ entry ∷ [])))) (sym x.0))
           (λ (x : (session ≢ entry.session) × (get_elem? seats session ≡ some other)).
-          book.each_tells session other x.1 ∙ ap (λ items. seat_at (mine_tables session) (mine_of items)) (sym (items_of-other session entries entry x.0)))
+          book.each_records session other x.1 ∙ ap (λ items. seat_at (mine_tables session) (mine_of items)) (sym (items_of-other session entries entry x.0)))
           (at_set seats entry.session session seat other at);
     }
 
 -- what the log's seat of a session tells
-pub told : (length_table : TableId) (mine_tables : ℕ → TableId) (entries : List Entry) (word : Reaching) (seats : List (Telling Mine)) → IsBookOf length_table mine_tables entries word seats
-    → (session : ℕ) (seat : Telling Mine) → session < 64 → seat ≡ get_or seats session seat → seat ≡ seat_at (mine_tables session) (mine_of (items_of session entries))
-told length_table mine_tables entries word seats book session seat small at = let many = book.seat_each in book.each_tells session seat (at_index seats session seat (omega arith) at)
+pub recorded : (length_table : TableId) (mine_tables : ℕ → TableId) (entries : List Entry) (word : LengthView) (seats : List (SeatView Mine)) → IsBookOf length_table mine_tables entries word seats
+    → (session : ℕ) (seat : SeatView Mine) → session < 64 → seat ≡ get_or seats session seat → seat ≡ seat_at (mine_tables session) (mine_of (items_of session entries))
+recorded length_table mine_tables entries word seats book session seat small at = let many = book.seat_each in book.each_records session seat (at_index seats session seat (omega arith) at)

@@ -8,9 +8,9 @@ use Rattle.requests.specs.declared.reply.Reply.TheVariants.{Done, RolledBack}
 use Rattle.requests.specs.Check.{IsAccepted}
 use Rattle.groups.specs.Content.{Content, content}
 use Rattle.machine.specs.Machine.{transaction, replies, tables_after}
-use Rattle.tickets.specs.Claims.{Claiming}
-use Rattle.tickets.specs.Committed.{Tells, after_claims, all_settled}
-use Rattle.tickets.specs.LogSeats.{Committed, SeatsTell, after_all}
+use Rattle.tickets.specs.Claims.{ClaimView}
+use Rattle.tickets.specs.Committed.{Records, after_claims, all_settled}
+use Rattle.tickets.specs.LogSeats.{CommittedGroup, SeatsRecord, after_all}
 use Rattle.commit_log.specs.declared.entry.Entry.{Entry}
 use Rattle.commit_log.specs.Log.{requests_of, replies_of}
 
@@ -18,17 +18,17 @@ use Rattle.commit_log.specs.Log.{requests_of, replies_of}
 
 -- what is committed once a transaction with this reply is logged: a rolled back one changes nothing, and another leaves
 -- in each group what its exclusive claim left there
-abbrev pub contents_logged : Reply → (Group → Content) → List Claiming → Group → Content
+abbrev pub contents_logged : Reply → (Group → Content) → List ClaimView → Group → Content
 contents_logged (Done shown) contents claims = after_claims contents claims
 contents_logged (RolledBack fault) contents claims = contents
 
 -- its claims then: those of a transaction that was not rolled back tell what they left
-abbrev pub claims_logged : Reply → List Claiming → List Claiming
+abbrev pub claims_logged : Reply → List ClaimView → List ClaimView
 claims_logged (Done shown) claims = all_settled claims
 claims_logged (RolledBack fault) claims = claims
 
 -- the seats of the log then
-abbrev pub seats_logged : Reply → List Claiming → List Committed → List Committed
+abbrev pub seats_logged : Reply → List ClaimView → List CommittedGroup → List CommittedGroup
 seats_logged (Done shown) claims seats = map (after_all claims) seats
 seats_logged (RolledBack fault) claims seats = seats
 
@@ -37,9 +37,9 @@ seats_logged (RolledBack fault) claims seats = seats
 -- From every tables with these items and of this scale that the claims tell, the machine gives the reply to the request,
 -- and leaves what the claims leave: in the group of each exclusive claim what it left, and in every other group what was
 -- there.
-abbrev pub IsCarriedOut : Database → Request → List Claiming → Reply → Type 0
+abbrev pub IsCarriedOut : Database → Request → List ClaimView → Reply → Type 0
 IsCarriedOut opening request claims reply =
-    (t : Database) → t.scale ≡ opening.scale → t.items ≡ opening.items → Tells (content t) claims
+    (t : Database) → t.scale ≡ opening.scale → t.items ≡ opening.items → Records (content t) claims
     → ((transaction t request).reply ≡ reply)
     × ((group : Group) → content (transaction t request).tables group ≡ contents_logged reply (content t) claims group)
 
@@ -47,7 +47,7 @@ IsCarriedOut opening request claims reply =
 
 -- Every request is one that its check accepts, the replies are those of a machine that carries the requests out one at a
 -- time, in log order, from the opening, and the seats tell what the groups of its last tables have.
-pub record IsKept (opening : Database) (entries : List Entry) (seats : List Committed) : Type 0 where
+pub record IsKept (opening : Database) (entries : List Entry) (seats : List CommittedGroup) : Type 0 where
   pub accepted : All (λ (entry : Entry). IsAccepted opening.scale entry.request) entries
   pub replied : replies_of entries ≡ replies opening (requests_of entries)
-  pub committed : SeatsTell (content (tables_after opening (requests_of entries))) seats
+  pub committed : SeatsRecord (content (tables_after opening (requests_of entries))) seats

@@ -3,36 +3,36 @@ use Rattle.std.specs.Prelude.{◌≡◌, ℕ, ◌<◌, ◌≤◌, List, length, 
 use mathlib.Core.Option.{some}
 use lib.ListN.{get_elem?}
 use Rattle.atomic_table.specs.Seated.{TableId}
-use Rattle.agreement.specs.Telling.{Telling, telling}
-use Rattle.length_word.specs.Reaching.{Reaching, reaching}
+use Rattle.agreement.specs.SeatView.{SeatView, seat_view}
+use Rattle.length_word.specs.LengthView.{LengthView, length_view}
 use Rattle.commit_log.specs.declared.asking.Asking.{Asking}
 use Rattle.commit_log.specs.declared.entry.Entry.{Entry}
 use Rattle.commit_log.specs.declared.mine.Mine.{Mine}
 use Rattle.commit_log.specs.Items.{items_of, mine_of}
 
 -- one of the two seats of the agreement at this table, which tells this
-abbrev pub seat_at : {V : Type 0} → TableId → V → Telling V
-seat_at table value = telling (record { table = table; count = 2 }) value 1
+abbrev pub seat_at : {V : Type 0} → TableId → V → SeatView V
+seat_at table value = seat_view (record { table = table; count = 2 }) value 1
 
 -- the two seats of an agreement on this
-abbrev pub IsPair : {V : Type 0} → V → Telling V → Telling V → Type 0
+abbrev pub IsPair : {V : Type 0} → V → SeatView V → SeatView V → Type 0
 IsPair value one other = (one ≡ seat_at one.agreement.table value) × (other ≡ one)
 
 -- each session's seat tells what the session has logged
-abbrev pub EachTells : (ℕ → TableId) → List Entry → List (Telling Mine) → Type 0
-EachTells tables entries seats =
-    (session : ℕ) (seat : Telling Mine) → get_elem? seats session ≡ some seat → seat ≡ seat_at (tables session) (mine_of (items_of session entries))
+abbrev pub EachRecords : (ℕ → TableId) → List Entry → List (SeatView Mine) → Type 0
+EachRecords tables entries seats =
+    (session : ℕ) (seat : SeatView Mine) → get_elem? seats session ≡ some seat → seat ≡ seat_at (tables session) (mine_of (items_of session entries))
 
 -- a book of these entries, with this length and these seats of the sessions
-pub record IsBookOf (length_table : TableId) (mine_tables : ℕ → TableId) (entries : List Entry) (word : Reaching) (seats : List (Telling Mine)) : Type 0 where
-  pub told_length : word ≡ reaching length_table (length entries)
+pub record IsBookOf (length_table : TableId) (mine_tables : ℕ → TableId) (entries : List Entry) (word : LengthView) (seats : List (SeatView Mine)) : Type 0 where
+  pub recorded_length : word ≡ length_view length_table (length entries)
   pub most : length entries ≤ 16777216
   pub sessions : All (λ entry. entry.session < 64) entries
   pub seat_each : length seats ≡ 64
-  pub each_tells : EachTells mine_tables entries seats
+  pub each_records : EachRecords mine_tables entries seats
 
 -- a pass of this session, which has seen so many entries, with this mark and these seats
-pub record IsPassOf (length_table mine_table asks_table : TableId) (session seen : ℕ) (mark : Reaching) (mine : Telling Mine) (asks : Telling Asking) : Type 0 where
+pub record IsPassOf (length_table mine_table asks_table : TableId) (session seen : ℕ) (mark : LengthView) (mine : SeatView Mine) (asks : SeatView Asking) : Type 0 where
   pub some_session : session < 64
   pub marked : seen ≤ mark.entries
   pub mark_of_log : mark.table ≡ length_table
@@ -40,6 +40,6 @@ pub record IsPassOf (length_table mine_table asks_table : TableId) (session seen
   pub asks_of_session : asks ≡ seat_at asks_table asks.value
 
 -- a seat of this session on what it asks
-pub record IsSeatOf (asks_table : TableId) (session : ℕ) (asks : Telling Asking) : Type 0 where
+pub record IsSeatOf (asks_table : TableId) (session : ℕ) (asks : SeatView Asking) : Type 0 where
   pub some_session : session < 64
   pub asks_of_session : asks ≡ seat_at asks_table asks.value

@@ -1,8 +1,8 @@
 -- The seats of a new log.
 use Rattle.std.specs.Prelude.{◌≡◌, ℕ, List, [], length, map, All}
 use Rattle.atomic_table.specs.Seated.{TableId}
-use Rattle.agreement.specs.Telling.{Telling}
-use Rattle.length_word.specs.Reaching.{Reaching, reaching}
+use Rattle.agreement.specs.SeatView.{SeatView}
+use Rattle.length_word.specs.LengthView.{LengthView, length_view}
 use Rattle.commit_log.specs.declared.unnamed_log.Lane.{Lane}
 use Rattle.commit_log.specs.declared.mine.Mine.{Mine}
 use Rattle.commit_log.specs.Asks.{nothing_asked}
@@ -19,12 +19,12 @@ abbrev pub asks_table : Lane → TableId
 asks_table lane = lane.asks.agreement.table
 
 -- the tables of a length and of these sessions
-abbrev pub tables_of : Reaching → List Lane → LogTables
+abbrev pub tables_of : LengthView → List Lane → LogTables
 tables_of word lanes = record { length = word.table; mine = map mine_table lanes; asks = map asks_table lanes }
 
 -- what a session has at these tables that has seen, logged and asked nothing
 pub record IsLaneOf (length_table mine_table asks_table : TableId) (lane : Lane) : Type 0 where
-  pub mark : lane.mark ≡ reaching length_table 0
+  pub mark : lane.mark ≡ length_view length_table 0
   pub mine : lane.mine ≡ seat_at mine_table (mine_of [])
   pub asks : lane.asks ≡ seat_at asks_table nothing_asked
   pub asked : lane.asked ≡ seat_at asks_table nothing_asked
@@ -34,7 +34,7 @@ abbrev pub IsNewLane : TableId → Lane → Type 0
 IsNewLane length_table lane = IsLaneOf length_table (mine_table lane) (asks_table lane) lane
 
 -- what this many sessions have, with the length of an empty log, and its seats
-pub record AreLanes (sessions : ℕ) (word : Reaching) (seats : List (Telling Mine)) (lanes : List Lane) : Type 0 where
+pub record AreLanes (sessions : ℕ) (word : LengthView) (seats : List (SeatView Mine)) (lanes : List Lane) : Type 0 where
   pub empty : word.entries ≡ 0
   pub many : length lanes ≡ sessions
   pub seats_of_log : seats ≡ map (λ lane. lane.mine) lanes

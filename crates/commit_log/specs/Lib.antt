@@ -1,11 +1,11 @@
 pub mod NoTables
-pub mod Booked
+pub mod LogBookView
 pub mod Log
 pub mod Replay
 pub mod Claimed
 pub mod Items
 pub mod Asks
-pub mod Passing
+pub mod PassView
 pub mod LogTables
 pub mod Kept
 pub mod Lanes

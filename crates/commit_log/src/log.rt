@@ -3,12 +3,12 @@ ghost use Rattle.requests.specs.Check.{IsAccepted};
 ghost use Rattle.groups.specs.Content.{content};
 ghost use Rattle.machine.specs.Machine.{replies, tables_after};
 ghost use Rattle.tickets.specs.Claims.{all_claims};
-ghost use Rattle.tickets.specs.Committed.{Tells};
-ghost use Rattle.tickets.specs.LogSeats.{IsToldIn, SeatsTell};
+ghost use Rattle.tickets.specs.Committed.{Records};
+ghost use Rattle.tickets.specs.LogSeats.{IsRecordedIn, SeatsRecord};
 ghost use Rattle.commit_log.specs.Claimed.{claims_logged, seats_logged, IsCarriedOut};
 ghost use Rattle.commit_log.specs.Items.{item, items_of};
 ghost use Rattle.commit_log.specs.Log.{replies_of, requests_of};
-ghost use Rattle.commit_log.specs.Passing.{after_item, after_refusal};
+ghost use Rattle.commit_log.specs.PassView.{after_item, after_refusal};
 
 use crate::{AppendFault, Entry, LogBook, MOST_ENTRIES, Names, Pass};
 use requests::Reply;
@@ -44,7 +44,7 @@ impl<J: Names> Log<J> {
     /// A log without entries, whose seats tell what the groups have in the tables of its opening.
     pub fn new(book: LogBook<J>, seats: LogSeats<J>) -> Log<J>
         requires empty { book.entries ≡ [] }
-        requires opening { SeatsTell (content J.opening) seats }
+        requires opening { SeatsRecord (content J.opening) seats }
         ensures { result ≡ [] }
     {
         Log { book, seats }
@@ -130,7 +130,7 @@ impl<J: Names> Log<J> {
     /// Learns that claims, those of each action together, tell what the tables have that the log's
     /// transactions have left. Both stay as they were.
     pub fn look(&mut self, claims: &mut [Claims<J>])
-        ensures told { Tells (content (tables_after J.opening (requests_of self.old))) (all_claims claims.old) }
+        ensures recorded { Records (content (tables_after J.opening (requests_of self.old))) (all_claims claims.old) }
         ensures same { (self.new ≡ self.old) × (claims.new ≡ claims.old) }
     {
         self.seats.look_each(claims);
@@ -140,7 +140,7 @@ impl<J: Names> Log<J> {
 // Learns that the claims tell what is committed, and commits what they left, unless the transaction was
 // rolled back.
 fn commit<J: Names>(seats: &mut LogSeats<J>, held: &mut [Claims<J>], reply: &Reply)
-    ensures told { All (IsToldIn seats.old) (all_claims held.old) }
+    ensures recorded { All (IsRecordedIn seats.old) (all_claims held.old) }
     ensures seats { seats.new ≡ seats_logged reply.now (all_claims held.old) seats.old }
     ensures claims { held.new ≡ map (claims_logged reply.now) held.old }
 {

@@ -1,11 +1,11 @@
 ghost use Rattle.std.specs.Prelude.{◌≡◌, ◌+◌, ◌-◌, ◌^◌, ◌<◌, ◌≤◌, ◌↔◌, ℕ, [], ◌∷◌, ◌++◌, length, All, Some, IfOk, OnOk, IfErr, slice_get, vec_len};
-ghost use Rattle.length_word.specs.Reaching.{reaching};
+ghost use Rattle.length_word.specs.LengthView.{length_view};
 ghost use Rattle.commit_log.specs.Items.{entry_of, item, items_of};
-ghost use Rattle.commit_log.specs.Passing.{new_pass, new_seat, after_item, after_refusal};
+ghost use Rattle.commit_log.specs.PassView.{new_pass, new_seat, after_item, after_refusal};
 ghost use Rattle.commit_log.specs.LogTables.{table_of};
-ghost use Rattle.commit_log.specs.Booked.{booked};
+ghost use Rattle.commit_log.specs.LogBookView.{log_book_view};
 
-use crate::mine::{Logs, tell};
+use crate::mine::{Logs, note};
 use crate::{Entry, LogNames, Mine, Pass, SessionSeat, UnnamedLog};
 use agreement::Seat;
 use length_word::{Length, Mark};
@@ -40,14 +40,14 @@ impl<J: LogNames> Model for LogBook<J> {
     ghost use Rattle.std.specs.Prelude.{◌-◌, vec_len, vec_capacity, refl};
     ghost use Rattle.std.specs.Coded.{code_by, coded×, coded_list, coded_ℕ};
     ghost use Rattle.commit_log.specs.contracts.entry.Entry as entry;
-    ghost use Rattle.commit_log.specs.Booked.{Booked, booked};
+    ghost use Rattle.commit_log.specs.LogBookView.{LogBookView, log_book_view};
     ghost use Rattle.commit_log.specs.Kept.{IsBookOf};
 
-    ghost Value = { Booked };
+    ghost Value = { LogBookView };
 
     ghost coded = { code_by _ (coded× (coded_list entry.the_row.coded) coded_ℕ) (λ b. (b.entries, b.spare)) (λ p. record { entries = p.0; spare = p.1 }) (λ _. refl) };
 
-    ghost view = { λ b. booked b.entries.items (vec_capacity b.entries - vec_len b.entries) };
+    ghost view = { λ b. log_book_view b.entries.items (vec_capacity b.entries - vec_len b.entries) };
 
     ghost invariant = { λ b. IsBookOf J.length J.mine b.entries.items b.length b.mine.items };
 }
@@ -155,7 +155,7 @@ impl<J: LogNames> LogBook<J> {
         requires spare { 0 < self.old.spare }
         requires number { pass.old.asks.number ≡ number }
         requires request { pass.old.asks.request ≡ request }
-        ensures book { self.new ≡ booked
+        ensures book { self.new ≡ log_book_view
             (self.old.entries ++ entry_of pass.old.session number request reply ∷ []) (self.old.spare - 1) }
         ensures later { pass.old.seen ≤ length self.old.entries }
         ensures further { pass.old.reached ≤ length self.old.entries }
@@ -170,7 +170,7 @@ impl<J: LogNames> LogBook<J> {
             request: &request,
             reply: &reply,
         };
-        tell(&mut self.mine[pass.session as usize], &mut pass.mine, &logs);
+        note(&mut self.mine[pass.session as usize], &mut pass.mine, &logs);
         self.entries.push_reserved(Entry {
             session: pass.session,
             number,
@@ -197,7 +197,7 @@ fn reach_one_more(length: &mut Length, mark: &mut Mark)
     requires table { mark.old.table ≡ length.old.table }
     requires room { length.old.entries + 1 < 2 ^ 32 }
     ensures below { mark.old.entries ≤ length.old.entries }
-    ensures length { length.new ≡ reaching length.old.table (length.old.entries + 1) }
+    ensures length { length.new ≡ length_view length.old.table (length.old.entries + 1) }
     ensures mark { mark.new ≡ length.new }
 {
     length.check(mark);

@@ -44,7 +44,7 @@ impl Change<Mine> for Logs<'_> {
 }
 
 /// The log's seat of a session and its pass's seat tell one item more.
-pub(crate) fn tell(log: &mut Seat<Mine>, pass: &mut Seat<Mine>, logs: &Logs<'_>)
+pub(crate) fn note(log: &mut Seat<Mine>, pass: &mut Seat<Mine>, logs: &Logs<'_>)
     requires log { log.old ≡ seat_at log.old.agreement.table log.old.value }
     requires pass { pass.old ≡ seat_at log.old.agreement.table pass.old.value }
     ensures equal { pass.old ≡ log.old }

@@ -1,5 +1,5 @@
 ghost use Rattle.std.specs.Prelude.{◌≡◌};
-ghost use Rattle.commit_log.specs.Passing.{having_met};
+ghost use Rattle.commit_log.specs.PassView.{having_met};
 
 use crate::{Asking, LogNames, Mine};
 use agreement::Seat;
@@ -22,12 +22,12 @@ pub struct Pass<J: LogNames> {
 }
 
 impl<J: LogNames> Model for Pass<J> {
-    ghost use Rattle.commit_log.specs.Passing.{Passing, passing};
+    ghost use Rattle.commit_log.specs.PassView.{PassView, pass_view};
     ghost use Rattle.commit_log.specs.Kept.{IsPassOf};
 
-    ghost Value = { Passing };
+    ghost Value = { PassView };
 
-    ghost view = { λ p. passing p.session p.seen p.mark.entries p.mine.value.items p.asks.value };
+    ghost view = { λ p. pass_view p.session p.seen p.mark.entries p.mine.value.items p.asks.value };
 
     ghost invariant = { λ p. IsPassOf J.length (J.mine p.session) (J.asks p.session) p.session p.seen p.mark p.mine p.asks };
 }

@@ -9,7 +9,7 @@ use schema::{NoMemory, Tables};
 use std::alloc::Global;
 
 /// Carries out the entries' requests one at a time, in log order, from the opening tables, and compares
-/// the replies. After want of memory nothing is given.
+/// the replies. After lack of memory nothing is given.
 pub fn replay(alloc: Global, opening: Tables, entries: &[Entry]) -> Result<Replay, NoMemory>
     ensures { IfOk result (IsReplayOf opening entries.now) }
 {

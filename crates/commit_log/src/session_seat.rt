@@ -1,6 +1,6 @@
 ghost use Rattle.std.specs.Prelude.{◌≡◌};
 ghost use Rattle.commit_log.specs.Asks.{asking};
-ghost use Rattle.commit_log.specs.Passing.{with_asks, seating};
+ghost use Rattle.commit_log.specs.PassView.{with_asks, session_seat_view};
 
 use crate::asking::Asks;
 use crate::{Asking, LogNames, Pass};
@@ -18,12 +18,12 @@ pub struct SessionSeat<J: LogNames> {
 }
 
 impl<J: LogNames> Model for SessionSeat<J> {
-    ghost use Rattle.commit_log.specs.Passing.{Seating, seating};
+    ghost use Rattle.commit_log.specs.PassView.{SessionSeatView, session_seat_view};
     ghost use Rattle.commit_log.specs.Kept.{IsSeatOf};
 
-    ghost Value = { Seating };
+    ghost Value = { SessionSeatView };
 
-    ghost view = { λ s. seating s.session s.asks.value };
+    ghost view = { λ s. session_seat_view s.session s.asks.value };
 
     ghost invariant = { λ s. IsSeatOf (J.asks s.session) s.session s.asks };
 }
@@ -40,7 +40,7 @@ impl<J: LogNames> SessionSeat<J> {
     /// the pass has seen and logged by now.
     pub fn ask(&mut self, pass: &mut Pass<J>, number: u32, request: &Request)
         requires { pass.old.session ≡ self.old.session }
-        ensures seat { self.new ≡ seating self.old.session (asking number request.now pass.old.seen pass.old.mine) }
+        ensures seat { self.new ≡ session_seat_view self.old.session (asking number request.now pass.old.seen pass.old.mine) }
         ensures pass { pass.new ≡ with_asks pass.old (asking number request.now pass.old.seen pass.old.mine) }
     {
         let asks = Asks {

@@ -1,17 +1,17 @@
 -- The first condition that tables break, from what is told of each.
 use Rattle.std.proofs.Common.{◌≡◌, ◌≢◌, ◌⊎◌, inl, inr, ℕ, zero, suc, ◌+◌, ◌-◌, ◌<◌, ◌↔◌, Bool, true, false, IsTrue, List, [], ◌∷◌, length, get_or, refl, sym, ap, subst, ◌∙◌, arith}
 use Rattle.schema.specs.Database.{Database}
-use Rattle.consistency.specs.Conditions.{conditions, Tell, AreExact}
+use Rattle.consistency.specs.Conditions.{conditions, Report, AreExact}
 use Rattle.schema.specs.Consistency.{Consistent}
 use Rattle.consistency.specs.Broken.{HoldsAmong, Meets, IsAskedFor, BreaksFirst}
 
 -- what is told of the condition at a place
-told : (all : List (Database → Type 0)) (t : Database) (answers : List Bool) (k : ℕ) (d : Bool) → Tell all t answers → k < length answers → IsTrue (get_or answers k d) ↔ HoldsAmong all k t
-told [] t [] k d h low = absurd (omega arith)
-told [] t (a ∷ answers) k d h low = absurd h
-told (c ∷ all) t [] k d h low = absurd h
-told (c ∷ all) t (a ∷ answers) zero d h low = h.0
-told (c ∷ all) t (a ∷ answers) (suc k) d h low = told all t answers k d h.1 (omega arith)
+reported : (all : List (Database → Type 0)) (t : Database) (answers : List Bool) (k : ℕ) (d : Bool) → Report all t answers → k < length answers → IsTrue (get_or answers k d) ↔ HoldsAmong all k t
+reported [] t [] k d h low = absurd (omega arith)
+reported [] t (a ∷ answers) k d h low = absurd h
+reported (c ∷ all) t [] k d h low = absurd h
+reported (c ∷ all) t (a ∷ answers) zero d h low = h.0
+reported (c ∷ all) t (a ∷ answers) (suc k) d h low = reported all t answers k d h.1 (omega arith)
 
 -- the conditions at these first places hold, but for the one that is not asked for
 abbrev pub HoldBelow : Database → ℕ → Type 0
@@ -29,7 +29,7 @@ one_place_more t answers place exact low found below k up other =
     (λ less. below k less other)
     (λ is. elim found as (λ _. HoldsAmong conditions k t) [
       | inl passed ↦ let not : ⊥ = other (is ∙ passed.1) in absurd not
-      | inr holds ↦ subst (λ n. HoldsAmong conditions n t) (sym is) ((told conditions t answers place false exact low).0 holds)
+      | inr holds ↦ subst (λ n. HoldsAmong conditions n t) (sym is) ((reported conditions t answers place false exact low).0 holds)
     ])
   where
     by_last : (n m : ℕ) (G : Type 0) → m < n + 1 → (m < n → G) → (m ≡ n → G) → G
@@ -69,7 +69,7 @@ first_broken_at t answers place exact low some broken asked below = (
     (λ meets.
         let at : place + 1 - 1 ≡ place = omega arith in
         let holds : HoldsAmong conditions place t = subst (λ k. HoldsAmong conditions k t) at meets in
-        let so : get_or answers place false ≡ true = (told conditions t answers place false exact low).1 holds in
+        let so : get_or answers place false ≡ true = (reported conditions t answers place false exact low).1 holds in
         absurd cc),
     λ m lower asked. met_below t place below m lower asked,
   ),
@@ -78,7 +78,7 @@ first_broken_at t answers place exact low some broken asked below = (
 pub twelve : (t : Database) (answers : List Bool) → AreExact t answers → length answers ≡ 12
 twelve t answers exact = as_many conditions t answers exact
   where
-    as_many : (all : List (Database → Type 0)) (u : Database) (bs : List Bool) → Tell all u bs → length bs ≡ length all
+    as_many : (all : List (Database → Type 0)) (u : Database) (bs : List Bool) → Report all u bs → length bs ≡ length all
     as_many [] u [] h = refl
     as_many [] u (b ∷ bs) h = absurd h
     as_many (c ∷ all) u [] h = absurd h

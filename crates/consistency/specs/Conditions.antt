@@ -11,11 +11,11 @@ conditions =
     ∷ DistrictsSumPayments ∷ BalancesAreOwed ∷ OrdersAreFresh ∷ BalancesArePaid ∷ []
 
 -- each answer is true exactly where its condition holds, and there is one for each condition
-abbrev pub Tell : List (Database → Type 0) → Database → List Bool → Type 0
-Tell [] t [] = Unit
-Tell (condition ∷ others) t (answer ∷ answers) = (IsTrue answer ↔ condition t) × Tell others t answers
-Tell _ t _ = ⊥
+abbrev pub Report : List (Database → Type 0) → Database → List Bool → Type 0
+Report [] t [] = Unit
+Report (condition ∷ others) t (answer ∷ answers) = (IsTrue answer ↔ condition t) × Report others t answers
+Report _ t _ = ⊥
 
 -- there is an answer for each of the twelve conditions, true exactly where it holds
 abbrev pub AreExact : Database → List Bool → Type 0
-AreExact t answers = Tell conditions t answers
+AreExact t answers = Report conditions t answers

@@ -11,7 +11,7 @@ use Rattle.rows.specs.Text.{IsText, is_printable_byte}
 use Rattle.files.specs.declared.fault.FaultKind.{FaultKind}
 use Rattle.files.specs.Columns.{Column, Whole, Words as Texts, Cents, Moment, Credit, MaybeWhole, MaybeMoment, Count, Spelt}
 use Rattle.rows.specs.declared.records.Credit.TheVariants.{Good}
-use Rattle.files.specs.FieldRead.{Taking, is_negative, is_within, value_or, whole_read}
+use Rattle.files.specs.FieldRead.{FieldsView, is_negative, is_within, value_or, whole_read}
 use Rattle.files.specs.KindsRead.{moment_read, optional_read}
 use Rattle.files.specs.MomentText.{IsMoment, IsMomentText}
 use Rattle.files.specs.Number.{is_number}
@@ -128,7 +128,7 @@ spelt_is_read (Spelt fault) words text small _ e = absurd small
 
 -- a field that is read without a fault
 one_read : (column : Column) (value : Value column) (text : List ℕ) (rest : List (List ℕ)) (known : Option FaultKind) → IsSmall column → column_read column text ≡ Ok value
-    → ◌≡◌ {A = Value column × Taking} (read_column column (record { left = text ∷ rest; fault = known })) (value, record { left = rest; fault = known })
+    → ◌≡◌ {A = Value column × FieldsView} (read_column column (record { left = text ∷ rest; fault = known })) (value, record { left = rest; fault = known })
 one_read (Whole low high) value text rest known small e = ap (λ r. value_or r low rest known) e
 one_read (Texts width) value text rest known small e = ap (λ r. value_or r [] rest known) e
 one_read Cents value text rest known small e = ap (λ r. value_or r (pos 0) rest known) e
@@ -140,14 +140,14 @@ one_read (Count count) value text rest known small e = absurd small
 one_read (Spelt fault) value text rest known small e = absurd small
 
 pub spelt_are_read : (columns : List Column) (values : Values columns) (texts : List (List ℕ)) → AreSmall columns → AreIn columns values → AreSpelt (fields_of columns values) texts
-    → ◌≡◌ {A = Values columns × Taking} (read_columns columns (record { left = texts; fault = None })) (values, record { left = []; fault = None })
+    → ◌≡◌ {A = Values columns × FieldsView} (read_columns columns (record { left = texts; fault = None })) (values, record { left = []; fault = None })
 spelt_are_read [] values [] small inside spelt = refl
 spelt_are_read [] values (text ∷ texts) small inside spelt = absurd spelt
 spelt_are_read (column ∷ columns) values [] small inside spelt = absurd spelt
 spelt_are_read (column ∷ columns) values (text ∷ texts) small inside spelt =
     let first = one_read column values.0 text texts None small.0 (spelt_is_read column values.0 text small.0 inside.0 spelt.0) in
     let rest = spelt_are_read columns values.1 texts small.1 inside.1 spelt.1 in
-    ap (λ (p : Value column × Taking). behind column columns p.0 (read_columns columns p.1)) first ∙ ap (behind column columns values.0) rest
+    ap (λ (p : Value column × FieldsView). behind column columns p.0 (read_columns columns p.1)) first ∙ ap (behind column columns values.0) rest
 
 -- ---- what is read is within its column
 

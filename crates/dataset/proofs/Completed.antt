@@ -34,7 +34,7 @@ use Rattle.dataset.proofs.Keys.{AreScaleKeys, customers_of_scale, districts_of_s
 use Rattle.dataset.proofs.Payments.{payments_of, payments-opened}
 use Rattle.dataset.proofs.TableEntries.{same_keys}
 use Rattle.dataset.proofs.Tables.{dense}
-use Rattle.dataset.proofs.Told.{entries_in_all, init-last, rows_told, same_lists, scale_told}
+use Rattle.dataset.proofs.Reported.{entries_in_all, init-last, rows_reported, same_lists, scale_reported}
 
 -- rows by the scale's keys make the table whose rows they are
 record Makes {K X : Type 0} {R : K → K → Ordering} (m : FinMap R X) (ks : List K) (xs : List X) : Type 0 where
@@ -70,23 +70,23 @@ module _ (scale : Scale) (has opened : TableRows) (last : Place) (records : List
   of_scale : {A : Type 0} (f : Scale → A) → f t.scale ≡ f scale
   of_scale f = ap f (sym same_scale)
 
-  entries_told : (table : Table) → entries_of table rows ≡ entries_at table t
-  entries_told table = ap (entries_of table) all ∙ entries_in_all t table
+  entries_reported : (table : Table) → entries_of table rows ≡ entries_at table t
+  entries_reported table = ap (entries_of table) all ∙ entries_in_all t table
 
   items : Makes t.items (item_ids scale) has.items.items
-  items = makes (items_of_scale scale) (λ q. w.items q ∙ of_scale (λ s. has_item s q)) (entries_told Items) (are_kept h Items)
+  items = makes (items_of_scale scale) (λ q. w.items q ∙ of_scale (λ s. has_item s q)) (entries_reported Items) (are_kept h Items)
 
   warehouses : Makes t.warehouses (warehouse_ids scale) has.warehouses.items
-  warehouses = makes (warehouses_of_scale scale) (λ q. w.warehouses q ∙ of_scale (λ s. has_warehouse s q)) (entries_told Warehouses) (are_kept h Warehouses)
+  warehouses = makes (warehouses_of_scale scale) (λ q. w.warehouses q ∙ of_scale (λ s. has_warehouse s q)) (entries_reported Warehouses) (are_kept h Warehouses)
 
   districts : Makes t.districts (district_keys scale) has.districts.items
-  districts = makes (districts_of_scale scale) (λ q. w.districts q ∙ of_scale (λ s. has_district s q)) (entries_told Districts) (are_kept h Districts)
+  districts = makes (districts_of_scale scale) (λ q. w.districts q ∙ of_scale (λ s. has_district s q)) (entries_reported Districts) (are_kept h Districts)
 
   stocks : Makes t.stocks (stock_keys scale) has.stocks.items
-  stocks = makes (stocks_of_scale scale) (λ q. w.stocks q ∙ of_scale (λ s. has_stock s q)) (entries_told Stocks) (are_kept h Stocks)
+  stocks = makes (stocks_of_scale scale) (λ q. w.stocks q ∙ of_scale (λ s. has_stock s q)) (entries_reported Stocks) (are_kept h Stocks)
 
   customers : Makes t.customers (customer_keys scale) has.customers.items
-  customers = makes (customers_of_scale scale) (λ q. w.customers q ∙ of_scale (λ s. has_customer s q)) (entries_told Customers) (are_kept h Customers)
+  customers = makes (customers_of_scale scale) (λ q. w.customers q ∙ of_scale (λ s. has_customer s q)) (entries_reported Customers) (are_kept h Customers)
 
   -- the lists of payments
   lists_opened : length opened.histories.items ≡ scale.warehouses * 10
@@ -101,7 +101,7 @@ module _ (scale : Scale) (has opened : TableRows) (last : Place) (records : List
       let lists = opened.histories.items in
       let payments : payments_of (zip ks lists) ≡ payments_of (entries t.histories) =
       ap (λ ls. payments_of (zip ks ls)) opens.more ∙ payments-opened ks has.histories.items opens.opened opens.are_empty ∙ are_kept h Histories
-      ∙ entries_told Histories in
+      ∙ entries_reported Histories in
       let keys = firsts-zip ks lists lists_even in
       let all_keys = keys_are (districts_of_scale scale) t.histories (λ q. w.histories q ∙ of_scale (λ s. has_district s q)) in
       same_lists (zip ks lists) (entries t.histories) (keys ∙ sym all_keys)
@@ -112,9 +112,9 @@ module _ (scale : Scale) (has opened : TableRows) (last : Place) (records : List
       let lists = opened.histories.items in
       let histories =
       same_entries_map (from_entries (zip (district_keys scale) lists)) t.histories (dense (districts_of_scale scale) lists lists_even ∙ same_histories) in
-      let orders = ordered_is orders_total t.orders has.orders.entries (are_kept h Orders ∙ entries_told Orders) in
-      let new_orders = ordered_is orders_total t.new_orders has.new_orders.entries (are_kept h NewOrders ∙ entries_told NewOrders) in
-      let lines = ordered_is lines_total t.lines has.lines (are_kept h Lines ∙ entries_told Lines) in
+      let orders = ordered_is orders_total t.orders has.orders.entries (are_kept h Orders ∙ entries_reported Orders) in
+      let new_orders = ordered_is orders_total t.new_orders has.new_orders.entries (are_kept h NewOrders ∙ entries_reported NewOrders) in
+      let lines = ordered_is lines_total t.lines has.lines (are_kept h Lines ∙ entries_reported Lines) in
       λ i. record {
         scale = same_scale i;
         items = items.table i;
@@ -144,7 +144,7 @@ module _ (scale : Scale) (has opened : TableRows) (last : Place) (records : List
 pub loaded_fits : (l : Loader) (opened : TableRows) (read : List (List (List ℕ))) (end : List (List ℕ)) (t : Database) → Opens (l.scale.warehouses * 10) l.rows.histories.items opened.histories.items
     → IsWithinScale t → InRange t → HasLoaded l read → AreRecords t (read ++ (end ∷ [])) → FitsScale l.scale (record l.rows { histories = opened.histories })
 loaded_fits l opened read end t opens w range h are =
-    let told = rows_told t w range h.header (h.records ++ (end ∷ [])) (subst (λ r. AreRecords t (r ++ (end ∷ []))) h.are are) in
-    let same = scale_told l.scale t.scale h.header h.is_spelt told.0 in
-    let all = ap (λ (s : Scale). rows_read (sizes s) h.records) same ∙ ap (rows_read (sizes t.scale)) (sym (init-last h.records end)) ∙ told.1 in
+    let reported = rows_reported t w range h.header (h.records ++ (end ∷ [])) (subst (λ r. AreRecords t (r ++ (end ∷ []))) h.are are) in
+    let same = scale_reported l.scale t.scale h.header h.is_spelt reported.0 in
+    let all = ap (λ (s : Scale). rows_read (sizes s) h.records) same ∙ ap (rows_read (sizes t.scale)) (sym (init-last h.records end)) ∙ reported.1 in
     fits_scale l.scale l.rows opened l.last h.records (rows_read (sizes l.scale) h.records) h.rows opens t w same all

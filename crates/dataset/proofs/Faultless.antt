@@ -15,8 +15,8 @@ use Rattle.files.specs.declared.fault.FileError.{FileError}
 use Rattle.files.specs.declared.fault.FileError.TheVariants.{NoMemory, Failed, File}
 use Rattle.files.specs.declared.fault.FaultKind.TheVariants as fault
 use Rattle.files.specs.Columns.{Count, at_end, columns_fault, take_columns}
-use Rattle.files.specs.FieldRead.{Taking, value_or}
-use Rattle.files.specs.FirstFault.{TellsFault, fault_at, fault_or}
+use Rattle.files.specs.FieldRead.{FieldsView, value_or}
+use Rattle.files.specs.FirstFault.{ReportsFault, fault_at, fault_or}
 use Rattle.files.specs.KindsRead.{count_read}
 use Rattle.files.specs.Span.{record_size}
 use Rattle.files.proofs.KindsRead.{count_complete}
@@ -24,7 +24,7 @@ use Rattle.files.proofs.RecordsLeft.{short_record}
 use Rattle.dataset.specs.declared.place.Place.{Place}
 use Rattle.dataset.specs.declared.place.Place.TheVariants as at
 use Rattle.dataset.specs.Columns.{Sizes, Table, Items, Warehouses, Districts, Stocks, Customers, Histories, Orders, NewOrders, Lines, Of, comes_after, fields_fault, kind_fault, kind_of, letter, or_order, place_in, record_columns, record_fault, sizes}
-use Rattle.dataset.specs.FirstFault.{HasNoTables, IsFault, Tells, counts, first_fault, header_columns, header_fault, header_first, header_sizes, is_end, kind_place, last_place, number_of, record_place, rows_fault, told_header}
+use Rattle.dataset.specs.FirstFault.{HasNoTables, IsFault, Reports, counts, first_fault, header_columns, header_fault, header_first, header_sizes, is_end, kind_place, last_place, number_of, record_place, rows_fault, reported_header}
 use Rattle.dataset.specs.Loading.{AreInOrder}
 use Rattle.dataset.specs.Order.{follows, place_numbers}
 use Rattle.dataset.specs.Ranges.{InRange}
@@ -38,10 +38,10 @@ use Rattle.dataset.proofs.LetterFault.{kind_of_letter, letter_is_not_end}
 use Rattle.dataset.proofs.Loading.{header_place, last-push}
 use Rattle.dataset.proofs.Payments.{payments_recorded}
 use Rattle.dataset.proofs.RowFields.{row_reads}
-use Rattle.dataset.proofs.RowTaken.{follows_told, is_read}
+use Rattle.dataset.proofs.RowTaken.{follows_reported, is_read}
 use Rattle.dataset.proofs.RowsFault.{entries_counted, header_uncounted, number_le, rows_counted}
 use Rattle.dataset.proofs.Short.{longer, short_number}
-use Rattle.dataset.proofs.Told.{entries_in_all}
+use Rattle.dataset.proofs.Reported.{entries_in_all}
 use Rattle.files.proofs.ColumnValues.{read-take}
 use Rattle.files.specs.Columns.{Values, read_columns}
 
@@ -99,14 +99,14 @@ header_free scale header spelt =
     let limits = scale.limits in
     let read = spelt_are_read header_columns (scale.warehouses, (scale.items, (scale.customers, tt))) f.others (omega arith, (omega arith, (omega arith, tt)))
     ((limits.some_warehouse, limits.most_warehouses), ((limits.some_item, limits.most_items), ((limits.some_customer, limits.most_customers), tt))) f.spelt in
-    let start : Taking = record { left = f.others; fault = None } in
-    let none : columns_fault header_columns f.others ≡ None = ap (λ (t : Taking). at_end t.left t.fault) (sym (read-take header_columns start) ∙ ap (λ (p : Values header_columns × Taking). p.1) read) in
+    let start : FieldsView = record { left = f.others; fault = None } in
+    let none : columns_fault header_columns f.others ≡ None = ap (λ (t : FieldsView). at_end t.left t.fault) (sym (read-take header_columns start) ∙ ap (λ (p : Values header_columns × FieldsView). p.1) read) in
     let long : length f.others ≡ 3 = AllZip-long IsSpelt (Number scale.warehouses ∷ Number scale.items ∷ Number scale.customers ∷ []) f.others f.spelt in
     let name : bytes_eq (codes "TPCC") (codes "TPCC") ≡ true = refl in
     let many : (length (codes "TPCC" ∷ codes "1" ∷ f.others) == 5) ≡ true = grind (arith, nat_tests, long) in
-    let told : told_header (codes "TPCC" ∷ codes "1" ∷ f.others) ≡ None = rw many none in
+    let reported : reported_header (codes "TPCC" ∷ codes "1" ∷ f.others) ≡ None = rw many none in
     let all : header ≡ codes "TPCC" ∷ codes "1" ∷ f.others = f.are ∙ (λ i. f.is_name i ∷ f.is_version i ∷ f.others) in
-    short_record header (told_header header) (header_kept scale header spelt) ∙ ap told_header all ∙ told
+    short_record header (reported_header header) (header_kept scale header spelt) ∙ ap reported_header all ∙ reported
 
 -- ---- a row's record
 
@@ -130,7 +130,7 @@ row_passes scale before last row texts at_last fits follow spelt =
     let place : place_in s r.table r.fields ≡ place_numbers (row_place row) = sym read.place ∙ ap (λ x. place_numbers (row_place x)) r.is_row in
     let after : comes_after r.table (place_in s r.table r.fields) (last_place s before) ≡ true =
     ap (comes_after r.table (place_in s r.table r.fields)) at_last ∙ ap (λ p. comes_after r.table p (place_numbers last)) (sym read.place)
-    ∙ sym (follows_told s r.table values last) ∙ ap (λ x. follows (row_place x) last) r.is_row ∙ follow in
+    ∙ sym (follows_reported s r.table values last) ∙ ap (λ x. follows (row_place x) last) r.is_row ∙ follow in
     let free : kind_fault s (last_place s before) (counts before) (Some (Of r.table)) r.fields ≡ None = order_of _ _ r.none after in
     record {
       free = short_record texts (fields_fault s (last_place s before) (counts before) texts) r.kept ∙ ap (fields_fault s (last_place s before) (counts before)) r.are
@@ -163,7 +163,7 @@ end_free s before ns [] are small few spelt = absurd spelt
 end_free s before ns (word ∷ texts) are small few spelt =
     let size = longer word texts (length ns) (let e : length word ≤ 500 = rw spelt.0 (omega arith) in e) (numbers_kept ns texts small spelt.1) in
     let kept : record_size (word ∷ texts) ≤ 65536 = omega (arith, size, few) in
-    let none : columns_fault (map (λ count. Count count) ns) texts ≡ None = ap (λ (t : Taking). at_end t.left t.fault) (numbers_counted ns texts small spelt.1) in
+    let none : columns_fault (map (λ count. Count count) ns) texts ≡ None = ap (λ (t : FieldsView). at_end t.left t.fault) (numbers_counted ns texts small spelt.1) in
     let free : record_fault s (last_place s before) (counts before) (word ∷ texts) ≡ None =
     short_record (word ∷ texts) (fields_fault s (last_place s before) (counts before) (word ∷ texts)) kept
     ∙ ap (λ w. fields_fault s (last_place s before) (counts before) (w ∷ texts)) spelt.0 ∙ ap (λ c. columns_fault (map (λ count. Count count) c) texts) are ∙ none in
@@ -234,23 +234,23 @@ records_free t within range (header ∷ body) few are =
 -- ---- what is told of a text
 
 -- no fault of a header is told that has none
-pub no_header_fault : (error : FileError) (scale : Scale) (header : List (List ℕ)) (rows : List (List (List ℕ))) → AreSpelt (header_fields scale) header → IsFault error → TellsFault error (header_first (header ∷ rows)) → ⊥
-no_header_fault NoMemory scale header rows spelt is tells = is
-no_header_fault (Failed number) scale header rows spelt is tells = is
-no_header_fault (File f) scale header rows spelt is tells =
-    let clash : None ≡ Some f = sym (ap (λ k. fault_or k 1 None) (header_free scale header spelt)) ∙ tells in cc
+pub no_header_fault : (error : FileError) (scale : Scale) (header : List (List ℕ)) (rows : List (List (List ℕ))) → AreSpelt (header_fields scale) header → IsFault error → ReportsFault error (header_first (header ∷ rows)) → ⊥
+no_header_fault NoMemory scale header rows spelt is reports = is
+no_header_fault (Failed number) scale header rows spelt is reports = is
+no_header_fault (File f) scale header rows spelt is reports =
+    let clash : None ≡ Some f = sym (ap (λ k. fault_or k 1 None) (header_free scale header spelt)) ∙ reports in cc
 
 -- no fault is told of the records of tables
-pub no_fault_told : (error : FileError) (rows : List (List (List ℕ))) → length rows < 2 ^ 64 - 1 → Tells rows error → IsFault error → HasNoTables rows
-no_fault_told NoMemory rows few tells is = absurd is
-no_fault_told (Failed number) rows few tells is = absurd is
-no_fault_told (File f) rows few tells is = λ t within range are.
-    (subst (λ o. MatchOption o ((f ≡ fault_at fault.ScaleBroken (length rows)) × HasNoTables rows) (λ first. f ≡ first)) (records_free t within range rows few are) tells).1 t within range are
+pub no_fault_reported : (error : FileError) (rows : List (List (List ℕ))) → length rows < 2 ^ 64 - 1 → Reports rows error → IsFault error → HasNoTables rows
+no_fault_reported NoMemory rows few reports is = absurd is
+no_fault_reported (Failed number) rows few reports is = absurd is
+no_fault_reported (File f) rows few reports is = λ t within range are.
+    (subst (λ o. MatchOption o ((f ≡ fault_at fault.ScaleBroken (length rows)) × HasNoTables rows) (λ first. f ≡ first)) (records_free t within range rows few are) reports).1 t within range are
 
 -- what is told of all that is left is told of an error
-pub error_told : {X E L : Type 0} (r : Result X E) (P : L → X → Type 0) (Q : L → E → Type 0) (Left : L → Type 0) → ((rows : L) → Left rows → MatchResult r (P rows) (Q rows)) → IfErr r (λ error. (rows : L) → Left rows → Q rows error)
-error_told (Ok x) P Q Left h = tt
-error_told (Err e) P Q Left h = h
+pub error_reported : {X E L : Type 0} (r : Result X E) (P : L → X → Type 0) (Q : L → E → Type 0) (Left : L → Type 0) → ((rows : L) → Left rows → MatchResult r (P rows) (Q rows)) → IfErr r (λ error. (rows : L) → Left rows → Q rows error)
+error_reported (Ok x) P Q Left h = tt
+error_reported (Err e) P Q Left h = h
 
 pub is_no_err : {X E : Type 0} (r : Result X E) (k : E) → IsOk r → r ≡ Err k → ⊥
 is_no_err r k h e = let clash : true ≡ false = sym h ∙ ap is_ok e in cc

@@ -16,7 +16,7 @@ use Rattle.files.specs.declared.fault.FileFault.{FileFault}
 use Rattle.files.specs.declared.fault.FileError.{FileError}
 use Rattle.files.specs.declared.fault.FileError.TheVariants.{NoMemory, Failed, File}
 use Rattle.files.specs.declared.fields.Fields.{Fields}
-use Rattle.files.specs.FieldRead.{Taking, taking, field_read, next_read}
+use Rattle.files.specs.FieldRead.{FieldsView, fields_view, field_read, next_read}
 use Rattle.files.specs.KindsRead.{word_read}
 use Rattle.files.specs.Place.{FirstIsTooLong, file_fault}
 use Rattle.files.specs.Span.{record_size}
@@ -27,17 +27,17 @@ use Rattle.dataset.specs.declared.loader.Loader.{Loader}
 use Rattle.dataset.specs.Loading.{HasLoaded}
 use Rattle.dataset.specs.Columns.{sizes}
 use Rattle.files.specs.Columns.{at_end, columns_fault, take_columns}
-use Rattle.dataset.specs.FirstFault.{HasNoTables, Tells, first_fault, header_columns, header_fault, header_first, header_sizes, is_header, rows_fault, told_header}
+use Rattle.dataset.specs.FirstFault.{HasNoTables, Reports, first_fault, header_columns, header_fault, header_first, header_sizes, is_header, rows_fault, reported_header}
 use Rattle.files.specs.FirstFault.{behind_end, fault_at, fault_or}
 use Rattle.dataset.specs.Records.{AreSpelt, AreRecords, header_fields}
-use Rattle.dataset.specs.TakenAs.{IsHeaderAs, TellsEnd}
-use Rattle.files.specs.FirstFault.{TellsFault}
+use Rattle.dataset.specs.TakenAs.{IsHeaderAs, ReportsEnd}
+use Rattle.files.specs.FirstFault.{ReportsFault}
 use Rattle.files.proofs.KindsRead.{word_is}
 use Rattle.files.proofs.Unlike.{other}
 use Rattle.dataset.proofs.LetterFault.{some_word}
 use Rattle.files.proofs.RecordsLeft.{not_advanced}
 
-pub no_header : (fields : List (List ℕ)) → is_header fields ≡ false → told_header fields ≡ Some fault.NoHeader
+pub no_header : (fields : List (List ℕ)) → is_header fields ≡ false → reported_header fields ≡ Some fault.NoHeader
 no_header fields e = rw e refl
 
 pub not_five : (fields : List (List ℕ)) → length fields ≢ 5 → is_header fields ≡ false
@@ -51,42 +51,42 @@ no_difference word other differs is same h =
     cc
 
 -- the first word is another one
-not_word : (left : List (List ℕ)) (known : Option FaultKind) (other_word word : List ℕ) (after : Taking) → ◌≡◌ {A = List ℕ × Taking} (word, after) (next_read word_read [] left known)
+not_word : (left : List (List ℕ)) (known : Option FaultKind) (other_word word : List ℕ) (after : FieldsView) → ◌≡◌ {A = List ℕ × FieldsView} (word, after) (next_read word_read [] left known)
     → length left ≢ 0 → IsUtf8 other_word → (word ≡ other_word → ⊥) → bytes_eq (get_or left 0 []) other_word ≡ false
 not_word [] known other_word word after read some utf8 apart = absurd (some refl)
 not_word (field ∷ rest) known other_word word after read some utf8 apart = other field other_word (λ e.
     let is = rw (word_is field (subst IsUtf8 (sym e) utf8)) at read in
-    apart (ap (λ (p : List ℕ × Taking). p.0) is ∙ e))
+    apart (ap (λ (p : List ℕ × FieldsView). p.0) is ∙ e))
 
-pub other_name : (left : List (List ℕ)) (known : Option FaultKind) (word : List ℕ) (after : Taking) → length left ≡ 5
-    → ◌≡◌ {A = List ℕ × Taking} (word, after) (next_read word_read [] left known) → (word ≡ codes "TPCC" → ⊥) → is_header left ≡ false
+pub other_name : (left : List (List ℕ)) (known : Option FaultKind) (word : List ℕ) (after : FieldsView) → length left ≡ 5
+    → ◌≡◌ {A = List ℕ × FieldsView} (word, after) (next_read word_read [] left known) → (word ≡ codes "TPCC" → ⊥) → is_header left ≡ false
 other_name left known word after five read apart =
     let no = not_word left known (codes "TPCC") word after read (omega arith) (utf8_words (codes "TPCC") refl) apart in
     rw no (and_right (length left == 5) false refl)
 
-pub other_version : (left mid : List (List ℕ)) (known : Option FaultKind) (name word : List ℕ) (after : Taking) → length left ≡ 5 → left ≡ name ∷ mid
-    → ◌≡◌ {A = List ℕ × Taking} (word, after) (next_read word_read [] mid known) → (word ≡ codes "1" → ⊥) → is_header left ≡ false
+pub other_version : (left mid : List (List ℕ)) (known : Option FaultKind) (name word : List ℕ) (after : FieldsView) → length left ≡ 5 → left ≡ name ∷ mid
+    → ◌≡◌ {A = List ℕ × FieldsView} (word, after) (next_read word_read [] mid known) → (word ≡ codes "1" → ⊥) → is_header left ≡ false
 other_version left mid known name word after five is read apart =
     let some : length mid ≢ 0 = λ none. let all = ap length is in omega (arith, all, five, none) in
     let no = ap (λ l. bytes_eq (get_or l 1 []) (codes "1")) is ∙ not_word mid known (codes "1") word after read some (utf8_words (codes "1") refl) apart in
     rw (no, and_right (bytes_eq (get_or left 0 []) (codes "TPCC")) false refl) (and_right (length left == 5) false refl)
 
 -- a header of five fields
-pub header_told : (old mid next last : Fields) (name version : List ℕ) (end : Option FaultKind) → fault_of old ≡ None → length (fields_left old) ≡ 5
-    → name ≡ codes "TPCC" → ◌≡◌ {A = List ℕ × Taking} (name, taking mid) (field_read word_read [] (taking old))
-    → version ≡ codes "1" → ◌≡◌ {A = List ℕ × Taking} (version, taking next) (field_read word_read [] (taking mid))
-    → taking last ≡ take_columns header_columns (taking next) → end ≡ at_end (fields_left last) (fault_of last) → end ≡ told_header (fields_left old)
-header_told old mid next last name version end none five is_name read_name is_version read_version took ended =
-    let one = some_word (codes "TPCC") 3 name (fields_left old) (fault_of old) (taking mid) refl is_name read_name in
-    let two = some_word (codes "1") 0 version (fields_left mid) (fault_of mid) (taking next) refl is_version read_version in
+pub header_reported : (old mid next last : Fields) (name version : List ℕ) (end : Option FaultKind) → fault_of old ≡ None → length (fields_left old) ≡ 5
+    → name ≡ codes "TPCC" → ◌≡◌ {A = List ℕ × FieldsView} (name, fields_view mid) (field_read word_read [] (fields_view old))
+    → version ≡ codes "1" → ◌≡◌ {A = List ℕ × FieldsView} (version, fields_view next) (field_read word_read [] (fields_view mid))
+    → fields_view last ≡ take_columns header_columns (fields_view next) → end ≡ at_end (fields_left last) (fault_of last) → end ≡ reported_header (fields_left old)
+header_reported old mid next last name version end none five is_name read_name is_version read_version took ended =
+    let one = some_word (codes "TPCC") 3 name (fields_left old) (fault_of old) (fields_view mid) refl is_name read_name in
+    let two = some_word (codes "1") 0 version (fields_left mid) (fault_of mid) (fields_view next) refl is_version read_version in
     let all : fields_left old ≡ codes "TPCC" ∷ codes "1" ∷ fields_left next = one.left ∙ ap (λ l. codes "TPCC" ∷ l) two.left in
     let three : length (fields_left next) ≡ 3 = let e = ap length all in omega (arith, e, five) in
-    let start : taking next ≡ record { left = fields_left next; fault = None } = ap (λ (f : Option FaultKind). record { left = fields_left next; fault = f }) (two.fault ∙ one.fault ∙ none) in
+    let start : fields_view next ≡ record { left = fields_left next; fault = None } = ap (λ (f : Option FaultKind). record { left = fields_left next; fault = f }) (two.fault ∙ one.fault ∙ none) in
     let long : (length (codes "TPCC" ∷ codes "1" ∷ fields_left next) == 5) ≡ true = grind (arith, nat_tests, three) in
-    let told : told_header (codes "TPCC" ∷ codes "1" ∷ fields_left next) ≡ columns_fault header_columns (fields_left next) = rw long refl in
-    ended ∙ ap (λ (t : Taking). at_end t.left t.fault) (took ∙ ap (take_columns header_columns) start) ∙ sym told ∙ ap told_header (sym all)
+    let reported : reported_header (codes "TPCC" ∷ codes "1" ∷ fields_left next) ≡ columns_fault header_columns (fields_left next) = rw long refl in
+    ended ∙ ap (λ (t : FieldsView). at_end t.left t.fault) (took ∙ ap (take_columns header_columns) start) ∙ sym reported ∙ ap reported_header (sym all)
 
-pub header_made : (result : Result Scale FaultKind) (made : Option Scale) (kind : FaultKind) (fields : List (List ℕ)) → result ≡ ok_or made kind → IsSome made → told_header fields ≡ None → IsHeaderAs result fields
+pub header_made : (result : Result Scale FaultKind) (made : Option Scale) (kind : FaultKind) (fields : List (List ℕ)) → result ≡ ok_or made kind → IsSome made → reported_header fields ≡ None → IsHeaderAs result fields
 header_made result (Some scale) kind fields is some none = subst (λ r. IsHeaderAs r fields) (sym is) none
 header_made result None kind fields is some none = let clash : true ≡ false = sym some in absurd cc
 
@@ -110,66 +110,66 @@ sizes_spelt scale (a ∷ b ∷ c ∷ d ∷ e ∷ f ∷ rest) spelt = absurd spel
 
 -- ---- the first record
 
-short_header : (fields : List (List ℕ)) → record_size fields ≤ 65536 → header_fault fields ≡ told_header fields
+short_header : (fields : List (List ℕ)) → record_size fields ≤ 65536 → header_fault fields ≡ reported_header fields
 short_header fields short = let no : nat_lt 65536 (record_size fields) ≡ false = grind (arith, nat_tests) in rw no refl
 
-pub header_passes : (scale : Scale) (header : List (List ℕ)) (more : List (List (List ℕ))) → record_size header ≤ 65536 → told_header header ≡ None → AreSpelt (header_fields scale) header
+pub header_passes : (scale : Scale) (header : List (List ℕ)) (more : List (List (List ℕ))) → record_size header ≤ 65536 → reported_header header ≡ None → AreSpelt (header_fields scale) header
     → first_fault (header ∷ more) ≡ rows_fault (sizes scale) (header ∷ []) more
 unfolding first_fault
 header_passes scale header more short none spelt =
     let pass : first_fault (header ∷ more) ≡ rows_fault (header_sizes header) (header ∷ []) more = rw (short_header header short ∙ none) refl in
     pass ∙ ap (λ s. rows_fault s (header ∷ []) more) (sym (sizes_spelt scale header spelt))
 
-pub header_fails : (kind : FaultKind) (header : List (List ℕ)) (more : List (List (List ℕ))) → record_size header ≤ 65536 → told_header header ≡ Some kind → header_first (header ∷ more) ≡ Some (fault_at kind 1)
-header_fails kind header more short told = rw (short_header header short ∙ told) refl
+pub header_fails : (kind : FaultKind) (header : List (List ℕ)) (more : List (List (List ℕ))) → record_size header ≤ 65536 → reported_header header ≡ Some kind → header_first (header ∷ more) ≡ Some (fault_at kind 1)
+header_fails kind header more short reported = rw (short_header header short ∙ reported) refl
 
 long_header : (rows : List (List (List ℕ))) → FirstIsTooLong rows → header_first rows ≡ Some (fault_at fault.WrongShape 1)
 long_header [] long = absurd long
 long_header (header ∷ more) long = let yes : nat_lt 65536 (record_size header) ≡ true = grind (arith, nat_tests) in rw yes refl
 
 pub header_unread : (error : FileError) (number : ℕ) (rows : List (List (List ℕ))) → number ≡ 1 → (error ≡ NoMemory) ⊎ (error ≡ Failed number) ⊎ (error ≡ file_fault fault.WrongShape number)
-    → (error ≡ file_fault fault.WrongShape number → FirstIsTooLong rows) → TellsFault error (header_first rows)
+    → (error ≡ file_fault fault.WrongShape number → FirstIsTooLong rows) → ReportsFault error (header_first rows)
 header_unread error number rows one faults long =
     not_advanced error number (header_first rows) faults (λ e. long_header rows (long e) ∙ ap (λ n. Some (fault_at fault.WrongShape n)) (sym one))
 
-pub header_error : (error : FileError) (kind : FaultKind) (number : ℕ) (first : Option FileFault) → error ≡ file_fault kind number → number ≡ 1 → first ≡ Some (fault_at kind 1) → TellsFault error first
-header_error error kind number first is one found = subst (λ e. TellsFault e first) (sym is) (found ∙ ap (λ n. Some (fault_at kind n)) (sym one))
+pub header_error : (error : FileError) (kind : FaultKind) (number : ℕ) (first : Option FileFault) → error ≡ file_fault kind number → number ≡ 1 → first ≡ Some (fault_at kind 1) → ReportsFault error first
+header_error error kind number first is one found = subst (λ e. ReportsFault e first) (sym is) (found ∙ ap (λ n. Some (fault_at kind n)) (sym one))
 
 -- a fault of the header is the first one of the text
-pub first_of_header : (error : FileError) (rows : List (List (List ℕ))) → TellsFault error (header_first rows) → TellsFault error (first_fault rows)
+pub first_of_header : (error : FileError) (rows : List (List (List ℕ))) → ReportsFault error (header_first rows) → ReportsFault error (first_fault rows)
 unfolding first_fault
-first_of_header NoMemory rows tells = tt
-first_of_header (Failed number) rows tells = tt
-first_of_header (File f) [] tells = tells
-first_of_header (File f) (header ∷ rows) tells = by (header_fault header) refl
+first_of_header NoMemory rows reports = tt
+first_of_header (Failed number) rows reports = tt
+first_of_header (File f) [] reports = reports
+first_of_header (File f) (header ∷ rows) reports = by (header_fault header) refl
   where
     by : (kind : Option FaultKind) → header_fault header ≡ kind → fault_or (header_fault header) 1 (rows_fault (header_sizes header) (header ∷ []) rows) ≡ Some f
-    by None none = let clash : None ≡ Some f = sym (ap (λ k. fault_or k 1 None) none) ∙ tells in cc
-    by (Some kind) some = ap (λ k. fault_or k 1 (rows_fault (header_sizes header) (header ∷ []) rows)) some ∙ sym (ap (λ k. fault_or k 1 None) some) ∙ tells
+    by None none = let clash : None ≡ Some f = sym (ap (λ k. fault_or k 1 None) none) ∙ reports in cc
+    by (Some kind) some = ap (λ k. fault_or k 1 (rows_fault (header_sizes header) (header ∷ []) rows)) some ∙ sym (ap (λ k. fault_or k 1 None) some) ∙ reports
 
 -- ---- behind the end record
 
 pub more_found : (error : FileError) (l : Loader) (more : List (List (List ℕ))) (number next : ℕ) → next ≡ number + 1
-    → (error ≡ NoMemory) ⊎ (error ≡ Failed next) ⊎ (error ≡ file_fault fault.AfterEnd next) → (error ≡ file_fault fault.AfterEnd next → more ≡ [] → ⊥) → TellsEnd error l more number
-more_found error l more number next is (inl e) some = subst (λ x. TellsEnd x l more number) (sym e) tt
-more_found error l more number next is (inr (inl e)) some = subst (λ x. TellsEnd x l more number) (sym e) tt
+    → (error ≡ NoMemory) ⊎ (error ≡ Failed next) ⊎ (error ≡ file_fault fault.AfterEnd next) → (error ≡ file_fault fault.AfterEnd next → more ≡ [] → ⊥) → ReportsEnd error l more number
+more_found error l more number next is (inl e) some = subst (λ x. ReportsEnd x l more number) (sym e) tt
+more_found error l more number next is (inr (inl e)) some = subst (λ x. ReportsEnd x l more number) (sym e) tt
 more_found error l [] number next is (inr (inr e)) some = absurd (some e refl)
-more_found error l (row ∷ rows) number next is (inr (inr e)) some = subst (λ x. TellsEnd x l (row ∷ rows) number) (sym e) (inl (ap (λ n. Some (fault_at fault.AfterEnd n)) (sym is)))
+more_found error l (row ∷ rows) number next is (inr (inr e)) some = subst (λ x. ReportsEnd x l (row ∷ rows) number) (sym e) (inl (ap (λ n. Some (fault_at fault.AfterEnd n)) (sym is)))
 
 -- ---- in all
 
 -- the first fault is told
-pub tells_first : (error : FileError) (rows : List (List (List ℕ))) (first : Option FileFault) → first_fault rows ≡ first → TellsFault error first → Tells rows error
-tells_first NoMemory rows first is tells = tt
-tells_first (Failed number) rows first is tells = tt
-tells_first (File f) rows first is e = subst (λ o. MatchOption o ((f ≡ fault_at fault.ScaleBroken (length rows)) × HasNoTables rows) (λ x. f ≡ x)) (sym (is ∙ e)) refl
+pub reports_first : (error : FileError) (rows : List (List (List ℕ))) (first : Option FileFault) → first_fault rows ≡ first → ReportsFault error first → Reports rows error
+reports_first NoMemory rows first is reports = tt
+reports_first (Failed number) rows first is reports = tt
+reports_first (File f) rows first is e = subst (λ o. MatchOption o ((f ≡ fault_at fault.ScaleBroken (length rows)) × HasNoTables rows) (λ x. f ≡ x)) (sym (is ∙ e)) refl
 
-pub tells_end : (error : FileError) (l : Loader) (rows before more : List (List (List ℕ))) (end : List (List ℕ)) (number : ℕ) → HasLoaded l before → rows ≡ before ++ (end ∷ more) → number ≡ length before + 1
-    → first_fault rows ≡ behind_end number more → TellsEnd error l more number → Tells rows error
-tells_end NoMemory l rows before more end number loaded are counted is tells = tt
-tells_end (Failed at) l rows before more end number loaded are counted is tells = tt
-tells_end (File f) l rows before more end number loaded are counted is (inl e) = tells_first (File f) rows (behind_end number more) is e
-tells_end (File f) l rows before more end number loaded are counted is (inr h) =
+pub reports_end : (error : FileError) (l : Loader) (rows before more : List (List (List ℕ))) (end : List (List ℕ)) (number : ℕ) → HasLoaded l before → rows ≡ before ++ (end ∷ more) → number ≡ length before + 1
+    → first_fault rows ≡ behind_end number more → ReportsEnd error l more number → Reports rows error
+reports_end NoMemory l rows before more end number loaded are counted is reports = tt
+reports_end (Failed at) l rows before more end number loaded are counted is reports = tt
+reports_end (File f) l rows before more end number loaded are counted is (inl e) = reports_first (File f) rows (behind_end number more) is e
+reports_end (File f) l rows before more end number loaded are counted is (inr h) =
     let read : rows ≡ before ++ (end ∷ []) = are ∙ ap (λ m. before ++ (end ∷ m)) h.0 in
     let all : number ≡ length rows = let long = ap length read in let parts = length-append before (end ∷ []) in omega (arith, long, parts, counted) in
     subst (λ o. MatchOption o ((f ≡ fault_at fault.ScaleBroken (length rows)) × HasNoTables rows) (λ x. f ≡ x)) (sym (is ∙ ap (behind_end number) h.0))

@@ -6,7 +6,7 @@ use Rattle.std.proofs.lemmas.Str.{is_utf8-from_IsUtf8, IsUtf8-from_is_utf8}
 use Rattle.files.specs.declared.fault.FaultKind.{FaultKind}
 use Rattle.files.specs.declared.fault.FaultKind.TheVariants as fault
 use Rattle.files.specs.declared.fields.Fields.{Fields}
-use Rattle.files.specs.FieldRead.{Taking, taking, next_read}
+use Rattle.files.specs.FieldRead.{FieldsView, fields_view, next_read}
 use Rattle.files.specs.KindsRead.{word_read}
 use Rattle.files.specs.Taken.{Takes, fault_of, fields_left, with_fault}
 use Rattle.files.proofs.KindsRead.{word_is, no_word}
@@ -20,14 +20,14 @@ use Rattle.dataset.specs.TakenAs.{HasRow, IsDone, IsRowOf, IsTakenAs}
 use Rattle.dataset.specs.Writing.{row_counts, table_counts}
 
 -- a word that was taken, and what is left behind it
-pub record TookWord (word : List ℕ) (before : List (List ℕ)) (known : Option FaultKind) (new : Taking) : Type 0 where
+pub record TookWord (word : List ℕ) (before : List (List ℕ)) (known : Option FaultKind) (new : FieldsView) : Type 0 where
   pub left : before ≡ word ∷ new.left
   pub fault : new.fault ≡ known
 
-pub some_word : (letter : List ℕ) (n : ℕ) (word : List ℕ) (left : List (List ℕ)) (known : Option FaultKind) (new : Taking) → length letter ≡ suc n → word ≡ letter
-    → ◌≡◌ {A = List ℕ × Taking} (word, new) (next_read word_read [] left known) → TookWord letter left known new
+pub some_word : (letter : List ℕ) (n : ℕ) (word : List ℕ) (left : List (List ℕ)) (known : Option FaultKind) (new : FieldsView) → length letter ≡ suc n → word ≡ letter
+    → ◌≡◌ {A = List ℕ × FieldsView} (word, new) (next_read word_read [] left known) → TookWord letter left known new
 some_word letter n word [] known new some is e =
-    let none : word ≡ [] = ap (λ (p : List ℕ × Taking). p.0) e in
+    let none : word ≡ [] = ap (λ (p : List ℕ × FieldsView). p.0) e in
     let clash : suc n ≡ 0 = sym some ∙ ap length (sym is ∙ none) in
     absurd cc
 some_word letter n word (field ∷ rest) known new some is e = by (is_utf8 field) refl
@@ -36,13 +36,13 @@ some_word letter n word (field ∷ rest) known new some is e = by (is_utf8 field
     by true utf8 =
         let read = word_is field (IsUtf8-from_is_utf8 field utf8) in
         let done = rw read at e in
-        let word_same : word ≡ field = ap (λ (p : List ℕ × Taking). p.0) done in
-        let left_same : new.left ≡ rest = ap (λ (p : List ℕ × Taking). p.1.left) done in
-        record { left = λ i. (sym word_same ∙ is) i ∷ sym left_same i; fault = ap (λ (p : List ℕ × Taking). p.1.fault) done }
+        let word_same : word ≡ field = ap (λ (p : List ℕ × FieldsView). p.0) done in
+        let left_same : new.left ≡ rest = ap (λ (p : List ℕ × FieldsView). p.1.left) done in
+        record { left = λ i. (sym word_same ∙ is) i ∷ sym left_same i; fault = ap (λ (p : List ℕ × FieldsView). p.1.fault) done }
     by false not_utf8 =
         let read = no_word field (λ u. let yes = is_utf8-from_IsUtf8 field u in let no : true ≡ false = sym yes ∙ not_utf8 in cc) in
         let done = rw read at e in
-        let none : word ≡ [] = ap (λ (p : List ℕ × Taking). p.0) done in
+        let none : word ≡ [] = ap (λ (p : List ℕ × FieldsView). p.0) done in
         let clash : suc n ≡ 0 = sym some ∙ ap length (sym is ∙ none) in
         absurd cc
 
@@ -65,9 +65,9 @@ pub record TookBytes (word : List ℕ) (old new : Fields) : Type 0 where
   pub some : (field : List ℕ) (rest : List (List ℕ)) → fields_left old ≡ field ∷ rest → (word ≡ field) × (fault_of new ≡ fault_of old)
 
 some_bytes : (known : List ℕ) (n : ℕ) (word : List ℕ) (old new : Fields) → length known ≡ suc n → word ≡ known → TookBytes word old new
-    → TookWord known (fields_left old) (fault_of old) (taking new)
+    → TookWord known (fields_left old) (fault_of old) (fields_view new)
 some_bytes known n word old new some is took =
-    elim (fields_left old) as (λ left. fields_left old ≡ left → TookWord known (fields_left old) (fault_of old) (taking new)) [
+    elim (fields_left old) as (λ left. fields_left old ≡ left → TookWord known (fields_left old) (fault_of old) (fields_view new)) [
       | [] ↦ λ e. let clash : suc n ≡ 0 = sym some ∙ ap length (sym is ∙ (took.none e).0) in absurd cc
       | field ∷ rest ↦ λ e.
           let read = took.some field rest e in
@@ -96,15 +96,15 @@ end_none (field ∷ fields) known e = absurd cc
 -- the end record
 pub end_is : (l : Loader) (old mid checked new : Fields) (word : List ℕ) → word ≡ codes "END"
     → TookBytes word old mid
-    → (sum (map length l.rows.histories.items) < 2 ^ 64 → taking checked ≡ take_columns (map (λ count. Count count) (table_counts l.rows)) (taking mid))
+    → (sum (map length l.rows.histories.items) < 2 ^ 64 → fields_view checked ≡ take_columns (map (λ count. Count count) (table_counts l.rows)) (fields_view mid))
     → Takes mid checked (AreSpelt (row_counts l.rows))
     → fault_of new ≡ at_end (fields_left checked) (fault_of checked) → fault_of old ≡ None → IsTakenAs End l l old new
 end_is l old mid checked new word is took counted takes ended none =
     let read = some_bytes (codes "END") 2 word old mid refl is took in
-    let start : taking mid ≡ record { left = fields_left mid; fault = None } = ap (λ (f : Option FaultKind). record { left = fields_left mid; fault = f }) (read.fault ∙ none) in
+    let start : fields_view mid ≡ record { left = fields_left mid; fault = None } = ap (λ (f : Option FaultKind). record { left = fields_left mid; fault = f }) (read.fault ∙ none) in
     let columns : List Column = map (λ count. Count count) (table_counts l.rows) in
     record {
-      fault = λ few. ended ∙ ap (λ (t : Taking). at_end t.left t.fault) (counted few ∙ ap (take_columns columns) start)
+      fault = λ few. ended ∙ ap (λ (t : FieldsView). at_end t.left t.fault) (counted few ∙ ap (take_columns columns) start)
           ∙ sym (ap (λ fields. fields_fault (sizes l.scale) (place_numbers l.last) (table_counts l.rows) fields) read.left);
       done = λ free.
           let whole = end_none (fields_left checked) (fault_of checked) (sym ended ∙ free) in

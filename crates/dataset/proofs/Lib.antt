@@ -12,7 +12,7 @@ pub mod Payments
 pub mod Loading
 pub mod Finished
 pub mod TableEntries
-pub mod Told
+pub mod Reported
 pub mod ColumnRanges
 pub mod Bounds
 pub mod AllRows

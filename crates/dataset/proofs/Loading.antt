@@ -25,7 +25,7 @@ use Rattle.dataset.proofs.Keys.{all-append, all-weaker}
 use Rattle.dataset.proofs.LetterFault.{kind_of_letter}
 use Rattle.dataset.proofs.Order.{follows_before, follows_le, place_itself, place_reaches}
 use Rattle.dataset.proofs.RowFields.{known_row, row_is_spelt}
-use Rattle.dataset.proofs.RowTaken.{follows_told, is_read}
+use Rattle.dataset.proofs.RowTaken.{follows_reported, is_read}
 use Rattle.dataset.proofs.Texts.{all_zip-append}
 
 -- ---- one row more
@@ -76,14 +76,14 @@ record_loaded l m read word fields has h =
     let read_is = is_read s table fields free.0 in
     let values = (read_columns (record_columns s table) (record { left = fields; fault = None })).0 in
     let kind = ap kind_of has.is_letter ∙ kind_of_letter table in
-    let tells : record_rows s record_ ≡ row ∷ [] = ap (λ k. kind_rows s k fields) kind in
+    let reports : record_rows s record_ ≡ row ∷ [] = ap (λ k. kind_rows s k fields) kind in
     let follow : IsTrue (follows (row_place row) l.last) =
-    follows_told s table values l.last ∙ ap (λ p. comes_after table p (place_numbers l.last)) read_is.place ∙ free.1 in
+    follows_reported s table values l.last ∙ ap (λ p. comes_after table p (place_numbers l.last)) read_is.place ∙ free.1 in
     let spelt : AreSpelt (row_fields row) record_ = subst (λ w. AreSpelt (row_fields row) (w ∷ fields)) (sym has.is_letter) (row_is_spelt l.scale table fields read_is) in
     let known = known_row l.scale table values (read_are_between (record_columns s table) values fields read_is.are_read) in
     let pushed = rows-push l.scale l.rows m.rows l.last h.records (rows_read s h.records) h.rows row record_ has.added.rows known follow spelt in
     let rows_are : rows_read s (h.records ++ (record_ ∷ [])) ≡ rows_read s h.records ++ (row ∷ []) =
-    flat_map-append (record_rows s) h.records (record_ ∷ []) ∙ ap (λ l. rows_read s h.records ++ l) (append-nil (record_rows s record_) ∙ tells) in
+    flat_map-append (record_rows s) h.records (record_ ∷ []) ∙ ap (λ l. rows_read s h.records ++ l) (append-nil (record_rows s record_) ∙ reports) in
     let with_rows : HasRows l.scale m.rows (row_place row) (h.records ++ (record_ ∷ [])) (rows_read s (h.records ++ (record_ ∷ []))) =
     subst (HasRows l.scale m.rows (row_place row) (h.records ++ (record_ ∷ []))) (sym rows_are) pushed in
     let at_last : HasRows l.scale m.rows m.last (h.records ++ (record_ ∷ [])) (rows_read s (h.records ++ (record_ ∷ []))) =

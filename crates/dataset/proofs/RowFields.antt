@@ -14,7 +14,7 @@ use Rattle.rows.specs.declared.keys.CustomerKey.{CustomerKey}
 use Rattle.rows.specs.Keys.{district_of_customer, district_of_order, order_of_line}
 use Rattle.schema.specs.declared.scale.Scale.{Scale}
 use Rattle.schema.specs.Scale.{has_district, has_customer}
-use Rattle.files.specs.FieldRead.{Taking}
+use Rattle.files.specs.FieldRead.{FieldsView}
 use Rattle.files.specs.Columns.{Column, Whole, Words as Texts, Cents, Moment, Credit, at_end, columns_fault}
 use Rattle.dataset.specs.Columns.{Sizes, Table, Items, Warehouses, Districts, Stocks, Customers, Histories, Orders, NewOrders, Lines, address_columns, counter, info_columns, letter, record_columns, sizes}
 use Rattle.dataset.specs.Loading.{HasKey}
@@ -74,13 +74,13 @@ number_flag : (flag : Bool) → ((if flag then 1 else 0) == 1) ≡ flag
 number_flag true = refl
 number_flag false = refl
 
-fields_told : (s : Sizes) (table : Table) (values : Values (record_columns s table)) → AreBetween (record_columns s table) values
+fields_reported : (s : Sizes) (table : Table) (values : Values (record_columns s table)) → AreBetween (record_columns s table) values
     → row_fields (row_of s table values) ≡ Words (letter table) ∷ fields_of (record_columns s table) values
-fields_told s Orders values between =
+fields_reported s Orders values between =
     let flag = flag_number values.1.1.1.1.1.1.1.0 between.1.1.1.1.1.1.1.0.1 in
     λ i. Words (letter Orders) ∷ Number values.0 ∷ Number values.1.0 ∷ Number values.1.1.0 ∷ Number values.1.1.1.0 ∷ Date values.1.1.1.1.0
     ∷ carrier_field values.1.1.1.1.1.0 ∷ Number values.1.1.1.1.1.1.0 ∷ Number (flag i) ∷ []
-fields_told s table values between = refl
+fields_reported s table values between = refl
 
 -- a record whose fields have no fault spells the row that they tell
 pub row_is_spelt : (scale : Scale) (table : Table) (fields : List (List ℕ)) → IsRead (sizes scale) table fields → AreSpelt (row_fields (row_read (sizes scale) table fields)) (letter table ∷ fields)
@@ -88,8 +88,8 @@ row_is_spelt scale table fields read =
     let s = sizes scale in
     let columns = record_columns s table in
     let values = (read_columns columns (record { left = fields; fault = None })).0 in
-    let told = fields_told s table values (read_are_between columns values fields read.are_read) in
-    subst (λ fs. AreSpelt fs (letter table ∷ fields)) (sym told) (refl, read_are_spelt columns values fields (small_columns scale table) read.are_read)
+    let reported = fields_reported s table values (read_are_between columns values fields read.are_read) in
+    subst (λ fs. AreSpelt fs (letter table ∷ fields)) (sym reported) (refl, read_are_spelt columns values fields (small_columns scale table) read.are_read)
 
 -- ---- the columns that a row has
 
@@ -259,26 +259,26 @@ pub record RowRead (scale : Scale) (row : TableRow) (texts : List (List ℕ)) : 
   pub kept : record_size texts ≤ 65536
 
 pub row_reads : (scale : Scale) (row : TableRow) (texts : List (List ℕ)) → RowFits scale row → AreSpelt (row_fields row) texts → RowRead scale row texts
-row_reads scale row texts fits spelt = by texts refl (subst (λ fs. AreSpelt fs texts) (ap row_fields (sym v.is) ∙ told) spelt)
+row_reads scale row texts fits spelt = by texts refl (subst (λ fs. AreSpelt fs texts) (ap row_fields (sym v.is) ∙ reported) spelt)
   where
     v : RowValues scale row
     v = row_values scale row fits
 
-    told : row_fields (row_of (sizes scale) v.table v.values) ≡ Words (letter v.table) ∷ fields_of (record_columns (sizes scale) v.table) v.values
-    told = fields_told (sizes scale) v.table v.values (in_between (record_columns (sizes scale) v.table) v.values v.inside)
+    reported : row_fields (row_of (sizes scale) v.table v.values) ≡ Words (letter v.table) ∷ fields_of (record_columns (sizes scale) v.table) v.values
+    reported = fields_reported (sizes scale) v.table v.values (in_between (record_columns (sizes scale) v.table) v.values v.inside)
 
     by : (ts : List (List ℕ)) → texts ≡ ts → AreSpelt (Words (letter v.table) ∷ fields_of (record_columns (sizes scale) v.table) v.values) ts → RowRead scale row texts
     by [] e spelt = absurd spelt
     by (text ∷ fields) e spelt =
         let cs = record_columns (sizes scale) v.table in
-        let start : Taking = record { left = fields; fault = None } in
+        let start : FieldsView = record { left = fields; fault = None } in
         let read = spelt_are_read cs v.values fields (small_columns scale v.table) v.inside spelt.1 in
         record {
           table = v.table;
           fields = fields;
           are = e ∙ ap (λ w. w ∷ fields) spelt.0;
-          none = ap (λ (t : Taking). at_end t.left t.fault) (sym (read-take cs start) ∙ ap (λ (p : Values cs × Taking). p.1) read);
-          is_row = ap (λ (p : Values cs × Taking). row_of (sizes scale) v.table p.0) read ∙ v.is;
+          none = ap (λ (t : FieldsView). at_end t.left t.fault) (sym (read-take cs start) ∙ ap (λ (p : Values cs × FieldsView). p.1) read);
+          is_row = ap (λ (p : Values cs × FieldsView). row_of (sizes scale) v.table p.0) read ∙ v.is;
           kept =
               let first : length text ≤ 500 = rw spelt.0 (short_letter v.table) in
               let size = longer text fields (length cs) first (short_fields cs v.values fields (small_columns scale v.table) (narrow_columns (sizes scale) v.table) v.inside spelt.1) in

@@ -5,7 +5,7 @@ use Rattle.std.proofs.lemmas.List.{append-nil}
 use Rattle.files.specs.declared.fault.FaultKind.{FaultKind}
 use Rattle.files.specs.declared.fields.Fields.{Fields}
 use Rattle.files.specs.Columns.{Column, Whole, at_end, columns_fault, take_columns}
-use Rattle.files.specs.FieldRead.{Taking, taking, is_within, whole_read}
+use Rattle.files.specs.FieldRead.{FieldsView, fields_view, is_within, whole_read}
 use Rattle.files.specs.Number.{is_number}
 use Rattle.files.specs.Taken.{fault_of, fields_left}
 use Rattle.schema.specs.declared.table_rows.TableRows.{TableRows}
@@ -62,16 +62,16 @@ whole_keys s Items = tt
 whole_keys s table = tt
 
 -- a row's place has its table's number and its key's
-place_told : (s : Sizes) (table : Table) (values : Values (record_columns s table)) → place_numbers (row_place (row_of s table values)) ≡ table_number table ∷ numbers_in (key_columns s table) (other_columns s table) values
+place_reported : (s : Sizes) (table : Table) (values : Values (record_columns s table)) → place_numbers (row_place (row_of s table values)) ≡ table_number table ∷ numbers_in (key_columns s table) (other_columns s table) values
 unfolding numbers_in number_in
-place_told s Items values = refl
-place_told s table values = refl
+place_reported s Items values = refl
+place_reported s table values = refl
 
 -- whether it follows is told by the numbers alone
-pub follows_told : (s : Sizes) (table : Table) (values : Values (record_columns s table)) (last : Place)
+pub follows_reported : (s : Sizes) (table : Table) (values : Values (record_columns s table)) (last : Place)
     → follows (row_place (row_of s table values)) last ≡ comes_after table (place_numbers (row_place (row_of s table values))) (place_numbers last)
-follows_told s Items values last = refl
-follows_told s table values last = refl
+follows_reported s Items values last = refl
+follows_reported s table values last = refl
 
 -- ---- a record whose fields have no fault
 
@@ -82,16 +82,16 @@ pub record IsRead (s : Sizes) (table : Table) (fields : List (List ℕ)) : Type 
 pub is_read : (s : Sizes) (table : Table) (fields : List (List ℕ)) → columns_fault (record_columns s table) fields ≡ None → IsRead s table fields
 is_read s table fields none =
     let columns = record_columns s table in
-    let start : Taking = record { left = fields; fault = None } in
+    let start : FieldsView = record { left = fields; fault = None } in
     let ended = end_none (take_columns columns start).left (take_columns columns start).fault none in
     let same = read-take columns start in
-    let read = clean columns start (ap (λ (t : Taking). t.fault) same ∙ ended.1) in
-    let all : fields ≡ read.texts ++ [] = read.are ∙ ap (λ l. read.texts ++ l) (ap (λ (t : Taking). t.left) same ∙ ended.0) in
+    let read = clean columns start (ap (λ (t : FieldsView). t.fault) same ∙ ended.1) in
+    let all : fields ≡ read.texts ++ [] = read.are ∙ ap (λ l. read.texts ++ l) (ap (λ (t : FieldsView). t.left) same ∙ ended.0) in
     let values = (read_columns columns start).0 in
     let numbers = numbers_read (key_columns s table) (other_columns s table) values read.texts [] (whole_keys s table) read.are_read in
     record {
       are_read = subst (AreRead columns values) (sym (all ∙ append-nil read.texts)) read.are_read;
-      place = place_told s table values ∙ ap (λ ns. table_number table ∷ ns) (numbers ∙ ap (λ l. map (digits_value 10) (take (length (key_columns s table)) l)) (sym all));
+      place = place_reported s table values ∙ ap (λ ns. table_number table ∷ ns) (numbers ∙ ap (λ l. map (digits_value 10) (take (length (key_columns s table)) l)) (sym all));
     }
 
 -- ---- the record of a row, taken
@@ -108,18 +108,18 @@ TakesRow table l row old read =
     → fault_of old ≡ None → IsRowOf table l m old new
 
 pub row_taken : (table : Table) (l : Loader) (row : TableRow) (old read : Fields) {values : Values (record_columns (sizes l.scale) table)}
-    → ReadsColumns (record_columns (sizes l.scale) table) values (taking old) (taking read) → row ≡ row_of (sizes l.scale) table values → TakesRow table l row old read
+    → ReadsColumns (record_columns (sizes l.scale) table) values (fields_view old) (fields_view read) → row ≡ row_of (sizes l.scale) table values → TakesRow table l row old read
 row_taken table l row old read {values} reads is = λ m new stood added none.
     let s = sizes l.scale in
     let columns = record_columns s table in
     let fields = fields_left old in
-    let start : taking old ≡ record { left = fields; fault = None } = ap (λ (f : Option FaultKind). record { left = fields; fault = f }) none in
+    let start : fields_view old ≡ record { left = fields; fault = None } = ap (λ (f : Option FaultKind). record { left = fields; fault = f }) none in
     let from_start = reads.is ∙ ap (read_columns columns) start in
-    let row_is : row ≡ row_read s table fields = is ∙ ap (λ (p : Values columns × Taking). row_of s table p.0) from_start in
-    let after : taking read ≡ take_columns columns (record { left = fields; fault = None }) = ap (λ (p : Values columns × Taking). p.1) from_start ∙ read-take columns (record { left = fields; fault = None }) in
-    let ended : at_end (fields_left read) (fault_of read) ≡ columns_fault columns fields = ap (λ (t : Taking). at_end t.left t.fault) after in
+    let row_is : row ≡ row_read s table fields = is ∙ ap (λ (p : Values columns × FieldsView). row_of s table p.0) from_start in
+    let after : fields_view read ≡ take_columns columns (record { left = fields; fault = None }) = ap (λ (p : Values columns × FieldsView). p.1) from_start ∙ read-take columns (record { left = fields; fault = None }) in
+    let ended : at_end (fields_left read) (fault_of read) ≡ columns_fault columns fields = ap (λ (t : FieldsView). at_end t.left t.fault) after in
     let in_order : columns_fault columns fields ≡ None → follows (row_place row) l.last ≡ comes_after table (place_in s table fields) (place_numbers l.last) = λ free.
-    ap (λ r. follows (row_place r) l.last) row_is ∙ follows_told s table (read_columns columns (record { left = fields; fault = None })).0 l.last
+    ap (λ r. follows (row_place r) l.last) row_is ∙ follows_reported s table (read_columns columns (record { left = fields; fault = None })).0 l.last
     ∙ ap (λ p. comes_after table p (place_numbers l.last)) (is_read s table fields free).place in
     record {
       fault = stood ∙ ap (λ f. or_order f (follows (row_place row) l.last)) ended

@@ -20,7 +20,7 @@ use Rattle.files.specs.Span.{record_size}
 use Rattle.dataset.specs.declared.loader.Loader.{Loader}
 use Rattle.dataset.specs.declared.loader.Taken.TheVariants.{Row, End}
 use Rattle.dataset.specs.Columns.{Sizes, Table, Items, Warehouses, Districts, Stocks, Customers, Histories, Orders, NewOrders, Lines, fields_fault, letter, record_fault, sizes, table_number}
-use Rattle.files.specs.FirstFault.{TellsFault, TellsKind, behind_end, fault_at}
+use Rattle.files.specs.FirstFault.{ReportsFault, ReportsKind, behind_end, fault_at}
 use Rattle.dataset.specs.FirstFault.{counts, is_end, is_of, last_place, number_of, rows_fault}
 use Rattle.dataset.specs.Loading.{HasLoaded, HasRows}
 use Rattle.dataset.specs.Order.{place_numbers}
@@ -44,20 +44,20 @@ letter_is Items Items = refl
 letter_is own Items = refl
 letter_is own table = refl
 
-letter_tells : (own table : Table) (text : List ℕ) → text ≡ letter own → bytes_eq text (letter table) ≡ (table_number own == table_number table)
-letter_tells own table text is = ap (λ w. bytes_eq w (letter table)) is ∙ letter_is own table
+letter_reports : (own table : Table) (text : List ℕ) → text ≡ letter own → bytes_eq text (letter table) ≡ (table_number own == table_number table)
+letter_reports own table text is = ap (λ w. bytes_eq w (letter table)) is ∙ letter_is own table
 
 first_letter : (row : TableRow) (texts : List (List ℕ)) (table : Table) → AreSpelt (row_fields row) texts → is_of table texts ≡ (number_of_row row == table_number table)
 first_letter (OfItem key x) [] table spelt = absurd spelt
-first_letter (OfItem key x) (text ∷ texts) table spelt = letter_tells Items table text spelt.0
-first_letter (OfWarehouse key x) (text ∷ texts) table spelt = letter_tells Warehouses table text spelt.0
-first_letter (OfDistrict key x) (text ∷ texts) table spelt = letter_tells Districts table text spelt.0
-first_letter (OfStock key x) (text ∷ texts) table spelt = letter_tells Stocks table text spelt.0
-first_letter (OfCustomer key x) (text ∷ texts) table spelt = letter_tells Customers table text spelt.0
-first_letter (OfHistory key x) (text ∷ texts) table spelt = letter_tells Histories table text spelt.0
-first_letter (OfOrder key x) (text ∷ texts) table spelt = letter_tells Orders table text spelt.0
-first_letter (OfNewOrder key x) (text ∷ texts) table spelt = letter_tells NewOrders table text spelt.0
-first_letter (OfLine key x) (text ∷ texts) table spelt = letter_tells Lines table text spelt.0
+first_letter (OfItem key x) (text ∷ texts) table spelt = letter_reports Items table text spelt.0
+first_letter (OfWarehouse key x) (text ∷ texts) table spelt = letter_reports Warehouses table text spelt.0
+first_letter (OfDistrict key x) (text ∷ texts) table spelt = letter_reports Districts table text spelt.0
+first_letter (OfStock key x) (text ∷ texts) table spelt = letter_reports Stocks table text spelt.0
+first_letter (OfCustomer key x) (text ∷ texts) table spelt = letter_reports Customers table text spelt.0
+first_letter (OfHistory key x) (text ∷ texts) table spelt = letter_reports Histories table text spelt.0
+first_letter (OfOrder key x) (text ∷ texts) table spelt = letter_reports Orders table text spelt.0
+first_letter (OfNewOrder key x) (text ∷ texts) table spelt = letter_reports NewOrders table text spelt.0
+first_letter (OfLine key x) (text ∷ texts) table spelt = letter_reports Lines table text spelt.0
 first_letter row [] table spelt = absurd spelt
 
 counted_first : (b : Bool) (row : TableRow) (rows : List TableRow) → (if b then 1 else 0) + length rows ≡ length (with_row b row rows)
@@ -151,13 +151,13 @@ module _ (l : Loader) (read : List (List (List ℕ))) (at : HasLoaded l read) (r
   end_passes none end = rw (known ∙ none, end) refl
 
   -- a fault is the first one
-  pub fault_found : (error : FileError) (number : ℕ) → number ≡ length read + 1 → TellsKind error (fields_fault (sizes l.scale) (place_numbers l.last) (table_counts l.rows) row) number → TellsFault error (rows_fault (sizes l.scale) read (row ∷ rest))
+  pub fault_found : (error : FileError) (number : ℕ) → number ≡ length read + 1 → ReportsKind error (fields_fault (sizes l.scale) (place_numbers l.last) (table_counts l.rows) row) number → ReportsFault error (rows_fault (sizes l.scale) read (row ∷ rest))
   unfolding rows_fault
-  fault_found NoMemory number same tells = tt
-  fault_found (Failed at) number same tells = absurd tells
-  fault_found (File f) number same tells =
-      let is : f ≡ fault_at f.kind (length read + 1) = (λ i. record { kind = f.kind; «record» = (tells.1 ∙ same) i }) in
-      rw (known ∙ tells.0) (ap (λ (x : FileFault). Some x) (sym is))
+  fault_found NoMemory number same reports = tt
+  fault_found (Failed at) number same reports = absurd reports
+  fault_found (File f) number same reports =
+      let is : f ≡ fault_at f.kind (length read + 1) = (λ i. record { kind = f.kind; «record» = (reports.1 ∙ same) i }) in
+      rw (known ∙ reports.0) (ap (λ (x : FileFault). Some x) (sym is))
 
 -- a record that is too long
 pub long_found : (scale : Sizes) (read rows : List (List (List ℕ))) → FirstIsTooLong rows → rows_fault scale read rows ≡ Some (fault_at fault.WrongShape (length read + 1))
@@ -270,10 +270,10 @@ end_at remaining scale read rows l m old new counter same a none done short =
 -- a record has a fault
 pub fault_at_record : {R : Type 0} (remaining : R → Option (List ℕ)) (scale : Sizes) (read rows : List (List (List ℕ))) (l : Loader) (old new : Records R) (counter : ℕ) (error : FileError) → sizes l.scale ≡ scale
     → (a : AtRecord remaining read rows l old new counter) → record_size (record_fields new) ≤ 65536
-    → TellsKind error (fields_fault (sizes l.scale) (place_numbers l.last) (table_counts l.rows) (record_fields new)) (record_number new) → TellsFault error (rows_fault scale read rows)
-fault_at_record remaining scale read rows l old new counter error same a short tells =
-    subst (λ s. TellsFault error (rows_fault s read rows)) same
-    (subst (TellsFault error) (sym a.fault) (fault_found l a.before a.at (record_fields new) a.rest short error (record_number new) a.number tells))
+    → ReportsKind error (fields_fault (sizes l.scale) (place_numbers l.last) (table_counts l.rows) (record_fields new)) (record_number new) → ReportsFault error (rows_fault scale read rows)
+fault_at_record remaining scale read rows l old new counter error same a short reports =
+    subst (λ s. ReportsFault error (rows_fault s read rows)) same
+    (subst (ReportsFault error) (sym a.fault) (fault_found l a.before a.at (record_fields new) a.rest short error (record_number new) a.number reports))
 
 module _ {R : Type 0} (remaining : R → Option (List ℕ)) (scale : Sizes) (read rows : List (List (List ℕ))) (l : Loader) (old new : Records R) (counter : ℕ) (few : length read + length rows < 2 ^ 64 - 1)
     (g : GoesOnAt remaining scale read rows l old counter) (number : record_number old < 2 ^ 64 - 1 → record_number new ≡ record_number old + 1) where
@@ -282,15 +282,15 @@ module _ {R : Type 0} (remaining : R → Option (List ℕ)) (scale : Sizes) (rea
 
   -- no further record could be read
   pub fault_advancing : (error : FileError) → (error ≡ NoMemory) ⊎ (error ≡ Failed (record_number new)) ⊎ (error ≡ file_fault fault.WrongShape (record_number new))
-      → (error ≡ file_fault fault.WrongShape (record_number new) → (left : List (List (List ℕ))) → HasLeft remaining left old → FirstIsTooLong left) → TellsFault error (rows_fault scale read rows)
+      → (error ≡ file_fault fault.WrongShape (record_number new) → (left : List (List (List ℕ))) → HasLeft remaining left old → FirstIsTooLong left) → ReportsFault error (rows_fault scale read rows)
   fault_advancing error faults long =
       not_advanced error (record_number new) (rows_fault scale read rows) faults
       (λ e. g.fault ∙ long_found scale g.before g.left (long e g.left g.has_left) ∙ ap (λ n. Some (fault_at fault.WrongShape n)) (sym next_number))
 
   -- there is none
   pub fault_at_last : (error : FileError) (found : Bool) → error ≡ file_fault fault.NoEnd (record_number new) → found ≡ false → ((left : List (List (List ℕ))) → HasLeft remaining left old → HasLeftAfter remaining left found new)
-      → TellsFault error (rows_fault scale read rows)
+      → ReportsFault error (rows_fault scale read rows)
   fault_at_last error found is none next =
       let empty = no_row remaining g.left found new none (next g.left g.has_left) in
-      subst (λ e. TellsFault e (rows_fault scale read rows)) (sym is)
+      subst (λ e. ReportsFault e (rows_fault scale read rows)) (sym is)
       (g.fault ∙ ap (rows_fault scale g.before) empty ∙ no_end scale g.before ∙ ap (λ n. Some (fault_at fault.NoEnd n)) (sym next_number))

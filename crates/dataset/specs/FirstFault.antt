@@ -80,11 +80,11 @@ abbrev pub is_header : List (List ℕ) → Bool
 is_header fields = length fields == 5 && (bytes_eq (get_or fields 0 []) (codes "TPCC") && bytes_eq (get_or fields 1 []) (codes "1"))
 
 -- the fault of the first record, whatever its length, and in all
-abbrev pub told_header : List (List ℕ) → Option FaultKind
-told_header fields = if is_header fields then columns_fault header_columns (drop 2 fields) else Some NoHeader
+abbrev pub reported_header : List (List ℕ) → Option FaultKind
+reported_header fields = if is_header fields then columns_fault header_columns (drop 2 fields) else Some NoHeader
 
 abbrev pub header_fault : List (List ℕ) → Option FaultKind
-header_fault fields = unless_long fields (told_header fields)
+header_fault fields = unless_long fields (reported_header fields)
 
 -- the fault of a text that ends after its first record, which is the header
 abbrev pub header_first : List (List (List ℕ)) → Option FileFault
@@ -106,14 +106,14 @@ abbrev pub IsFaultOf : List (List (List ℕ)) → FileFault → Type 0
 IsFaultOf rows fault =
     MatchOption (first_fault rows) ((fault ≡ fault_at ScaleBroken (length rows)) × HasNoTables rows) (λ first. fault ≡ first)
 
--- an error that says that what was read is no dataset: it is not want of memory, and the reader did not fail
+-- an error that says that what was read is no dataset: it is not lack of memory, and the reader did not fail
 abbrev pub IsFault : FileError → Type 0
 IsFault NoMemory = ⊥
 IsFault (Failed number) = ⊥
 IsFault (File fault) = Unit {0}
 
--- an error that is told of such a text: its fault, beside want of memory and a reader that failed
-abbrev pub Tells : List (List (List ℕ)) → FileError → Type 0
-Tells rows NoMemory = Unit {0}
-Tells rows (Failed number) = Unit {0}
-Tells rows (File fault) = IsFaultOf rows fault
+-- an error that is told of such a text: its fault, beside lack of memory and a reader that failed
+abbrev pub Reports : List (List (List ℕ)) → FileError → Type 0
+Reports rows NoMemory = Unit {0}
+Reports rows (Failed number) = Unit {0}
+Reports rows (File fault) = IsFaultOf rows fault

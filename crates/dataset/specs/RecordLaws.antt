@@ -5,7 +5,7 @@ use Rattle.dataset.specs.Records.{AreRecords}
 use Rattle.dataset.specs.Ranges.{InRange}
 
 -- different tables have different records
-abbrev pub RecordsTellTables : Type 0
-RecordsTellTables =
+abbrev pub RecordsReportTables : Type 0
+RecordsReportTables =
     (t u : Database) → IsWithinScale t → IsWithinScale u → InRange t → InRange u
     → (rows : List (List (List ℕ))) → AreRecords t rows → AreRecords u rows → t ≡ u

@@ -14,8 +14,8 @@ use Rattle.dataset.specs.declared.loader.Loader.{Loader}
 use Rattle.dataset.specs.declared.loader.Taken.{Taken}
 use Rattle.dataset.specs.declared.loader.Taken.TheVariants.{Row, End}
 use Rattle.dataset.specs.Columns.{Sizes, Table, Of, fields_fault, kind_fault, letter, sizes}
-use Rattle.files.specs.FirstFault.{TellsKind, behind_end, fault_at}
-use Rattle.dataset.specs.FirstFault.{first_fault, is_end, rows_fault, told_header}
+use Rattle.files.specs.FirstFault.{ReportsKind, behind_end, fault_at}
+use Rattle.dataset.specs.FirstFault.{first_fault, is_end, rows_fault, reported_header}
 use Rattle.dataset.specs.Loading.{HasLoaded}
 use Rattle.dataset.specs.Order.{place_numbers}
 use Rattle.dataset.specs.Ranges.{InRange}
@@ -49,14 +49,14 @@ pub record IsTakenAs (taken : Taken) (l m : Loader) (old new : Fields) : Type 0 
 
 -- a header was read: as that of a scale, or with its fault
 abbrev pub IsHeaderAs : Result Scale FaultKind → List (List ℕ) → Type 0
-IsHeaderAs (Ok scale) fields = told_header fields ≡ None
-IsHeaderAs (Err kind) fields = told_header fields ≡ Some kind
+IsHeaderAs (Ok scale) fields = reported_header fields ≡ None
+IsHeaderAs (Err kind) fields = reported_header fields ≡ Some kind
 
 -- the record of that number was read: it has no fault, or it has the one that is told
 abbrev pub IsReadAs : Result Taken FileError → Loader → List (List ℕ) → ℕ → Type 0
 IsReadAs (Ok taken) l fields number = fields_fault (sizes l.scale) (place_numbers l.last) (table_counts l.rows) fields ≡ None
 IsReadAs (Err error) l fields number =
-    TellsKind error (fields_fault (sizes l.scale) (place_numbers l.last) (table_counts l.rows) fields) number
+    ReportsKind error (fields_fault (sizes l.scale) (place_numbers l.last) (table_counts l.rows) fields) number
 
 -- of all these records the end record was read, and more may be left
 pub record ReachesEnd {R : Type 0} (remaining : R → Option (List ℕ)) (scale : Sizes) (read rows : List (List (List ℕ))) (l : Loader) (r : Records R) : Type 0 where
@@ -86,8 +86,8 @@ HasReadNoTables l =
     → IsWithinScale t → InRange t → HasLoaded l read → AreRecords t (read ++ end ∷ []) → ⊥
 
 -- an error after the end record, which has that number: more records are left, or a rule of the scale is broken
-abbrev pub TellsEnd : FileError → Loader → List (List (List ℕ)) → ℕ → Type 0
-TellsEnd NoMemory l more number = Unit {0}
-TellsEnd (Failed at) l more number = Unit {0}
-TellsEnd (File fault) l more number =
+abbrev pub ReportsEnd : FileError → Loader → List (List (List ℕ)) → ℕ → Type 0
+ReportsEnd NoMemory l more number = Unit {0}
+ReportsEnd (Failed at) l more number = Unit {0}
+ReportsEnd (File fault) l more number =
     (behind_end number more ≡ Some fault) ⊎ ((more ≡ []) × (fault ≡ fault_at ScaleBroken number) × HasReadNoTables l)

@@ -3,7 +3,7 @@ ghost use Rattle.files.specs.Taken.{Takes};
 ghost use Rattle.dataset.specs.Records.{AreSpelt, Number};
 ghost use Rattle.dataset.specs.Writing.{Adds, count_fields, row_counts, table_counts};
 ghost use Rattle.files.specs.Columns.{take_columns, Count};
-ghost use Rattle.files.specs.FieldRead.{taking};
+ghost use Rattle.files.specs.FieldRead.{fields_view};
 
 use crate::histories;
 use files::{FaultKind, Fields, NewRecord};
@@ -12,7 +12,7 @@ use schema::{HistoryList, NoMemory, TableRows};
 /// Takes the counts of an end record, from its second field on; `WrongCount` where one is not that of
 /// the rows read.
 pub fn check(fields: &mut Fields, rows: &TableRows)
-    ensures columns { sum (map length rows.now.histories.items) < 2 ^ 64 → taking fields.new ≡ take_columns (map (λ count. Count count) (table_counts rows.now)) (taking fields.old) }
+    ensures columns { sum (map length rows.now.histories.items) < 2 ^ 64 → fields_view fields.new ≡ take_columns (map (λ count. Count count) (table_counts rows.now)) (fields_view fields.old) }
     ensures taken { Takes fields.old fields.new (AreSpelt (row_counts rows.now)) }
 {
     fields.expect_count(rows.items.len() as u64);
@@ -28,7 +28,7 @@ pub fn check(fields: &mut Fields, rows: &TableRows)
 
 // Takes the count of HISTORY. A field can't have the number of more payments than a `u64` counts.
 fn check_payments(fields: &mut Fields, lists: &[HistoryList])
-    ensures columns { sum (map length lists.now) < 2 ^ 64 → taking fields.new ≡ take_columns (Count (sum (map length lists.now)) ∷ []) (taking fields.old) }
+    ensures columns { sum (map length lists.now) < 2 ^ 64 → fields_view fields.new ≡ take_columns (Count (sum (map length lists.now)) ∷ []) (fields_view fields.old) }
     ensures taken { Takes fields.old fields.new (AreSpelt (Number (sum (map length lists.now)) ∷ [])) }
 {
     match u64::try_from(histories::count(lists)) {

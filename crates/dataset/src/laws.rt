@@ -1,6 +1,6 @@
 //! Laws of a dataset's records: functions that change nothing, and are proved.
 ghost use Rattle.std.specs.Prelude.{◌≡◌, ℕ, List};
-ghost use Rattle.dataset.specs.RecordLaws.{RecordsTellTables};
+ghost use Rattle.dataset.specs.RecordLaws.{RecordsReportTables};
 ghost use Rattle.dataset.specs.Records.{AreRecords};
 
 use crate::columns_are_in_range;
@@ -9,11 +9,11 @@ use schema::Tables;
 /// Different tables have different records, where they are within their scale and their columns within
 /// their ranges.
 pub fn different_tables_have_different_records()
-    ensures { RecordsTellTables }
+    ensures { RecordsReportTables }
 {}
 
 /// Tables with the same records are equal, whichever tables these are.
-pub fn records_tell_tables(one: &Tables, other: &Tables)
+pub fn records_report_tables(one: &Tables, other: &Tables)
     ensures { (rows : List (List (List ℕ))) → AreRecords one.now rows → AreRecords other.now rows → one.now ≡ other.now }
 {
     columns_are_in_range(one);

@@ -5,9 +5,9 @@ ghost use Rattle.files.specs.Failure.{IsOfText};
 ghost use Rattle.files.specs.Place.{input, HasRead, HasLeft, IsCsv, record_fields, record_number};
 ghost use Rattle.dataset.specs.Ranges.{InRange};
 ghost use Rattle.dataset.specs.Columns.{sizes};
-ghost use Rattle.dataset.specs.FirstFault.{IsFault, Tells, first_fault, header_first, rows_fault};
-ghost use Rattle.dataset.specs.TakenAs.{BeginsDataset, IsDone, IsReadAs, ReachesEnd, TellsEnd};
-ghost use Rattle.files.specs.FirstFault.{TellsFault};
+ghost use Rattle.dataset.specs.FirstFault.{IsFault, Reports, first_fault, header_first, rows_fault};
+ghost use Rattle.dataset.specs.TakenAs.{BeginsDataset, IsDone, IsReadAs, ReachesEnd, ReportsEnd};
+ghost use Rattle.files.specs.FirstFault.{ReportsFault};
 ghost use Rattle.dataset.specs.Loading.{HasLoaded, HasEnded};
 ghost use Rattle.dataset.specs.Records.{AreRecords, AreSpelt, header_fields};
 ghost use Rattle.dataset.specs.FirstRecord.{BeginsWith};
@@ -26,14 +26,14 @@ use std::alloc::Global;
 /// file was read, and named at the end record.
 ///
 /// `NoMemory` comes where there is none for a record or for the rows; `Failed` comes where a read of `source`
-/// fails, with the number of the record under way, and never where none does. Of the text neither says
+/// fails, with the number of the record in flight, and never where none does. Of the text neither says
 /// anything, and nothing else is given then either. After an error it is not said how far `source` was read.
 /// Memory is taken row by row; by the numbers of the header only for an empty list of payments for each
 /// district, of which there are at most 640.
 pub fn read<R: Input + Drop>(alloc: Global, source: R) -> Result<Tables, FileError>
     ensures tables { IfOk result (λ tables. (text : List ℕ) → R.remaining source ≡ Some text → (rows : List (List (List ℕ))) × IsCsv text rows × AreRecords tables rows) }
     ensures first { (text : List ℕ) (rows : List (List (List ℕ))) → R.remaining source ≡ Some text → IsCsv text rows → length rows < 2 ^ 64 - 1
-        → MatchResult result (λ _. first_fault rows ≡ None) (λ error. Tells rows error) }
+        → MatchResult result (λ _. first_fault rows ≡ None) (λ error. Reports rows error) }
     ensures fault { IfErr result (λ error. IsFault error → (text : List ℕ) → R.remaining source ≡ Some text → (rows : List (List (List ℕ))) → IsCsv text rows → length rows < 2 ^ 64 - 1
         → (t : Database) → IsWithinScale t → InRange t → AreRecords t rows → ⊥) }
     ensures lasts { R.lasts source → IfErr result IsOfText }
@@ -54,7 +54,7 @@ pub fn read<R: Input + Drop>(alloc: Global, source: R) -> Result<Tables, FileErr
 /// `source` fails, and never where none does. Of the text neither says anything, and nothing is given then. It
 /// is not said how far `source` was read.
 pub fn read_scale<R: Input + Drop>(alloc: Global, source: R) -> Result<Scale, FileError>
-    ensures first { (text : List ℕ) (rows : List (List (List ℕ))) → R.remaining source ≡ Some text → IsCsv text rows → IfErr result (λ error. TellsFault error (first_fault rows)) }
+    ensures first { (text : List ℕ) (rows : List (List (List ℕ))) → R.remaining source ≡ Some text → IsCsv text rows → IfErr result (λ error. ReportsFault error (first_fault rows)) }
     ensures scale { IfOk result (λ scale. (text : List ℕ) → R.remaining source ≡ Some text → (header : List (List ℕ)) × AreSpelt (header_fields scale) header × BeginsWith text header) }
     ensures fault { IfErr result (λ error. IsFault error → (text : List ℕ) → R.remaining source ≡ Some text
         → (s : Scale) (header : List (List ℕ)) (rows : List (List (List ℕ))) → AreSpelt (header_fields s) header → IsCsv text (header ∷ rows) → ⊥) }
@@ -67,7 +67,7 @@ pub fn read_scale<R: Input + Drop>(alloc: Global, source: R) -> Result<Scale, Fi
 // The scale of the first record, which is the header.
 fn read_header<R: Input + Drop>(records: &mut Records<R>) -> Result<Scale, FileError>
     ensures first { (rows : List (List (List ℕ))) → record_number records.old ≡ 0 → HasLeft R.remaining rows records.old
-        → MatchResult result (λ scale. BeginsDataset R.remaining scale rows records.new) (λ error. TellsFault error (header_first rows)) }
+        → MatchResult result (λ scale. BeginsDataset R.remaining scale rows records.new) (λ error. ReportsFault error (header_first rows)) }
     ensures read { IfOk result (λ scale. (text : List ℕ) → HasRead R.remaining text [] records.old
         → (header : List (List ℕ)) × AreSpelt (header_fields scale) header × HasRead R.remaining text (header ∷ []) records.new) }
     ensures lasts { R.lasts (input records.old) → MatchResult result (λ _. R.lasts (input records.new)) IsOfText }
@@ -81,13 +81,13 @@ fn read_header<R: Input + Drop>(records: &mut Records<R>) -> Result<Scale, FileE
     }
 }
 
-// Takes the records up to the end record, which is then under way.
+// Takes the records up to the end record, which is then in flight.
 fn read_rows<R: Input + Drop>(
     records: &mut Records<R>,
     loader: &mut Loader,
 ) -> Result<(), FileError>
     ensures first { (read rows : List (List (List ℕ))) → length read + length rows < 2 ^ 64 - 1 → HasLoaded loader.old read → record_number records.old ≡ length read → HasLeft R.remaining rows records.old
-        → MatchResult result (λ _. ReachesEnd R.remaining (sizes loader.old.scale) read rows loader.new records.new) (λ error. TellsFault error (rows_fault (sizes loader.old.scale) read rows)) }
+        → MatchResult result (λ _. ReachesEnd R.remaining (sizes loader.old.scale) read rows loader.new records.new) (λ error. ReportsFault error (rows_fault (sizes loader.old.scale) read rows)) }
     ensures read { OnOk result ((text : List ℕ) (read : List (List (List ℕ))) → HasRead R.remaining text read records.old → HasLoaded loader.old read
         → HasEnded R.remaining text loader.new records.new) }
     ensures lasts { R.lasts (input records.old) → MatchResult result (λ _. R.lasts (input records.new)) IsOfText }
@@ -104,7 +104,7 @@ fn read_rows<R: Input + Drop>(
     Err(records.fault(FaultKind::NoEnd))
 }
 
-// Takes the record under way.
+// Takes the record in flight.
 fn read_record<R: Input + Drop>(
     records: &Records<R>,
     loader: &mut Loader,
@@ -125,7 +125,7 @@ fn read_record<R: Input + Drop>(
 fn finish<R: Input + Drop>(mut records: Records<R>, loader: Loader) -> Result<Tables, FileError>
     ensures none_left { OnOk result ((more : List (List (List ℕ))) → HasLeft R.remaining more records → more ≡ []) }
     ensures first { IfErr result (λ error. (more : List (List (List ℕ))) → HasLeft R.remaining more records → record_number records < 2 ^ 64 - 1
-        → TellsEnd error loader more (record_number records)) }
+        → ReportsEnd error loader more (record_number records)) }
     ensures tables { IfOk result (λ tables. (text : List ℕ) → HasEnded R.remaining text loader records → (rows : List (List (List ℕ))) × IsCsv text rows × AreRecords tables rows) }
     ensures lasts { R.lasts (input records) → IfErr result IsOfText }
 {

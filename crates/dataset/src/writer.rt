@@ -17,7 +17,7 @@ use std::io::Write;
 /// Writes the dataset of the tables to the sink.
 ///
 /// `NoMemory` comes where there is none for a record, and `Failed` where the sink fails, with the number of
-/// the record under way; since records are gathered before they are sent, what was not taken may be an
+/// the record in flight; since records are gathered before they are sent, what was not taken may be an
 /// earlier one. After an error the sink has got a beginning of the text.
 pub fn write<W: Write>(alloc: Global, sink: &mut W, tables: &Tables) -> Result<(), FileError>
     ensures written { OnOk result (Writes (W.contents sink.old) (W.contents sink.new) (AreRecords tables.now)) }

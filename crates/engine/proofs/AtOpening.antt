@@ -1,4 +1,4 @@
--- An engine is opened: the log's seats tell what the tables have, nobody waits for the slices that were cut, and each place has its course.
+-- An engine is opened: the log's seats tell what the tables have, nobody waits for the slices that were cut, and each place has its agreed phase.
 use Rattle.std.proofs.Common.{◌≡◌, ℕ, suc, ◌+◌, ◌<◌, List, [], ◌∷◌, length, map, get_or, refl, sym, ap, subst, ◌∙◌, arith}
 use Rattle.std.specs.Prelude.{All}
 use Rattle.std.proofs.lemmas.List.{get_or-map, get_or_default, length-map}
@@ -8,46 +8,46 @@ use Rattle.atomic_table.specs.Seated.{TableId}
 use Rattle.schema.specs.Database.{Database}
 use Rattle.partitions.specs.Parts.{part_of}
 use Rattle.groups.specs.Content.{content}
-use Rattle.tickets.specs.Boxes.{Boxed}
-use Rattle.tickets.specs.LogSeats.{Committed}
-use Rattle.tickets.specs.Openings.{Opened, AreNamed, box_beside, contents_committed, contents_opened}
+use Rattle.tickets.specs.Boxes.{TicketBoxView}
+use Rattle.tickets.specs.LogSeats.{CommittedGroup}
+use Rattle.tickets.specs.Openings.{OpenedGroup, AreNamed, box_beside, contents_committed, contents_opened}
 use Rattle.tickets.specs.Places.{AreInPlace, place_of}
 use Rattle.tickets.proofs.OnePlace.{place_inside}
 use Rattle.slices.specs.Openings.{AreOpenedFor, IsBoxOf}
-use Rattle.slices.specs.Sliced.{at_rest}
+use Rattle.slices.specs.SliceView.{at_rest}
 use Rattle.slices.proofs.Opened.{opened_groups_have_boxes}
-use Rattle.engine.specs.Opening.{AreCoursesFrom, IsToOpen}
+use Rattle.engine.specs.Opening.{AreAgreedPhasesFrom, IsToOpen}
 
 -- the log's seats tell what the tables have
-pub seats_tell : (t : Database) (openings : List Opened) (seats : List Committed) → AreOpenedFor t openings → AreInPlace t.scale.warehouses seats → contents_committed seats ≡ contents_opened openings
-    → (place : ℕ) (d : Committed) → place < length seats → content t (get_or seats place d).group ≡ (get_or seats place d).content
-seats_tell t openings seats opened in_place same place d small =
+pub seats_record : (t : Database) (openings : List OpenedGroup) (seats : List CommittedGroup) → AreOpenedFor t openings → AreInPlace t.scale.warehouses seats → contents_committed seats ≡ contents_opened openings
+    → (place : ℕ) (d : CommittedGroup) → place < length seats → content t (get_or seats place d).group ≡ (get_or seats place d).content
+seats_record t openings seats opened in_place same place d small =
     let boxes = opened_groups_have_boxes t openings seats opened in_place same in
     let long : length (map box_beside seats) ≡ length seats = length-map seats box_beside in
     let is : IsBoxOf t place (get_or (map box_beside seats) place (box_beside d)) = boxes.each place (box_beside d) (omega (arith, small, long)) in
     let here : IsBoxOf t place (box_beside (get_or seats place d)) = subst (IsBoxOf t place) (get_or-map box_beside seats place d (box_beside d) small) is in
-    sym (ap (λ (b : Boxed). b.left) here.has)
+    sym (ap (λ (b : TicketBoxView). b.left) here.has)
 
 -- slices that were just cut have what all share, and nobody waits for them
 pub cut_to_open : (t : Database) (ids : List ℕ) → All (IsToOpen t) (map at_rest (map (part_of t) ids))
 cut_to_open t [] = All-nil (IsToOpen t)
 cut_to_open t (id ∷ ids) = All-cons (IsToOpen t) (at_rest (part_of t id)) (map at_rest (map (part_of t) ids)) (record { shared_is = refl; nobody = refl }) (cut_to_open t ids)
 
--- the first of these courses is that of its slot, and so are the others
-pub courses_next : (course : ℕ → TableId) (first : ℕ) (table : TableId) (tables : List TableId) → AreCoursesFrom course first (table ∷ tables) → (course first ≡ table) × AreCoursesFrom course (first + 1) tables
-courses_next course first table tables h = (
-  (let at : first + 0 ≡ first = omega arith in ap course (sym at) ∙ h 0 table refl),
-  λ k other found. let at : first + 1 + k ≡ first + suc k = omega arith in ap course at ∙ h (suc k) other found,
+-- the first of these agreed phases is that of its slot, and so are the others
+pub agreed_phases_next : (agreed_phase : ℕ → TableId) (first : ℕ) (table : TableId) (tables : List TableId) → AreAgreedPhasesFrom agreed_phase first (table ∷ tables) → (agreed_phase first ≡ table) × AreAgreedPhasesFrom agreed_phase (first + 1) tables
+agreed_phases_next agreed_phase first table tables h = (
+  (let at : first + 0 ≡ first = omega arith in ap agreed_phase (sym at) ∙ h 0 table refl),
+  λ k other found. let at : first + 1 + k ≡ first + suc k = omega arith in ap agreed_phase at ∙ h (suc k) other found,
 )
 
 -- the names of the groups' agreements are picked from what was opened for their places
-pub agreements_named : (t : Database) (openings : List Opened) (d : Opened) → AreOpenedFor t openings
+pub agreements_named : (t : Database) (openings : List OpenedGroup) (d : OpenedGroup) → AreOpenedFor t openings
     → AreNamed t.scale.warehouses (λ group. (get_or openings (place_of group) d).committed) (λ group. (get_or openings (place_of group) d).work) openings
 agreements_named t openings d opened = λ group e known.
     let inside : place_of group < length openings = omega (arith, place_inside t.scale.warehouses group known, opened.all_there) in
     let same : get_or openings (place_of group) d ≡ get_or openings (place_of group) e = get_or_default openings (place_of group) d e inside in
-    (ap (λ (o : Opened). o.committed) same, ap (λ (o : Opened). o.work) same)
+    (ap (λ (o : OpenedGroup). o.committed) same, ap (λ (o : OpenedGroup). o.work) same)
 
--- and those of the courses from what was opened for their slots
-pub courses_named : (tables : List TableId) (d : TableId) → AreCoursesFrom (λ slot. get_or tables slot d) 0 tables
-courses_named tables d = λ k table found. let at : 0 + k ≡ k = omega arith in ap (λ slot. get_or tables slot d) at ∙ get_or_from_slice_get tables k table d found
+-- and those of the agreed phases from what was opened for their slots
+pub agreed_phases_named : (tables : List TableId) (d : TableId) → AreAgreedPhasesFrom (λ slot. get_or tables slot d) 0 tables
+agreed_phases_named tables d = λ k table found. let at : 0 + k ≡ k = omega arith in ap (λ slot. get_or tables slot d) at ∙ get_or_from_slice_get tables k table d found

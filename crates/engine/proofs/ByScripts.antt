@@ -1,4 +1,4 @@
--- Where no session asked by hand, what came of it all is the outcome of the scripts.
+-- Where no session asked interactively, what came of it all is the outcome of the scripts.
 use Rattle.std.proofs.Common.{◌≡◌, List, [], ◌∷◌, ◌++◌, length, Result, Ok, Err, refl, ap, subst, ◌∙◌, arith}
 use Rattle.std.specs.Prelude.{IfOk}
 use Rattle.std.proofs.lemmas.List.{append-nil}
@@ -19,6 +19,6 @@ of_scripts opening scripts (Ok outcome) together none =
     subst (λ (all : List (List Request)). IsOutcome opening all outcome.log.items outcome.tables outcome.answers.items) (ap (λ (rest : List (List Request)). scripts ++ rest) (nothing outcome.asked.items none) ∙ append-nil scripts) together
 of_scripts opening scripts (Err fault) together none = tt
 
-pub none_by_hand : (served : Result Outcome ServeFault) → IfOk served (λ outcome. length outcome.asked.items ≡ 0) → IfOk served (λ outcome. outcome.asked.items ≡ [])
-none_by_hand (Ok outcome) none = nothing outcome.asked.items none
-none_by_hand (Err fault) none = tt
+pub none_interactive : (served : Result Outcome ServeFault) → IfOk served (λ outcome. length outcome.asked.items ≡ 0) → IfOk served (λ outcome. outcome.asked.items ≡ [])
+none_interactive (Ok outcome) none = nothing outcome.asked.items none
+none_interactive (Err fault) none = tt

@@ -4,7 +4,7 @@ use Rattle.std.specs.List.{slice_get, slice_index_or, All}
 use Rattle.std.proofs.lemmas.List.Elements.{All-map}
 use Rattle.std.proofs.lemmas.Option.{slice_get_within}
 use Rattle.schema.specs.Database.{Database, IsWithinScale}
-use Rattle.partitions.specs.Parts.{Shared, shared_of}
+use Rattle.partitions.specs.Parts.{SharedTables, shared_of}
 use Rattle.requests.specs.declared.request.Request.{Request}
 use Rattle.requests.specs.declared.refusal.Refusal.{Refusal}
 use Rattle.requests.specs.Check.{IsAccepted}
@@ -12,7 +12,7 @@ use Rattle.machine.specs.Machine.{replies, tables_after}
 use Rattle.commit_log.specs.declared.entry.Entry.{Entry}
 use Rattle.commit_log.specs.Items.{items_of}
 use Rattle.commit_log.specs.Log.{replies_of, requests_of}
-use Rattle.slices.specs.Sliced.{Sliced, joined}
+use Rattle.slices.specs.SliceView.{SliceView, joined}
 use Rattle.engine.specs.Closing.{AreSettled}
 use Rattle.engine.specs.Outcome.{IsOutcome}
 use Rattle.engine.specs.Served.{ServedEach}
@@ -29,7 +29,7 @@ of_all P xs n x all at = subst P (stands_at xs n x at) (all n x (slice_get_withi
     stands_at (z ∷ ys) (suc k) y h = stands_at ys k y h
 
 -- The log is as it was when the executors had ended, however often it was looked at since.
-pub closed : (opening : Database) (scripts : List (List Request)) (answers : List (List (Result ℕ Refusal))) (ended served idle settled entries : List Entry) (catalog : Shared) (slices : List Sliced) (tables : Database)
+pub closed : (opening : Database) (scripts : List (List Request)) (answers : List (List (Result ℕ Refusal))) (ended served idle settled entries : List Entry) (catalog : SharedTables) (slices : List SliceView) (tables : Database)
     → catalog ≡ shared_of opening → IsWithinScale opening
     → served ≡ ended → idle ≡ served → settled ≡ idle → entries ≡ settled
     → length answers ≡ length scripts → ServedEach opening.scale scripts ended answers
@@ -39,7 +39,7 @@ pub closed : (opening : Database) (scripts : List (List Request)) (answers : Lis
     → IsOutcome opening scripts entries tables answers
 closed opening scripts answers ended served idle settled entries catalog slices tables catalog_is within_opening same_served same_idle same_settled entries_are count each none set made within_tables replied accepted sessions =
     let back : ended ≡ settled = sym (same_settled ∙ same_idle ∙ same_served) in
-    let whole_is : tables ≡ (joined (shared_of opening) slices).tables = made ∙ ap (λ (c : Shared). (joined c slices).tables) catalog_is in
+    let whole_is : tables ≡ (joined (shared_of opening) slices).tables = made ∙ ap (λ (c : SharedTables). (joined c slices).tables) catalog_is in
     let set_now : AreSettled opening (tables_after opening (requests_of settled)) slices = subst (λ (l : List Entry). AreSettled opening (tables_after opening (requests_of l)) slices) (sym same_settled) set in
     let asked : All (IsAccepted opening.scale) (requests_of settled) = All-map (IsAccepted opening.scale) (λ (e : Entry). e.request) settled accepted in
     let last : tables ≡ tables_after opening (requests_of settled) =

@@ -3,7 +3,7 @@ pub mod Together
 pub mod OneMoreRequest
 pub mod Answered
 pub mod Asked
-pub mod ByHand
+pub mod Interactive
 pub mod ByScripts
 pub mod Nowhere
 pub mod Settled

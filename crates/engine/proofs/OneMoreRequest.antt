@@ -63,7 +63,7 @@ evenly xs x ys y even = length-append xs (x ∷ []) ∙ ap (λ n. n + 1) even �
 pub served_begun : (scale : Scale) (reached : ℕ) → Served scale [] [] [] reached
 served_begun scale reached = record {
   answered = refl;
-  each = λ k request answer asked told. absurd cc;
+  each = λ k request answer asked recorded. absurd cc;
   logged = λ x c. let low = c.1 in absurd (omega arith);
   ascending = λ j k place later below first second. absurd cc;
 }
@@ -77,14 +77,14 @@ done_more scale script answers mine reached further seen place request reply h s
     let even = h.answered in
     record {
       answered = evenly answers (Ok place) script request even;
-      each = λ k r a asked told.
+      each = λ k r a asked recorded.
           by_end (IsAnswerTo scale further (mine ++ x ∷ []) k r a) script request r k asked
-          (λ k_is r_is. by_end (IsAnswerTo scale further (mine ++ x ∷ []) k r a) answers (Ok place) a k told
+          (λ k_is r_is. by_end (IsAnswerTo scale further (mine ++ x ∷ []) k r a) answers (Ok place) a k recorded
           (λ _ a_is. subst (λ n. IsAnswerTo scale further (mine ++ x ∷ []) n r a) (sym k_is)
           (subst (λ q. IsAnswerTo scale further (mine ++ x ∷ []) (length script) q a) r_is
           (subst (IsAnswerTo scale further (mine ++ x ∷ []) (length script) request) a_is so)))
           (λ low _. absurd (omega arith)))
-          (λ low before. by_end (IsAnswerTo scale further (mine ++ x ∷ []) k r a) answers (Ok place) a k told
+          (λ low before. by_end (IsAnswerTo scale further (mine ++ x ∷ []) k r a) answers (Ok place) a k recorded
           (λ k_is _. absurd (omega arith))
           (λ _ old. answers_still scale reached further mine (x ∷ []) k r a grown (h.each k r a before old)));
       logged = λ y c.
@@ -110,14 +110,14 @@ refused_more scale script answers mine reached further request refusal h grown s
     let even = h.answered in
     record {
       answered = evenly answers (Err refusal) script request even;
-      each = λ k r a asked told.
+      each = λ k r a asked recorded.
           by_end (IsAnswerTo scale further mine k r a) script request r k asked
-          (λ k_is r_is. by_end (IsAnswerTo scale further mine k r a) answers (Err refusal) a k told
+          (λ k_is r_is. by_end (IsAnswerTo scale further mine k r a) answers (Err refusal) a k recorded
           (λ _ a_is. subst (λ n. IsAnswerTo scale further mine n r a) (sym k_is)
           (subst (λ q. IsAnswerTo scale further mine (length script) q a) r_is
           (subst (IsAnswerTo scale further mine (length script) request) a_is so)))
           (λ low _. absurd (omega arith)))
-          (λ low before. by_end (IsAnswerTo scale further mine k r a) answers (Err refusal) a k told
+          (λ low before. by_end (IsAnswerTo scale further mine k r a) answers (Err refusal) a k recorded
           (λ k_is _. absurd (omega arith))
           (λ _ old. answers_further scale reached further mine k r a grown (h.each k r a before old)));
       logged = λ y c. stays answers (Err refusal) (Ok y.place) y.number (h.logged y c);
@@ -133,14 +133,14 @@ pub seen_still : (answers : List (Result ℕ Refusal)) (refusal : Refusal) (befo
 seen_still answers refusal before after same saw k there at =
     by_end (there < after) answers (Err refusal) (Ok there) k at
     (λ _ is. absurd cc)
-    (λ _ told. let low : there < before = saw k there told in omega arith)
+    (λ _ recorded. let low : there < before = saw k there recorded in omega arith)
 
 -- What a session was served, when the log has come to reach further.
 pub served_further : (scale : Scale) (script : List Request) (answers : List (Result ℕ Refusal)) (mine : List Item) (reached further : ℕ) → reached ≤ further
     → Served scale script answers mine reached → Served scale script answers mine further
 served_further scale script answers mine reached further grown h = record {
   answered = h.answered;
-  each = λ k r a asked told. answers_further scale reached further mine k r a grown (h.each k r a asked told);
+  each = λ k r a asked recorded. answers_further scale reached further mine k r a grown (h.each k r a asked recorded);
   logged = h.logged;
   ascending = h.ascending;
 }

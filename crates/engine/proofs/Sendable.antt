@@ -9,15 +9,15 @@ use Rattle.queues.proofs.Sendable.{Taker-send, Sender-send}
 use Rattle.routing.proofs.Sendable.{SharedRouting-sync}
 use Rattle.requests.proofs.Sendable.{Request-send, Script-sync}
 use Rattle.commit_log.proofs.Sendable.{Log-send, Pass-send, SessionSeat-send}
-use Rattle.executor.proofs.Sendable.{Answer-send, Errand-send, GivenBack-send, Journey-send, Keeper-send, Phase-send, Post-send, Posts-send, Told-send}
-use Rattle.executor.specs.contracts.post.Post as Post
+use Rattle.executor.proofs.Sendable.{Answer-send, Act-send, GivenBack-send, Flow-send, PhaseOwner-send, Phase-send, CountedShard-send, ExecutorShards-send, SessionAnswer-send}
+use Rattle.executor.specs.contracts.shard.CountedShard as CountedShard
 use Rattle.tickets.specs.declared.group_names.GroupNames.{Ghosts as GroupNames}
 use Rattle.commit_log.specs.declared.log_names.LogNames.{Ghosts as LogNames}
-use Rattle.executor.specs.declared.names.CourseNames.{Ghosts as CourseNames}
+use Rattle.executor.specs.declared.names.PhaseNames.{Ghosts as PhaseNames}
 use Rattle.engine.specs.declared.names.ServeNames.{Ghosts as ServeNames}
 use Rattle.engine.specs.contracts.asking.Ready as Ready
 use Rattle.engine.specs.contracts.asking.Asked as Asked
-use Rattle.engine.specs.contracts.bed.Bed as Bed
+use Rattle.engine.specs.contracts.parking.Parking as Parking
 use Rattle.engine.specs.contracts.engine.Engine as Engine
 use Rattle.engine.specs.contracts.serving.Crew as Crew
 use Rattle.engine.specs.contracts.belongings.Executor as Executor
@@ -28,8 +28,8 @@ use Rattle.engine.specs.contracts.place.Place as Place
 use Rattle.engine.specs.contracts.place.Stage as Stage
 use Rattle.engine.specs.contracts.session.Session as Session
 
-Bed-sync : IsSync Bed.the_row
-Bed-sync = declared_sync Bed.the_type (search (crosses, sendable) depth 20, (search (crosses, sendable) depth 20, tt))
+Parking-sync : IsSync Parking.the_row
+Parking-sync = declared_sync Parking.the_type (search (crosses, sendable) depth 20, (search (crosses, sendable) depth 20, tt))
 
 Turn-send : IsSend Turn.the_row
 Turn-send = declared_send Turn.the_type (search sendable depth 20, (search sendable depth 20, tt))
@@ -46,22 +46,22 @@ Moves-sync a = declared_sync (Moves.the_type a) (
   ),
 )
 
-module _ (J : RattleType) (course : CourseNames J.Denot) (log : LogNames J.Denot) (groups : GroupNames J.Denot) (s : IsSend J) where
-  Message-send : IsSend (Message.the_row J course log groups)
-  Message-send = variants_send (Message.enum J course log groups) (
+module _ (J : RattleType) (agreed_phase : PhaseNames J.Denot) (log : LogNames J.Denot) (groups : GroupNames J.Denot) (s : IsSend J) where
+  Message-send : IsSend (Message.the_row J agreed_phase log groups)
+  Message-send = variants_send (Message.enum J agreed_phase log groups) (
     (search sendable depth 20, tt),
     (
       (search sendable depth 20, tt),
       (
-        (Errand-send J course log groups s, tt),
+        (Act-send J agreed_phase log groups s, tt),
         (
-          (GivenBack-send J course log groups s, tt),
+          (GivenBack-send J agreed_phase log groups s, tt),
           (
             (search sendable depth 20, tt),
             (
               (search sendable depth 20, (search sendable depth 20, tt)),
               (
-                (Box-send (Post.the_row J course log groups) (Post-send J course log groups s), tt),
+                (Box-send (CountedShard.the_row J agreed_phase log groups) (CountedShard-send J agreed_phase log groups s), tt),
                 tt,
               ),
             ),
@@ -71,18 +71,18 @@ module _ (J : RattleType) (course : CourseNames J.Denot) (log : LogNames J.Denot
     ),
   )
 
-  Outlet-send : IsSend (Sender.the_row (Message.the_row J course log groups))
-  Outlet-send = Sender-send (Message.the_row J course log groups) Message-send
+  Outlet-send : IsSend (Sender.the_row (Message.the_row J agreed_phase log groups))
+  Outlet-send = Sender-send (Message.the_row J agreed_phase log groups) Message-send
 
-  pub Executor-send : IsSend (Executor.the_row J course log groups)
-  Executor-send = declared_send (Executor.the_type J course log groups) (
+  pub Executor-send : IsSend (Executor.the_row J agreed_phase log groups)
+  Executor-send = declared_send (Executor.the_type J agreed_phase log groups) (
     search sendable depth 20,
     (
-      Posts-send J course log groups s,
+      ExecutorShards-send J agreed_phase log groups s,
       (
         search (Vec-send, sendable) depth 20,
         (
-          Taker-send (Message.the_row J course log groups) Message-send,
+          Taker-send (Message.the_row J agreed_phase log groups) Message-send,
           (
             search (Outlet-send, Vec-send, sendable) depth 20,
             (
@@ -113,9 +113,9 @@ module _ (J : RattleType) (course : CourseNames J.Denot) (log : LogNames J.Denot
     ),
   )
 
-  -- a session that asks by hand
-  pub Session-send : (serve : ServeNames J.Denot) → IsSend (Session.the_row J serve course log groups)
-  Session-send serve = view_send _ _ _ _ _ (declared_send (Session.TheInside.the_type J serve course log groups) (
+  -- a session that asks interactively
+  pub Session-send : (serve : ServeNames J.Denot) → IsSend (Session.the_row J serve agreed_phase log groups)
+  Session-send serve = view_send _ _ _ _ _ (declared_send (Session.TheInside.the_type J serve agreed_phase log groups) (
     SessionSeat-send J log s,
     (
       Pass-send J log s,
@@ -136,8 +136,8 @@ module _ (J : RattleType) (course : CourseNames J.Denot) (log : LogNames J.Denot
   ))
 
   module _ (a : NamedLft) (serve : ServeNames J.Denot) where
-    Ready-send : IsSend (Ready.the_row a J serve course log groups)
-    Ready-send = view_send _ _ _ _ _ (declared_send (Ready.TheInside.the_type a J serve course log groups) (
+    Ready-send : IsSend (Ready.the_row a J serve agreed_phase log groups)
+    Ready-send = view_send _ _ _ _ _ (declared_send (Ready.TheInside.the_type a J serve agreed_phase log groups) (
       search (Script-sync, sendable) depth 20,
       (
         SessionSeat-send J log s,
@@ -157,8 +157,8 @@ module _ (J : RattleType) (course : CourseNames J.Denot) (log : LogNames J.Denot
       ),
     ))
 
-    Asked-send : IsSend (Asked.the_row a J serve course log groups)
-    Asked-send = view_send _ _ _ _ _ (declared_send (Asked.TheInside.the_type a J serve course log groups) (
+    Asked-send : IsSend (Asked.the_row a J serve agreed_phase log groups)
+    Asked-send = view_send _ _ _ _ _ (declared_send (Asked.TheInside.the_type a J serve agreed_phase log groups) (
       search (Script-sync, sendable) depth 20,
       (
         SessionSeat-send J log s,
@@ -172,8 +172,8 @@ module _ (J : RattleType) (course : CourseNames J.Denot) (log : LogNames J.Denot
       ),
     ))
 
-    Stage-send : IsSend (Stage.the_row a J serve course log groups)
-    Stage-send = variants_send (Stage.enum a J serve course log groups) (
+    Stage-send : IsSend (Stage.the_row a J serve agreed_phase log groups)
+    Stage-send = variants_send (Stage.enum a J serve agreed_phase log groups) (
       (search (Ready-send, sendable) depth 20, tt),
       (
         (search (Asked-send, sendable) depth 20, tt),
@@ -182,11 +182,11 @@ module _ (J : RattleType) (course : CourseNames J.Denot) (log : LogNames J.Denot
           (
             tt,
             (
-              (search sendable depth 20, (Journey-send J course log groups s, tt)),
+              (search sendable depth 20, (Flow-send J agreed_phase log groups s, tt)),
               (
                 tt,
                 (
-                  (Told-send J course log groups s, tt),
+                  (SessionAnswer-send J agreed_phase log groups s, tt),
                   (
                     tt,
                     (
@@ -202,13 +202,13 @@ module _ (J : RattleType) (course : CourseNames J.Denot) (log : LogNames J.Denot
       ),
     )
 
-    Place-send : IsSend (Place.the_row a J serve course log groups)
-    Place-send = declared_send (Place.the_type a J serve course log groups) (
+    Place-send : IsSend (Place.the_row a J serve agreed_phase log groups)
+    Place-send = declared_send (Place.the_type a J serve agreed_phase log groups) (
       search (Stage-send, sendable) depth 20,
       (
         search (Phase-send, sendable) depth 20,
         (
-          search (Keeper-send, sendable) depth 20,
+          search (PhaseOwner-send, sendable) depth 20,
           (
             search sendable depth 20,
             (
@@ -221,8 +221,8 @@ module _ (J : RattleType) (course : CourseNames J.Denot) (log : LogNames J.Denot
     )
 
     module _ (G : RattleType) (y : IsSync G) where
-      pub Engine-sync : IsSync (Engine.the_row a J G serve course log groups)
-      Engine-sync = declared_sync (Engine.the_type a J G serve course log groups) (
+      pub Engine-sync : IsSync (Engine.the_row a J G serve agreed_phase log groups)
+      Engine-sync = declared_sync (Engine.the_type a J G serve agreed_phase log groups) (
         search sendable depth 40,
         (
           search (Script-sync, sendable) depth 20,
@@ -239,9 +239,9 @@ module _ (J : RattleType) (course : CourseNames J.Denot) (log : LogNames J.Denot
                     (
                       search (Place-send, crosses, sendable) depth 20,
                       (
-                        search (Bed-sync, Vec-sync, sendable) depth 20,
+                        search (Parking-sync, Vec-sync, sendable) depth 20,
                         (
-                          search (Bed-sync, Vec-sync, sendable) depth 20,
+                          search (Parking-sync, Vec-sync, sendable) depth 20,
                           (
                             search (crosses, sendable) depth 20,
                             (
@@ -264,8 +264,8 @@ module _ (J : RattleType) (course : CourseNames J.Denot) (log : LogNames J.Denot
       )
 
       module _ (e : NamedLft) (R : RattleType) (r : IsSync R) where
-        pub Crew-sync : IsSync (Crew.the_row e a J G R serve course log groups)
-        Crew-sync = declared_sync (Crew.the_type e a J G R serve course log groups) (
+        pub Crew-sync : IsSync (Crew.the_row e a J G R serve agreed_phase log groups)
+        Crew-sync = declared_sync (Crew.the_type e a J G R serve agreed_phase log groups) (
           search (r, sendable) depth 10,
           (
             search sendable depth 20,

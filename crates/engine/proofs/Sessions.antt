@@ -8,7 +8,7 @@ use Rattle.requests.specs.declared.request.Request.{Request}
 use Rattle.requests.specs.declared.refusal.Refusal.{Refusal}
 use Rattle.commit_log.specs.declared.entry.Entry.{Entry}
 use Rattle.commit_log.specs.Items.{items_of}
-use Rattle.commit_log.specs.Passing.{Passing, Seating, new_pass, new_seat}
+use Rattle.commit_log.specs.PassView.{PassView, SessionSeatView, new_pass, new_seat}
 use Rattle.engine.specs.Served.{Served, ServedEach}
 use Rattle.engine.specs.Sessions.{AreAskedFrom, AreNewFrom}
 use Rattle.engine.specs.declared.session.Left.{Left}
@@ -22,7 +22,7 @@ found (y ∷ ys) (suc n) x low is = found ys n x (omega arith) is
 
 -- ---- new sessions
 
-pub all_new : (lanes : List (Passing × Seating)) → ((k : ℕ) → k < 64 → slice_get lanes k ≡ Some (new_pass k, new_seat k)) → AreNewFrom 0 lanes
+pub all_new : (lanes : List (PassView × SessionSeatView)) → ((k : ℕ) → k < 64 → slice_get lanes k ≡ Some (new_pass k, new_seat k)) → AreNewFrom 0 lanes
 all_new lanes h k low =
     let at : k ≡ 0 + k = omega arith in
     subst (λ n. slice_get lanes k ≡ Some (new_pass n, new_seat n)) at (h k (omega arith))
@@ -31,14 +31,14 @@ only : {X : Type 0} (x y : X) → Some x ≡ Some y → x ≡ y
 only x y e = cc
 
 -- the first of new sessions is new, and so are the others
-pub new_next : (first : ℕ) (pass : Passing) (seat : Seating) (lanes : List (Passing × Seating)) → AreNewFrom first ((pass, seat) ∷ lanes) → first < 64
+pub new_next : (first : ℕ) (pass : PassView) (seat : SessionSeatView) (lanes : List (PassView × SessionSeatView)) → AreNewFrom first ((pass, seat) ∷ lanes) → first < 64
     → (pass ≡ new_pass first) × (seat ≡ new_seat first) × AreNewFrom (first + 1) lanes
 new_next first pass seat lanes h low =
     let at : first + 0 ≡ first = omega arith in
     let here : first + 0 < 64 = omega arith in
     let both = only (pass, seat) (new_pass (first + 0), new_seat (first + 0)) (h 0 here) in (
-      ap (λ (lane : Passing × Seating). lane.0) both ∙ ap new_pass at,
-      ap (λ (lane : Passing × Seating). lane.1) both ∙ ap new_seat at,
+      ap (λ (lane : PassView × SessionSeatView). lane.0) both ∙ ap new_pass at,
+      ap (λ (lane : PassView × SessionSeatView). lane.1) both ∙ ap new_seat at,
       λ k below.
           let there : first + suc k ≡ first + 1 + k = omega arith in
           let inside : first + suc k < 64 = omega arith in
@@ -46,10 +46,10 @@ new_next first pass seat lanes h low =
     )
 
 -- a new session that has logged just what stands of it has nothing there
-pub none_of : (session : ℕ) (pass : Passing) (before log : List Entry) → pass ≡ new_pass session → pass.mine ≡ items_of pass.session before → before ≡ log → items_of session log ≡ []
+pub none_of : (session : ℕ) (pass : PassView) (before log : List Entry) → pass ≡ new_pass session → pass.mine ≡ items_of pass.session before → before ≡ log → items_of session log ≡ []
 none_of session pass before log new mine same =
-    let whose : pass.session ≡ session = ap (λ (p : Passing). p.session) new in
-    let none : pass.mine ≡ [] = ap (λ (p : Passing). p.mine) new in
+    let whose : pass.session ≡ session = ap (λ (p : PassView). p.session) new in
+    let none : pass.mine ≡ [] = ap (λ (p : PassView). p.mine) new in
     sym (ap (λ n. items_of n before) whose ∙ ap (items_of session) same) ∙ sym mine ∙ none
 
 -- one session more of which nothing stands in the log
@@ -67,21 +67,21 @@ none_next first session entries before here s from up =
 -- ---- sessions that were served
 
 -- one script more that was served its answers
-pub each_next : (scale : Scale) (scripts : List (List Request)) (entries : List Entry) (answers after : List (List (Result ℕ Refusal))) (k : ℕ) (script : List Request) (told : List (Result ℕ Refusal))
+pub each_next : (scale : Scale) (scripts : List (List Request)) (entries : List Entry) (answers after : List (List (Result ℕ Refusal))) (k : ℕ) (script : List Request) (recorded : List (Result ℕ Refusal))
     → ServedEach scale scripts entries answers → length answers ≡ k → slice_get scripts k ≡ Some script
-    → Served scale script told (items_of k entries) (length entries) → after ≡ answers ++ told ∷ [] → ServedEach scale scripts entries after
-each_next scale scripts entries answers after k script told before count asked served pushed =
+    → Served scale script recorded (items_of k entries) (length entries) → after ≡ answers ++ recorded ∷ [] → ServedEach scale scripts entries after
+each_next scale scripts entries answers after k script recorded before count asked served pushed =
     subst (ServedEach scale scripts entries) (sym pushed)
-    (λ s asked_there told_there is_asked is_told.
-    by_end (Served scale asked_there told_there (items_of s entries) (length entries)) answers told told_there s is_told
-    (λ s_is told_is.
+    (λ s asked_there recorded_there is_asked is_recorded.
+    by_end (Served scale asked_there recorded_there (items_of s entries) (length entries)) answers recorded recorded_there s is_recorded
+    (λ s_is recorded_is.
     let at : k ≡ s = omega arith in
     let again : slice_get scripts k ≡ Some asked_there = ap (slice_get scripts) at ∙ is_asked in
     let script_is : script ≡ asked_there = cc in
-    subst (λ n. Served scale asked_there told_there (items_of n entries) (length entries)) at
-    (subst (λ a. Served scale asked_there a (items_of k entries) (length entries)) told_is
-    (subst (λ q. Served scale q told (items_of k entries) (length entries)) script_is served)))
-    (λ _ old. before s asked_there told_there is_asked old))
+    subst (λ n. Served scale asked_there recorded_there (items_of n entries) (length entries)) at
+    (subst (λ a. Served scale asked_there a (items_of k entries) (length entries)) recorded_is
+    (subst (λ q. Served scale q recorded (items_of k entries) (length entries)) script_is served)))
+    (λ _ old. before s asked_there recorded_there is_asked old))
 
 -- what holds of each item, by its place, and of one more
 pub each_pushed : {H : Type 0} (xs after : List H) (x : H) (n : ℕ) (P : ℕ → H → Type 0) → n ≡ length xs → after ≡ xs ++ x ∷ []
@@ -95,7 +95,7 @@ each_pushed xs after x n P count pushed before here k h at =
 pub one_longer : {X : Type 0} (xs after : List X) (x : X) (n : ℕ) → length xs ≡ n → after ≡ xs ++ x ∷ [] → length after ≡ n + 1
 one_longer xs after x n count pushed = ap length pushed ∙ (length-append xs (x ∷ []) ∙ ap (λ m. m + 1) count)
 
--- ---- sessions that asked by hand, which come after the scripts
+-- ---- sessions that asked interactively, which come after the scripts
 
 at_seam : {X : Type 0} (xs : List X) (y : X) (ys : List X) → slice_get (xs ++ y ∷ ys) (length xs) ≡ Some y
 at_seam [] y ys = refl
@@ -113,9 +113,9 @@ at_right (x ∷ xs) ys n = let next : suc (length xs) + n ≡ suc (length xs + n
 -- the scripts that were served are among all that was asked
 pub served_among : (scale : Scale) (scripts more : List (List Request)) (entries : List Entry) (answers : List (List (Result ℕ Refusal))) → length answers ≡ length scripts
     → ServedEach scale scripts entries answers → ServedEach scale (scripts ++ more) entries answers
-served_among scale scripts more entries answers even each = λ s script told asked is_told.
-    let low : s < length answers = slice_get_within answers s told is_told in
-    each s script told (sym (at_left scripts more s (omega (arith, low, even))) ∙ asked) is_told
+served_among scale scripts more entries answers even each = λ s script recorded asked is_recorded.
+    let low : s < length answers = slice_get_within answers s recorded is_recorded in
+    each s script recorded (sym (at_left scripts more s (omega (arith, low, even))) ∙ asked) is_recorded
 
 -- what the sessions asked stands behind the scripts
 pub asked_behind : {J : Type 0} (scripts : List (List Request)) (left : List (Left J)) (first : ℕ) → first ≡ length scripts → AreAskedFrom first (scripts ++ map (λ (one : Left J). one.session.script) left) left

@@ -7,7 +7,7 @@ use Rattle.std.proofs.lemmas.Option.{slice_get-get_or}
 use Rattle.std.proofs.lemmas.List.Elements.{All-contains, All-head, All-tail, All-weaker, Contains-get_or}
 use Rattle.schema.specs.Database.{Database, IsWithinScale}
 use Rattle.schema.specs.declared.scale.Scale.{Scale}
-use Rattle.partitions.specs.Parts.{IsPart, Part, Shared, shared_of}
+use Rattle.partitions.specs.Parts.{IsPart, Part, SharedTables, shared_of}
 use Rattle.requests.specs.declared.group.Group.{Group}
 use Rattle.requests.specs.declared.group.Group.TheVariants as g
 use Rattle.requests.specs.declared.request.Request.{Request}
@@ -15,21 +15,21 @@ use Rattle.requests.specs.Check.{IsAccepted}
 use Rattle.groups.specs.Content.{content, IsNoneOf}
 use Rattle.groups.specs.Footprint.{footprint, groups_of}
 use Rattle.groups.specs.Groups.{warehouse_of}
-use Rattle.groups.specs.declared.wishes.Mode.TheVariants.{Exclusive}
-use Rattle.groups.specs.declared.wishes.Wish.{Wish}
+use Rattle.groups.specs.declared.group_wants.Mode.TheVariants.{Exclusive}
+use Rattle.groups.specs.declared.group_wants.GroupWant.{GroupWant}
 use Rattle.groups.specs.declared.wants.Kind.{Kind}
 use Rattle.groups.specs.declared.wants.Kind.TheVariants as kind
 use Rattle.groups.proofs.RowsInGroups.{contents_make_tables}
 use Rattle.machine.specs.Machine.{transaction, tables_after}
 use Rattle.machine.proofs.RequestLaws.{tables_after-scale, tables_after-items, transaction_keeps_other_groups}
-use Rattle.tickets.specs.Claims.{Claiming, all_claims}
-use Rattle.tickets.specs.Committed.{Tells, TellsContent}
+use Rattle.tickets.specs.Claims.{ClaimView, all_claims}
+use Rattle.tickets.specs.Committed.{Records, RecordsContent}
 use Rattle.tickets.specs.Places.{IsBetween, IsGroupOf}
 use Rattle.wait_die.specs.declared.deciding.Holder.{Holder}
-use Rattle.local_locks.specs.Wishes.{numbered, groups_under, wish_of, wishes_in, wishes}
+use Rattle.local_locks.specs.GroupWants.{numbered, groups_under, group_want_of, group_wants_in, group_wants}
 use Rattle.local_locks.proofs.Members.{contains_cases, contains_here, contains_joined, contains_none, contains_there}
 use Rattle.slices.specs.Asked.{granted_in}
-use Rattle.slices.specs.Sliced.{Sliced, AreSlicesOf, joined, part_in}
+use Rattle.slices.specs.SliceView.{SliceView, AreSlicesOf, joined, part_in}
 use Rattle.slices.proofs.Alike.{content_alike}
 use Rattle.slices.proofs.Joined.{parts_of_slices}
 use Rattle.slices.proofs.Wholes.{whole_has_part}
@@ -39,7 +39,7 @@ use Rattle.engine.proofs.Nowhere.{nothing_nowhere}
 use Rattle.engine.proofs.Sessions.{each_pushed}
 use Rattle.engine.proofs.Together.{reaches}
 
--- ---- all groups of a warehouse are wished for
+-- ---- all groups of a warehouse are wanted for
 
 here_or_later : (first n : ℕ) → first ≤ n → (first ≡ n) ⊎ (suc first ≤ n)
 here_or_later zero zero up = inl refl
@@ -81,29 +81,29 @@ under_kind warehouses (g.Orders w_id d_id) known = (kind.Orders, numbered_has (�
 under_kind warehouses (g.History w_id d_id) known = (kind.History, numbered_has (λ d. g.History w_id d) 1 10 d_id known.1.0 (let up = known.1.1 in omega arith))
 under_kind warehouses (g.Stock w_id residue) known = (kind.Stock, numbered_has (λ r. g.Stock w_id r) 0 64 residue (omega arith) (let up = known.1 in omega arith))
 
-wished_for : (warehouses home : ℕ) (group : Group) → IsGroupOf warehouses group → warehouse_of group ≡ home → Contains (wishes (wants_of_all home)) (record { group = group; mode = Exclusive })
-wished_for warehouses home group known at =
+group_wanted_for : (warehouses home : ℕ) (group : Group) → IsGroupOf warehouses group → warehouse_of group ≡ home → Contains (group_wants (wants_of_all home)) (record { group = group; mode = Exclusive })
+group_wanted_for warehouses home group known at =
     let u = under_kind warehouses group known in
     let want = want_of_kind home u.0 in
     let own : Contains (groups_under u.0 home) group = subst (λ (w : ℕ). Contains (groups_under u.0 w) group) at u.1 in
-    contains_joined wishes_in (wants_of_all home) want (wish_of want group) (contains_map (want_of_kind home) kinds u.0 (each_kind u.0)) (contains_map (wish_of want) (groups_under u.0 home) group own)
+    contains_joined group_wants_in (wants_of_all home) want (group_want_of want group) (contains_map (want_of_kind home) kinds u.0 (each_kind u.0)) (contains_map (group_want_of want) (groups_under u.0 home) group own)
 
 -- ---- one slice
 
 -- What is claimed of all groups of a slice tells what stands there, and so do the tables that the claims tell.
-pub slice_settled : (opening last : Database) (home : ℕ) (s : Sliced) (by : Holder) (claims : List Claiming) (held : List (List Claiming)) → IsBackAt opening home s
-    → held ≡ claims ∷ [] → claims ≡ map (granted_in by s) (wishes (wants_of_all home)) → Tells (content last) (all_claims held) → IsSettledAt opening last home s
-slice_settled opening last home s by claims held back held_is granted tells = record {
+pub slice_settled : (opening last : Database) (home : ℕ) (s : SliceView) (by : Holder) (claims : List ClaimView) (held : List (List ClaimView)) → IsBackAt opening home s
+    → held ≡ claims ∷ [] → claims ≡ map (granted_in by s) (group_wants (wants_of_all home)) → Records (content last) (all_claims held) → IsSettledAt opening last home s
+slice_settled opening last home s by claims held back held_is granted records = record {
   back = back;
   settled = λ group known at.
-      let wish : Wish = record { group = group; mode = Exclusive } in
-      let told : Tells (content last) (map (granted_in by s) (wishes (wants_of_all home))) = subst (Tells (content last)) (ap all_claims held_is ∙ append-nil claims ∙ granted) tells in
-      sym (All-contains (TellsContent (content last)) (map (granted_in by s) (wishes (wants_of_all home))) (granted_in by s wish) told
-      (contains_map (granted_in by s) (wishes (wants_of_all home)) wish (wished_for opening.scale.warehouses home group known at)));
+      let group_want : GroupWant = record { group = group; mode = Exclusive } in
+      let recorded : Records (content last) (map (granted_in by s) (group_wants (wants_of_all home))) = subst (Records (content last)) (ap all_claims held_is ∙ append-nil claims ∙ granted) records in
+      sym (All-contains (RecordsContent (content last)) (map (granted_in by s) (group_wants (wants_of_all home))) (granted_in by s group_want) recorded
+      (contains_map (granted_in by s) (group_wants (wants_of_all home)) group_want (group_wanted_for opening.scale.warehouses home group known at)));
 }
 
 -- the slice is the same, but for who holds its groups
-pub settled_still : (opening last : Database) (home : ℕ) (old new : Sliced) → new.home ≡ old.home → new.tables ≡ old.tables → IsSettledAt opening last home old → IsSettledAt opening last home new
+pub settled_still : (opening last : Database) (home : ℕ) (old new : SliceView) → new.home ≡ old.home → new.tables ≡ old.tables → IsSettledAt opening last home old → IsSettledAt opening last home new
 settled_still opening last home old new home_is tables_are h = record {
   back = record {
     home_is = home_is ∙ h.back.home_is;
@@ -115,23 +115,23 @@ settled_still opening last home old new home_is tables_are h = record {
 
 -- ---- all slices
 
-part_at : (slices : List Sliced) (place : ℕ) (s : Sliced) → slice_get slices place ≡ Some s → get_or (map part_in slices) place (part_in s) ≡ part_in s
+part_at : (slices : List SliceView) (place : ℕ) (s : SliceView) → slice_get slices place ≡ Some s → get_or (map part_in slices) place (part_in s) ≡ part_in s
 part_at [] place s h = refl
 part_at (x ∷ slices) zero s h = let is : x ≡ s = cc in ap part_in is
 part_at (x ∷ slices) (suc place) s h = part_at slices place s h
 
-pub settled_slices : (opening last : Database) (slices : List Sliced) → AreSettled opening last slices → AreSlicesOf (shared_of opening) slices
+pub settled_slices : (opening last : Database) (slices : List SliceView) → AreSettled opening last slices → AreSlicesOf (shared_of opening) slices
 settled_slices opening last slices h = record {
   many = h.many;
   each = λ place d low.
       let s = h.each place (get_or slices place d) (slice_get-get_or slices place d low) in
-      record { home = s.back.home_is; scale = ap (λ (c : Shared). c.scale) s.back.shared_is; items = ap (λ (c : Shared). c.items) s.back.shared_is };
+      record { home = s.back.home_is; scale = ap (λ (c : SharedTables). c.scale) s.back.shared_is; items = ap (λ (c : SharedTables). c.items) s.back.shared_is };
 }
 
 -- one slice more is settled
-pub settled_more : (opening last : Database) (slices after : List Sliced) (place : ℕ) (s : Sliced)
-    → ((k : ℕ) (t : Sliced) → slice_get slices k ≡ Some t → IsSettledAt opening last (k + 1) t) → length slices ≡ place → IsSettledAt opening last (place + 1) s → after ≡ slices ++ s ∷ []
-    → (k : ℕ) (t : Sliced) → slice_get after k ≡ Some t → IsSettledAt opening last (k + 1) t
+pub settled_more : (opening last : Database) (slices after : List SliceView) (place : ℕ) (s : SliceView)
+    → ((k : ℕ) (t : SliceView) → slice_get slices k ≡ Some t → IsSettledAt opening last (k + 1) t) → length slices ≡ place → IsSettledAt opening last (place + 1) s → after ≡ slices ++ s ∷ []
+    → (k : ℕ) (t : SliceView) → slice_get after k ≡ Some t → IsSettledAt opening last (k + 1) t
 settled_more opening last slices after place s before count here pushed =
     each_pushed slices after s place (λ k t. IsSettledAt opening last (k + 1) t) (sym count) pushed before here
 
@@ -191,7 +191,7 @@ outside t (request ∷ requests) group accepted nowhere =
 
 -- ---- the tables
 
-pub settled_tables : (opening : Database) (requests : List Request) (slices : List Sliced) → AreSettled opening (tables_after opening requests) slices → IsWithinScale opening
+pub settled_tables : (opening : Database) (requests : List Request) (slices : List SliceView) → AreSettled opening (tables_after opening requests) slices → IsWithinScale opening
     → IsWithinScale (joined (shared_of opening) slices).tables → All (IsAccepted opening.scale) requests → (joined (shared_of opening) slices).tables ≡ tables_after opening requests
 settled_tables opening requests slices h within_opening within_whole accepted =
     contents_make_tables whole last (sym (tables_after-scale opening requests)) (sym (tables_after-items opening requests))

@@ -155,21 +155,21 @@ together opening scripts entries last answers legal even known each others =
       answered = λ s.
           elim (slice_get scripts s) as (λ o. slice_get scripts s ≡ o → option_map length (slice_get answers s) ≡ option_map length o) [
             | Some script ↦ λ e.
-                let told = partner scripts answers s script (sym even) e in
-                let count : length told.0 ≡ length script = (each s script told.0 e told.1).answered in
-                ap (option_map length) told.1 ∙ ap Some count
+                let recorded = partner scripts answers s script (sym even) e in
+                let count : length recorded.0 ≡ length script = (each s script recorded.0 e recorded.1).answered in
+                ap (option_map length) recorded.1 ∙ ap Some count
             | None ↦ λ e.
                 elim (slice_get answers s) as (λ o. slice_get answers s ≡ o → option_map length o ≡ None) [
-                  | Some told ↦ λ f. let script = partner answers scripts s told even f in absurd (let g = script.1 in cc)
+                  | Some recorded ↦ λ f. let script = partner answers scripts s recorded even f in absurd (let g = script.1 in cc)
                   | None ↦ λ f. refl
                 ] refl
           ] refl;
       done = λ s k place at.
-          let told = at_parts answers s k (Ok place) at in
-          let script = partner answers scripts s told.0 even told.1 in
-          let h = each s script.0 told.0 script.1 told.1 in
-          let request = partner told.0 script.0 k (Ok place) h.answered told.2 in
-          let stands = h.each k request.0 (Ok place) request.1 told.2 in
+          let recorded = at_parts answers s k (Ok place) at in
+          let script = partner answers scripts s recorded.0 even recorded.1 in
+          let h = each s script.0 recorded.0 script.1 recorded.1 in
+          let request = partner recorded.0 script.0 k (Ok place) h.answered recorded.2 in
+          let stands = h.each k request.0 (Ok place) request.1 recorded.2 in
           (request.0, at_both scripts script.0 s k script.1 ∙ request.1, stands.1, stands_in_log s entries place k request.0 stands.1 stands.2);
       logged = λ place entry at.
           let x = item place entry.number entry.request entry.reply in
@@ -178,26 +178,26 @@ together opening scripts entries last answers legal even known each others =
           by_order entry.session (length scripts) (item_at answers entry.session entry.number ≡ Some (Ok place))
           (λ below.
           let script = reaches scripts entry.session below in
-          let told = partner scripts answers entry.session script.0 (sym even) script.1 in
-          let h = each entry.session script.0 told.0 script.1 told.1 in
-          at_both answers told.0 entry.session entry.number told.1 ∙ h.logged x listed)
+          let recorded = partner scripts answers entry.session script.0 (sym even) script.1 in
+          let h = each entry.session script.0 recorded.0 script.1 recorded.1 in
+          at_both answers recorded.0 entry.session entry.number recorded.1 ∙ h.logged x listed)
           (λ above. absurd (none entry.session x (others entry.session above low) listed));
       ascending = λ s j k place later below first second.
-          let told = at_parts answers s j (Ok place) first in
-          let script = partner answers scripts s told.0 even told.1 in
-          let h = each s script.0 told.0 script.1 told.1 in
-          h.ascending j k place later below told.2 (sym (at_both answers told.0 s k told.1) ∙ second);
+          let recorded = at_parts answers s j (Ok place) first in
+          let script = partner answers scripts s recorded.0 even recorded.1 in
+          let h = each s script.0 recorded.0 script.1 recorded.1 in
+          h.ascending j k place later below recorded.2 (sym (at_both answers recorded.0 s k recorded.1) ∙ second);
       refused = λ s k request refusal asked at.
-          let told = at_parts answers s k (Err refusal) at in
+          let recorded = at_parts answers s k (Err refusal) at in
           let script = at_parts scripts s k request asked in
-          let h = each s script.0 told.0 script.1 told.1 in
-          h.each k request (Err refusal) script.2 told.2;
+          let h = each s script.0 recorded.0 script.1 recorded.1 in
+          h.each k request (Err refusal) script.2 recorded.2;
       checked = λ s k request refusal asked refuses.
           let script = at_parts scripts s k request asked in
-          let told = partner scripts answers s script.0 (sym even) script.1 in
-          let h = each s script.0 told.0 script.1 told.1 in
-          let answer = partner script.0 told.0 k request (sym h.answered) script.2 in
-          at_both answers told.0 s k told.1 ∙ answer.1
+          let recorded = partner scripts answers s script.0 (sym even) script.1 in
+          let h = each s script.0 recorded.0 script.1 recorded.1 in
+          let answer = partner script.0 recorded.0 k request (sym h.answered) script.2 in
+          at_both answers recorded.0 s k recorded.1 ∙ answer.1
           ∙ ap Some (refuses_so scale (length entries) (items_of s entries) k request refusal answer.0 refuses (h.each k request answer.0 script.2 answer.1));
     }
   where

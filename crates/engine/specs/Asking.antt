@@ -1,4 +1,4 @@
--- A session that asks one request after another, by hand or by a script.
+-- A session that asks one request after another, interactively or by a script.
 use Rattle.std.specs.Prelude.{◌≡◌, ℕ, ◌<◌, ◌≤◌, Bool, true, false, List, take, length, Some, Result, Ok, Err, if◌then◌else◌}
 use Rattle.std.specs.List.{slice_get}
 use Rattle.schema.specs.declared.scale.Scale.{Scale}
@@ -6,7 +6,7 @@ use Rattle.requests.specs.declared.request.Request.{Request}
 use Rattle.requests.specs.declared.refusal.Refusal.{Refusal}
 use Rattle.requests.specs.declared.refusal.Refusal.TheVariants.{LogFull}
 use Rattle.requests.specs.Check.{check_of}
-use Rattle.commit_log.specs.Passing.{Passing, Seating}
+use Rattle.commit_log.specs.PassView.{PassView, SessionSeatView}
 use Rattle.engine.specs.Outcome.{IsRefusal}
 use Rattle.engine.specs.Served.{Served}
 
@@ -23,37 +23,37 @@ says_full _ = false
 abbrev pub known_of : Bool → ℕ → ℕ
 known_of is_full reached = if is_full then reached else 0
 
--- What a contract sees of a session none of whose requests is under way: the requests that it asks, its seat, its pass, the answers so far, and
+-- What a contract sees of a session none of whose requests is in flight: the requests that it asks, its seat, its pass, the answers so far, and
 -- whether the log was full for it.
-pub record Resting : Type 0 where
+pub record ReadyView : Type 0 where
   pub script : List Request
-  pub seat : Seating
-  pub pass : Passing
+  pub seat : SessionSeatView
+  pub pass : PassView
   pub answers : List (Result ℕ Refusal)
   pub is_full : Bool
 
-abbrev pub resting : List Request → Seating → Passing → List (Result ℕ Refusal) → Bool → Resting
-resting script seat pass answers is_full = record { script = script; seat = seat; pass = pass; answers = answers; is_full = is_full }
+abbrev pub ready_view : List Request → SessionSeatView → PassView → List (Result ℕ Refusal) → Bool → ReadyView
+ready_view script seat pass answers is_full = record { script = script; seat = seat; pass = pass; answers = answers; is_full = is_full }
 
 -- Its pass is here. It was asked just these requests, and the answers say what came of them.
-pub record IsResting (scale : Scale) (s : Resting) : Type 0 where
+pub record IsResting (scale : Scale) (s : ReadyView) : Type 0 where
   pub seat_is : s.seat.session ≡ s.pass.session
   pub served : Served scale s.script s.answers s.pass.mine (known_of s.is_full s.pass.reached)
   pub has_seen : HasSeen s.pass.seen s.answers
   pub full : s.is_full ≡ true → 16777216 ≤ s.pass.reached
 
--- what a contract sees of a session whose next request is under way
-pub record Waiting : Type 0 where
+-- what a contract sees of a session whose next request is in flight
+pub record AskedView : Type 0 where
   pub script : List Request
-  pub seat : Seating
+  pub seat : SessionSeatView
   pub answers : List (Result ℕ Refusal)
 
-abbrev pub waiting : List Request → Seating → List (Result ℕ Refusal) → Waiting
-waiting script seat answers = record { script = script; seat = seat; answers = answers }
+abbrev pub asked_view : List Request → SessionSeatView → List (Result ℕ Refusal) → AskedView
+asked_view script seat answers = record { script = script; seat = seat; answers = answers }
 
 -- Its pass goes with the request: its seat tells what it asked, and what the pass was then. Before, it was asked just these requests, and the
 -- answers say what came of them.
-pub record IsAway (scale : Scale) (s : Waiting) : Type 0 where
+pub record IsAway (scale : Scale) (s : AskedView) : Type 0 where
   pub served : Served scale s.script s.answers s.seat.asking.mine 0
   pub has_seen : HasSeen s.seat.asking.seen s.answers
   pub number_is : s.seat.asking.number ≡ length s.answers
@@ -66,20 +66,20 @@ abbrev pub asked_of : List Request → List (Result ℕ Refusal) → List Reques
 asked_of script answers = take (length answers) script
 
 -- It was asked the first requests of its script. There is room for all answers.
-pub record IsReady (scale : Scale) (scripts : List (List Request)) (s : Resting) (room : ℕ) : Type 0 where
+pub record IsReady (scale : Scale) (scripts : List (List Request)) (s : ReadyView) (room : ℕ) : Type 0 where
   pub script_is : slice_get scripts s.pass.session ≡ Some s.script
   pub few : length s.answers ≤ length s.script
-  pub so_far : IsResting scale (resting (asked_of s.script s.answers) s.seat s.pass s.answers s.is_full)
+  pub so_far : IsResting scale (ready_view (asked_of s.script s.answers) s.seat s.pass s.answers s.is_full)
   pub room_is : length s.script ≤ room
 
--- The next one of its script is under way.
-pub record IsAsked (scale : Scale) (scripts : List (List Request)) (s : Waiting) (room : ℕ) : Type 0 where
+-- The next one of its script is in flight.
+pub record IsAsked (scale : Scale) (scripts : List (List Request)) (s : AskedView) (room : ℕ) : Type 0 where
   pub script_is : slice_get scripts s.seat.session ≡ Some s.script
   pub next : slice_get s.script (length s.answers) ≡ Some s.seat.asking.request
-  pub so_far : IsAway scale (waiting (asked_of s.script s.answers) s.seat s.answers)
+  pub so_far : IsAway scale (asked_view (asked_of s.script s.answers) s.seat s.answers)
   pub room_is : length s.script ≤ room
 
 -- the session's next request is refused for a reason that holds
-abbrev pub IsRefusedNext : Scale → Resting → Refusal → Type 0
+abbrev pub IsRefusedNext : Scale → ReadyView → Refusal → Type 0
 IsRefusedNext scale s why =
     (request : Request) × (slice_get s.script (length s.answers) ≡ Some request) × IsRefusal scale (known_of s.is_full s.pass.reached) request why

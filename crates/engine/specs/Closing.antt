@@ -6,29 +6,29 @@ use Rattle.requests.specs.declared.group.Group.{Group}
 use Rattle.partitions.specs.Parts.{IsPart, shared_of}
 use Rattle.groups.specs.Content.{content}
 use Rattle.groups.specs.Groups.{warehouse_of}
-use Rattle.groups.specs.declared.wishes.Mode.TheVariants.{Exclusive}
+use Rattle.groups.specs.declared.group_wants.Mode.TheVariants.{Exclusive}
 use Rattle.groups.specs.declared.wants.Kind.{Kind}
 use Rattle.groups.specs.declared.wants.Kind.TheVariants.{Warehouse, District, Customers, Orders, History, Stock}
 use Rattle.groups.specs.declared.wants.Extent.TheVariants.{Every}
 use Rattle.groups.specs.declared.wants.Want.{Want}
 use Rattle.tickets.specs.Places.{IsGroupOf}
-use Rattle.slices.specs.Sliced.{Sliced, part_in}
+use Rattle.slices.specs.SliceView.{SliceView, part_in}
 
 -- the slice of this warehouse is back, with the scale and the items of the opening
-pub record IsBackAt (opening : Database) (home : ℕ) (s : Sliced) : Type 0 where
+pub record IsBackAt (opening : Database) (home : ℕ) (s : SliceView) : Type 0 where
   pub home_is : s.home ≡ home
   pub part : IsPart (part_in s)
   pub shared_is : shared_of s.tables ≡ shared_of opening
 
 -- and each of its groups has what these tables have there
-pub record IsSettledAt (opening last : Database) (home : ℕ) (s : Sliced) : Type 0 where
+pub record IsSettledAt (opening last : Database) (home : ℕ) (s : SliceView) : Type 0 where
   pub back : IsBackAt opening home s
   pub settled : (group : Group) → IsGroupOf opening.scale.warehouses group → warehouse_of group ≡ home → content s.tables group ≡ content last group
 
 -- these are the slices of all warehouses, in order, so settled
-pub record AreSettled (opening last : Database) (slices : List Sliced) : Type 0 where
+pub record AreSettled (opening last : Database) (slices : List SliceView) : Type 0 where
   pub many : length slices ≡ opening.scale.warehouses
-  pub each : (place : ℕ) (s : Sliced) → slice_get slices place ≡ Some s → IsSettledAt opening last (place + 1) s
+  pub each : (place : ℕ) (s : SliceView) → slice_get slices place ≡ Some s → IsSettledAt opening last (place + 1) s
 
 -- all groups of a kind in a warehouse, to change them
 abbrev pub want_of_kind : ℕ → Kind → Want

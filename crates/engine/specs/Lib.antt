@@ -5,4 +5,4 @@ pub mod Closing
 pub mod Sessions
 pub mod Opening
 pub mod Faults
-pub mod ByHand
+pub mod Interactive

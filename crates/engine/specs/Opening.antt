@@ -10,16 +10,16 @@ use Rattle.tickets.specs.Openings.{AreNamed}
 use Rattle.commit_log.specs.declared.log_names.LogNames.{Ghosts as LogNames}
 use Rattle.commit_log.specs.LogTables.{table_of}
 use Rattle.slices.specs.Openings.{AreOpenedFor}
-use Rattle.slices.specs.Sliced.{Sliced}
+use Rattle.slices.specs.SliceView.{SliceView}
 use Rattle.engine.specs.declared.opening.Opening.{Opening}
 
--- these are the tables of the courses of the slots from this one on
-abbrev pub AreCoursesFrom : (ℕ → TableId) → ℕ → List TableId → Type 0
-AreCoursesFrom course first tables = (k : ℕ) (table : TableId) → slice_get tables k ≡ Some table → course (first + k) ≡ table
+-- these are the tables of the agreed phases of the slots from this one on
+abbrev pub AreAgreedPhasesFrom : (ℕ → TableId) → ℕ → List TableId → Type 0
+AreAgreedPhasesFrom agreed_phase first tables = (k : ℕ) (table : TableId) → slice_get tables k ≡ Some table → agreed_phase (first + k) ≡ table
 
 -- An engine's names were picked for these tables, these scripts and this opening: there are agreements for each group of the tables,
 -- with what the group has; and the names of the agreements are those that were opened.
-pub record IsNamedFor {J : Type 0} (log : LogNames J) (groups : GroupNames J) (course : ℕ → TableId) (named : List (List Request)) (tables : Database) (scripts : List (List Request)) (opening : Opening) : Type 0 where
+pub record IsNamedFor {J : Type 0} (log : LogNames J) (groups : GroupNames J) (agreed_phase : ℕ → TableId) (named : List (List Request)) (tables : Database) (scripts : List (List Request)) (opening : Opening) : Type 0 where
   pub opened : AreOpenedFor tables opening.groups.items
   pub tables_are : log.opening ≡ tables
   pub warehouses : groups.warehouses ≡ tables.scale.warehouses
@@ -27,11 +27,11 @@ pub record IsNamedFor {J : Type 0} (log : LogNames J) (groups : GroupNames J) (c
   pub length_is : log.length ≡ opening.log.length
   pub mine : (session : ℕ) → session < 64 → log.mine session ≡ table_of opening.log.mine session
   pub asks : (session : ℕ) → session < 64 → log.asks session ≡ table_of opening.log.asks session
-  pub courses_are : AreCoursesFrom course 0 opening.courses.items
-  pub enough : length scripts ≤ length opening.courses.items
+  pub agreed_phases_are : AreAgreedPhasesFrom agreed_phase 0 opening.agreed_phases.items
+  pub enough : length scripts ≤ length opening.agreed_phases.items
   pub scripts_are : named ≡ scripts
 
 -- a slice of the opening, for which nobody waits
-pub record IsToOpen (opening : Database) (s : Sliced) : Type 0 where
+pub record IsToOpen (opening : Database) (s : SliceView) : Type 0 where
   pub shared_is : shared_of s.tables ≡ shared_of opening
   pub nobody : s.waiters ≡ []

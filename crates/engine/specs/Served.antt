@@ -31,5 +31,5 @@ pub record Served (scale : Scale) (script : List Request) (answers : List (Resul
 -- each script was served its answers, and what its session logged is what stands of it in the log of these entries
 abbrev pub ServedEach : Scale → List (List Request) → List Entry → List (List (Result ℕ Refusal)) → Type 0
 ServedEach scale scripts entries answers =
-    (s : ℕ) (script : List Request) (told : List (Result ℕ Refusal)) → slice_get scripts s ≡ Some script → slice_get answers s ≡ Some told
-    → Served scale script told (items_of s entries) (length entries)
+    (s : ℕ) (script : List Request) (recorded : List (Result ℕ Refusal)) → slice_get scripts s ≡ Some script → slice_get answers s ≡ Some recorded
+    → Served scale script recorded (items_of s entries) (length entries)

@@ -1,15 +1,15 @@
-//! A session and its script: between two requests, and while one is under way.
+//! A session and its script: between two requests, and while one is in flight.
 ghost use Rattle.std.specs.Prelude.{◌≡◌, [], length, false, Some, Ok, Err, IfSome, IsTrue, slice_get};
 ghost use Rattle.requests.specs.Check.{check_of};
 ghost use Rattle.commit_log.specs.Items.{items_of};
-ghost use Rattle.executor.specs.Answers.{IsToldBy};
+ghost use Rattle.executor.specs.Answers.{IsRecordedBy};
 ghost use Rattle.engine.specs.Asking as spec;
 ghost use Rattle.engine.specs.Asking.{IsRefusedNext};
 ghost use Rattle.engine.specs.Served.{Served};
 
 use crate::{Answers, ServeNames};
 use commit_log::{Log, Pass, SessionSeat};
-use executor::{Journey, Told};
+use executor::{Flow, SessionAnswer};
 use requests::{Refusal, Request, Script, check};
 use schema::{NoMemory, Scale};
 use std::alloc::Global;
@@ -17,7 +17,7 @@ use std::marker::Model;
 use std::sync::atomic::{AtomicU64, Ordering};
 use transactions::home_of_request;
 
-/// A session none of whose requests is under way: its pass is here. It keeps that its requests so far have the answers that
+/// A session none of whose requests is in flight: its pass is here. It keeps that its requests so far have the answers that
 /// are here, each of which says what came of it.
 #[derive(Drop)]
 pub(crate) struct Ready<'a, J: ServeNames> {
@@ -33,19 +33,19 @@ pub(crate) struct Ready<'a, J: ServeNames> {
 }
 
 impl<'a, J: ServeNames> Model for Ready<'a, J> {
-    ghost use Rattle.engine.specs.Asking.{Resting};
+    ghost use Rattle.engine.specs.Asking.{ReadyView};
 
-    ghost Value = { Resting };
+    ghost Value = { ReadyView };
 
     ghost use Rattle.std.specs.Prelude.{vec_capacity};
-    ghost use Rattle.engine.specs.Asking.{IsReady, resting};
+    ghost use Rattle.engine.specs.Asking.{IsReady, ready_view};
 
-    ghost view = { λ r. resting r.script.now r.seat r.pass r.answers.items r.is_full };
+    ghost view = { λ r. ready_view r.script.now r.seat r.pass r.answers.items r.is_full };
 
-    ghost invariant = { λ r. IsReady J.opening.scale J.scripts (resting r.script.now r.seat r.pass r.answers.items r.is_full) (vec_capacity r.answers) };
+    ghost invariant = { λ r. IsReady J.opening.scale J.scripts (ready_view r.script.now r.seat r.pass r.answers.items r.is_full) (vec_capacity r.answers) };
 }
 
-/// A session one of whose requests is under way: its pass goes with it. It keeps the same of the requests before.
+/// A session one of whose requests is in flight: its pass goes with it. It keeps the same of the requests before.
 #[derive(Drop)]
 pub(crate) struct Asked<'a, J: ServeNames> {
     script: &'a Script,
@@ -55,16 +55,16 @@ pub(crate) struct Asked<'a, J: ServeNames> {
 }
 
 impl<'a, J: ServeNames> Model for Asked<'a, J> {
-    ghost use Rattle.engine.specs.Asking.{Waiting};
+    ghost use Rattle.engine.specs.Asking.{AskedView};
 
-    ghost Value = { Waiting };
+    ghost Value = { AskedView };
 
     ghost use Rattle.std.specs.Prelude.{vec_capacity};
-    ghost use Rattle.engine.specs.Asking.{IsAsked, waiting};
+    ghost use Rattle.engine.specs.Asking.{IsAsked, asked_view};
 
-    ghost view = { λ a. waiting a.script.now a.seat a.answers.items };
+    ghost view = { λ a. asked_view a.script.now a.seat a.answers.items };
 
-    ghost invariant = { λ a. IsAsked J.opening.scale J.scripts (waiting a.script.now a.seat a.answers.items) (vec_capacity a.answers) };
+    ghost invariant = { λ a. IsAsked J.opening.scale J.scripts (asked_view a.script.now a.seat a.answers.items) (vec_capacity a.answers) };
 }
 
 /// What comes next of a session.
@@ -73,7 +73,7 @@ pub(crate) enum Next<'a, J: ServeNames> {
     /// Its next request was refused at once, or is to be asked again.
     Ready(Ready<'a, J>),
     /// Its next request is on its way.
-    Asks(Asked<'a, J>, Journey<J>),
+    Asks(Asked<'a, J>, Flow<J>),
     /// Its script is at its end.
     Ended(Ready<'a, J>),
 }
@@ -178,8 +178,8 @@ impl<'a, J: ServeNames> Ready<'a, J> {
             tries_left,
         };
         let age = ages.fetch_add(1, Ordering::SeqCst);
-        match Journey::begin(alloc, age, slot, number, request, pass) {
-            Ok(journey) => Next::Asks(asked, journey),
+        match Flow::begin(alloc, age, slot, number, request, pass) {
+            Ok(flow) => Next::Asks(asked, flow),
             Err(pass) => Next::Ready(asked.answered(pass, Err(Refusal::NoMemory), tries)),
         }
     }
@@ -223,8 +223,8 @@ impl<'a, J: ServeNames> Asked<'a, J> {
 
     /// The answer has come. Where the request died or found no memory it is asked again, as long as it may. `None` where the
     /// answer is another session's.
-    pub(crate) fn tell(mut self, told: Told<J>, tries: u32) -> Option<Ready<'a, J>> {
-        let (mut pass, answer) = told.into_parts();
+    pub(crate) fn finish(mut self, recorded: SessionAnswer<J>, tries: u32) -> Option<Ready<'a, J>> {
+        let (mut pass, answer) = recorded.into_parts();
         if pass.session() != self.seat.session() {
             return None;
         }
@@ -235,7 +235,7 @@ impl<'a, J: ServeNames> Asked<'a, J> {
     // The pass has come back with this answer.
     fn answered(self, pass: Pass<J>, answer: Result<u32, Refusal>, tries: u32) -> Ready<'a, J>
         requires session { pass.session ≡ self.seat.session }
-        requires told { IsToldBy self.seat.asking pass answer }
+        requires recorded { IsRecordedBy self.seat.asking pass answer }
     {
         let Asked {
             script,

@@ -1,7 +1,7 @@
 //! What an executor has to itself.
 use crate::MOST_SESSIONS;
 use crate::message::Message;
-use executor::{CourseNames, Posts};
+use executor::{PhaseNames, ExecutorShards};
 use queues::{Sender, Taker};
 use schema::NoMemory;
 use std::alloc::Global;
@@ -28,12 +28,12 @@ pub(crate) struct Turn {
     from: u64,
 }
 
-/// An executor: the posts of its warehouses, and the messages that it has still to take or to send.
+/// An executor: the shards of its warehouses, and the messages that it has still to take or to send.
 #[derive(Drop)]
-pub struct Executor<J: CourseNames> {
+pub struct Executor<J: PhaseNames> {
     pub(crate) number: u32,
-    pub(crate) posts: Posts<J>,
-    /// To whom the post of a warehouse has gone, since a move last brought it here; by the warehouse's W_ID less one.
+    pub(crate) shards: ExecutorShards<J>,
+    /// To whom the shard of a warehouse has gone, since a move last brought it here; by the warehouse's W_ID less one.
     notes: Vec<Option<u32>>,
     /// From the others.
     pub(crate) inbox: Taker<Message<J>>,
@@ -41,11 +41,11 @@ pub struct Executor<J: CourseNames> {
     pub(crate) outlets: Vec<Sender<Message<J>>>,
     /// To itself.
     pub(crate) lane: VecDeque<Message<J>>,
-    /// Warehouses at whose posts claims have come back while somebody may have waited there, who may go on now.
+    /// Warehouses at whose shards claims have come back while somebody may have waited there, who may go on now.
     pub(crate) freed: VecDeque<u32>,
     /// To others whose inbox was full.
     pub(crate) outbox: VecDeque<(u32, Message<J>)>,
-    /// For posts that are on their way here, each with the W_ID of its warehouse.
+    /// For shards that are on their way here, each with the W_ID of its warehouse.
     parked: VecDeque<(u32, Message<J>)>,
     /// The sessions that are to begin their next request here.
     ready: VecDeque<Turn>,
@@ -55,8 +55,8 @@ pub struct Executor<J: CourseNames> {
     steps: u64,
 }
 
-impl<J: CourseNames> Executor<J> {
-    /// An executor without posts, with room for those of so many warehouses, which takes from this
+impl<J: PhaseNames> Executor<J> {
+    /// An executor without shards, with room for those of so many warehouses, which takes from this
     /// inbox and puts into those.
     pub(crate) fn open(
         alloc: Global,
@@ -65,7 +65,7 @@ impl<J: CourseNames> Executor<J> {
         inbox: Taker<Message<J>>,
         outlets: Vec<Sender<Message<J>>>,
     ) -> Result<Executor<J>, NoMemory> {
-        let posts = Posts::open(alloc, warehouses)?;
+        let shards = ExecutorShards::open(alloc, warehouses)?;
         let mut notes = Vec::with_capacity(alloc, warehouses as usize)?;
         for _ in 0..warehouses {
             notes.push(None)?;
@@ -77,7 +77,7 @@ impl<J: CourseNames> Executor<J> {
         let ready = VecDeque::with_capacity(alloc, MOST_SESSIONS)?;
         Ok(Executor {
             number,
-            posts,
+            shards,
             notes,
             inbox,
             outlets,
@@ -126,28 +126,28 @@ impl<J: CourseNames> Executor<J> {
         Some(from.saturating_sub(self.steps))
     }
 
-    // ---- where posts have gone
+    // ---- where shards have gone
 
-    /// Notes to whom the post of a warehouse goes; with `None`, forgets it.
+    /// Notes to whom the shard of a warehouse goes; with `None`, forgets it.
     pub(crate) fn note(&mut self, home: u32, to: Option<u32>) {
         if let Some(note) = self.notes.get_mut(place_of(home)) {
             *note = to;
         }
     }
 
-    /// To whom the post of a warehouse has gone, if that is noted.
+    /// To whom the shard of a warehouse has gone, if that is noted.
     pub(crate) fn noted(&self, home: u32) -> Option<u32> {
         *self.notes.get(place_of(home))?
     }
 
     // ---- parked messages
 
-    /// Parks a message until the post of a warehouse comes.
+    /// Parks a message until the shard of a warehouse comes.
     pub(crate) fn park(&mut self, home: u32, message: Message<J>) -> Result<(), NoMemory> {
         Ok(self.parked.push_back((home, message))?)
     }
 
-    /// Sends itself each message that is parked for the post of a warehouse, in order.
+    /// Sends itself each message that is parked for the shard of a warehouse, in order.
     pub(crate) fn unpark(&mut self, home: u32) -> Result<(), NoMemory> {
         for _ in 0..self.parked.len() {
             let Some((parked_for, message)) = self.parked.pop_front() else {

@@ -1,12 +1,12 @@
 ghost use Rattle.std.specs.Prelude.{All};
-ghost use Rattle.engine.specs.ByHand.{HasAskedNothing, asked_by, told_by};
+ghost use Rattle.engine.specs.Interactive.{HasAskedNothing, asked_by, recorded_by};
 
 use crate::{Engine, Gate, Left, ServeNames, Session};
 use std::alloc::Global;
 use std::sync::Wait;
 use std::thread::Threads;
 
-/// Who asks by hand. Whatever a client does, what came of it keeps its promise.
+/// Who asks interactively. Whatever a client does, what came of it keeps its promise.
 pub trait Client {
     ghost use Rattle.std.specs.Prelude.{ℕ, List, Result};
     ghost use Rattle.schema.specs.Database.{Database};
@@ -26,5 +26,5 @@ pub trait Client {
         sessions: Vec<Session<J>>,
     ) -> Vec<Left<J>>
         requires { All HasAskedNothing sessions.items }
-        ensures { promises self.now J.opening (asked_by result.items) (told_by result.items) };
+        ensures { promises self.now J.opening (asked_by result.items) (recorded_by result.items) };
 }

@@ -6,7 +6,7 @@ ghost use Rattle.commit_log.specs.Items.{items_of};
 ghost use Rattle.commit_log.specs.Log.{requests_of};
 ghost use Rattle.machine.specs.Machine.{tables_after};
 ghost use Rattle.requests.specs.declared.request.Request.{Request};
-ghost use Rattle.engine.specs.ByHand.{asked_by, told_by};
+ghost use Rattle.engine.specs.Interactive.{asked_by, recorded_by};
 ghost use Rattle.engine.specs.Closing.{want_of_kind, wants_of_all, AreSettled, IsBackAt, IsSettledAt};
 ghost use Rattle.engine.specs.Outcome.{IsOutcome};
 ghost use Rattle.engine.specs.Served.{ServedEach};
@@ -17,7 +17,7 @@ use crate::engine::Engine;
 use crate::place::Place;
 use crate::{Answers, CloseFault, Gate, Idle, Left, MOST_SESSIONS, Outcome, ServeNames};
 use commit_log::Log;
-use executor::Post;
+use executor::CountedShard;
 use groups::{Extent, Kind, Mode, Prefix, Want};
 use local_locks::Asked;
 use partitions::Catalog;
@@ -31,7 +31,7 @@ use wait_die::Holder;
 
 /// The log, the answers and the last tables. Each session is compared with the log, and so is what each group has: so the
 /// answers are those that the log has, and the tables those that its transactions have left. `Unsettled` where something is
-/// not back: a session that asked by hand, in the order of their numbers, a slice or a claim.
+/// not back: a session that asked interactively, in the order of their numbers, a slice or a claim.
 pub fn close<J: ServeNames, G: Gate + Drop>(
     alloc: Global,
     engine: Engine<'_, J, G>,
@@ -46,7 +46,7 @@ pub fn close<J: ServeNames, G: Gate + Drop>(
     requires within { IsWithinScale J.opening }
     ensures outcome { IfOk result (λ outcome. IsOutcome J.opening (scripts.now ++ outcome.asked.items) outcome.log.items outcome.tables outcome.answers.items) }
     ensures asked { IfOk result (λ outcome. outcome.asked.items ≡ asked_by left.items) }
-    ensures told { IfOk result (λ outcome. drop (length scripts.now) outcome.answers.items ≡ told_by left.items) }
+    ensures recorded { IfOk result (λ outcome. drop (length scripts.now) outcome.answers.items ≡ recorded_by left.items) }
     ensures all { IfOk result (λ outcome. length scripts.now + length outcome.asked.items ≡ idle.first) }
 {
     if scripts.len() > idle.first || left.len() != idle.first - scripts.len() {
@@ -104,15 +104,15 @@ fn audit_served<J: ServeNames>(
         let Some(ready) = place.into_inner().into_session() else {
             return Err(CloseFault::Unsettled);
         };
-        let Some(told) = ready.audit(log, session) else {
+        let Some(recorded) = ready.audit(log, session) else {
             return Err(CloseFault::Unsettled);
         };
-        put(&mut answers, told)?;
+        put(&mut answers, recorded)?;
     }
     Ok(answers)
 }
 
-// What the sessions have asked that asked by hand, which are compared with the log. Their answers follow those of the scripts.
+// What the sessions have asked that asked interactively, which are compared with the log. Their answers follow those of the scripts.
 fn audit_left<J: ServeNames>(
     alloc: Global,
     log: &mut Log<J>,
@@ -120,18 +120,18 @@ fn audit_left<J: ServeNames>(
     answers: &mut Vec<Answers>,
 ) -> Result<Vec<Script>, CloseFault>
     ensures asked { IfOk result (λ asked. asked.items ≡ asked_by left.items) }
-    ensures told { IfOk result (λ _. answers.new.items ≡ answers.old.items ++ told_by left.items) }
+    ensures recorded { IfOk result (λ _. answers.new.items ≡ answers.old.items ++ recorded_by left.items) }
     ensures each { IfOk result (λ _. (scripts : List (List Request)) → AreAskedFrom (length answers.old.items) scripts left.items
         → ServedEach J.opening.scale scripts log.old answers.old.items → ServedEach J.opening.scale scripts log.old answers.new.items) }
     ensures same { log.new ≡ log.old }
 {
     let mut asked = Vec::with_capacity(alloc, left.len())?;
     for session in left {
-        let Some((script, told)) = session.audit(log, answers.len()) else {
+        let Some((script, recorded)) = session.audit(log, answers.len()) else {
             return Err(CloseFault::Unsettled);
         };
         put(&mut asked, script)?;
-        put(answers, told)?;
+        put(answers, recorded)?;
     }
     Ok(asked)
 }
@@ -178,24 +178,24 @@ fn settle_all<J: ServeNames>(
     Ok(slices)
 }
 
-// The slice of a warehouse, if an executor has its post.
+// The slice of a warehouse, if an executor has its shard.
 fn slice_of<J: ServeNames>(executors: &mut Vec<Executor<J>>, home: u32) -> Option<Slice<J>>
     ensures { IfSome result (IsBackAt J.opening home) }
 {
-    let post = post_of(executors, home)?;
-    if post.home() != home {
+    let shard = shard_of(executors, home)?;
+    if shard.home() != home {
         return None;
     }
-    let slice = Box::into_inner(post).into_slice();
+    let slice = Box::into_inner(shard).into_slice();
     let _ = slice.partition();
     Some(slice)
 }
 
-// The post of a warehouse, at whichever executor it is.
-fn post_of<J: ServeNames>(executors: &mut Vec<Executor<J>>, home: u32) -> Option<Box<Post<J>>> {
+// The shard of a warehouse, at whichever executor it is.
+fn shard_of<J: ServeNames>(executors: &mut Vec<Executor<J>>, home: u32) -> Option<Box<CountedShard<J>>> {
     for executor in executors.iter_mut() {
-        if let Some(post) = executor.posts.take(home) {
-            return Some(post);
+        if let Some(shard) = executor.shards.take(home) {
+            return Some(shard);
         }
     }
     None

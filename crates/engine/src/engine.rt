@@ -1,13 +1,13 @@
 //! What all executors share.
 ghost use Rattle.std.specs.Prelude.{◌≡◌};
 
-use crate::bed::Bed;
+use crate::parking::Parking;
 use crate::moves::Moves;
-use crate::place::{Advanced, Ended, Place, Strange};
+use crate::place::{Advanced, Ended, Place, Unexpected};
 use crate::{Gate, ServeNames};
 use commit_log::Log;
 use crossbeam_utils::Backoff;
-use executor::{Journey, Keeper, Met, Phase, Report, Told};
+use executor::{Flow, PhaseOwner, Met, Phase, Report, SessionAnswer};
 use requests::{Request, Script};
 use routing::SharedRouting;
 use schema::Scale;
@@ -39,9 +39,9 @@ pub struct Engine<'a, J: ServeNames, G: Gate> {
     /// By the sessions' numbers.
     pub(crate) places: Vec<Mutex<Place<'a, J>>>,
     /// By the executors' numbers.
-    pub(crate) beds: Vec<Bed>,
-    /// Where those sessions wait for their answers that ask by hand, which are the sessions after those that have a script.
-    pub(crate) lobby: Vec<Bed>,
+    pub(crate) parkings: Vec<Parking>,
+    /// Where those sessions wait for their answers that ask interactively, which are the sessions after those that have a script.
+    pub(crate) waiters: Vec<Parking>,
     /// The age of the next transaction.
     pub(crate) ages: AtomicU64,
     /// How many sessions have still something to ask.
@@ -77,31 +77,31 @@ impl<J: ServeNames, G: Gate> Engine<'_, J, G> {
 
     /// All executors, and all who wait for an answer, look whether they are to end.
     pub(crate) fn wake_all(&self) {
-        for bed in self.beds.iter() {
-            bed.wake();
+        for parking in self.parkings.iter() {
+            parking.wake();
         }
-        for bed in self.lobby.iter() {
-            bed.wake();
+        for parking in self.waiters.iter() {
+            parking.wake();
         }
     }
 
     /// A message has come for this executor.
     pub(crate) fn call(&self, executor: u32) {
-        if let Some(bed) = self.beds.get(executor as usize) {
-            bed.call();
+        if let Some(parking) = self.parkings.get(executor as usize) {
+            parking.call();
         }
     }
 
-    /// The session of this slot has an answer: it is called, if it asks by hand.
+    /// The session of this slot has an answer: it is called, if it asks interactively.
     pub(crate) fn call_session(&self, slot: usize) {
-        if let Some(bed) = self.waits_at(slot) {
-            bed.call();
+        if let Some(parking) = self.waits_at(slot) {
+            parking.call();
         }
     }
 
-    // Where the session of this slot waits for its answers, if it asks by hand.
-    fn waits_at(&self, slot: usize) -> Option<&Bed> {
-        self.lobby.get(slot.checked_sub(self.scripts.len())?)
+    // Where the session of this slot waits for its answers, if it asks interactively.
+    fn waits_at(&self, slot: usize) -> Option<&Parking> {
+        self.waiters.get(slot.checked_sub(self.scripts.len())?)
     }
 
     /// The request of this number in this session's script.
@@ -125,14 +125,14 @@ impl<J: ServeNames, G: Gate> Engine<'_, J, G> {
         rt: &impl Wait,
         slot: usize,
         report: Report<J>,
-    ) -> Result<Option<Met<J>>, Strange> {
+    ) -> Result<Option<Met<J>>, Unexpected> {
         match self.places.get(slot) {
             Some(place) => place.lock(rt).report(report),
-            None => Err(Strange),
+            None => Err(Unexpected),
         }
     }
 
-    /// A phase of the transaction in this slot is under way by messages.
+    /// A phase of the transaction in this slot is in flight by messages.
     pub(crate) fn go_on(&self, rt: &impl Wait, slot: usize, phase: Phase<J>) {
         if let Some(place) = self.places.get(slot) {
             place.lock(rt).go_on(phase);
@@ -144,13 +144,13 @@ impl<J: ServeNames, G: Gate> Engine<'_, J, G> {
         &self,
         rt: &impl Wait,
         slot: usize,
-        told: Told<J>,
-        keeper: Keeper<J>,
+        recorded: SessionAnswer<J>,
+        phase_owner: PhaseOwner<J>,
         ending: usize,
-    ) -> Result<Ended, Strange> {
+    ) -> Result<Ended, Unexpected> {
         match self.places.get(slot) {
-            Some(place) => place.lock(rt).end(told, keeper, ending, self.tries),
-            None => Err(Strange),
+            Some(place) => place.lock(rt).end(recorded, phase_owner, ending, self.tries),
+            None => Err(Unexpected),
         }
     }
 
@@ -160,34 +160,34 @@ impl<J: ServeNames, G: Gate> Engine<'_, J, G> {
         self.places.get(slot)?.lock(rt).give_back()
     }
 
-    /// The session of this slot asks a request by hand, at the terminal of this warehouse.
+    /// The session of this slot asks a request interactively, at the terminal of this warehouse.
     pub(crate) fn ask(
         &self,
         rt: &impl Wait,
         slot: usize,
         home: u32,
-        journey: Journey<J>,
-    ) -> Result<(), Strange> {
+        flow: Flow<J>,
+    ) -> Result<(), Unexpected> {
         match self.places.get(slot) {
-            Some(place) => place.lock(rt).call(home, journey),
-            None => Err(Strange),
+            Some(place) => place.lock(rt).call(home, flow),
+            None => Err(Unexpected),
         }
     }
 
-    /// Waits for the answer to what the session of this slot has asked by hand. `None` where the executors end without.
-    pub(crate) fn wait_for_answer(&self, rt: &impl Wait, slot: usize) -> Option<Told<J>> {
+    /// Waits for the answer to what the session of this slot has asked interactively. `None` where the executors end without.
+    pub(crate) fn wait_for_answer(&self, rt: &impl Wait, slot: usize) -> Option<SessionAnswer<J>> {
         let place = self.places.get(slot)?;
-        let bed = self.waits_at(slot)?;
+        let parking = self.waits_at(slot)?;
         let backoff = Backoff::new();
         for _ in rt.forever() {
-            bed.lie_down();
-            let told = place.lock(rt).take_told();
-            if told.is_some() || self.is_stopped.load(Ordering::SeqCst) {
-                bed.get_up();
-                return told;
+            parking.lie_down();
+            let recorded = place.lock(rt).take_recorded();
+            if recorded.is_some() || self.is_stopped.load(Ordering::SeqCst) {
+                parking.get_up();
+                return recorded;
             }
             if backoff.is_completed() {
-                bed.rest(rt, None);
+                parking.rest(rt, None);
             } else {
                 backoff.snooze();
             }
@@ -195,11 +195,11 @@ impl<J: ServeNames, G: Gate> Engine<'_, J, G> {
         unreachable!()
     }
 
-    /// The session of this slot asks no more by hand.
-    pub(crate) fn leave(&self, rt: &impl Wait, slot: usize) -> Result<(), Strange> {
+    /// The session of this slot asks no more interactively.
+    pub(crate) fn leave(&self, rt: &impl Wait, slot: usize) -> Result<(), Unexpected> {
         match self.places.get(slot) {
             Some(place) => place.lock(rt).leave(),
-            None => Err(Strange),
+            None => Err(Unexpected),
         }
     }
 
@@ -219,12 +219,12 @@ impl<J: ServeNames, G: Gate> Engine<'_, J, G> {
         alloc: Global,
         slot: usize,
         executor: u32,
-    ) -> Result<Advanced<J>, Strange> {
+    ) -> Result<Advanced<J>, Unexpected> {
         match self.places.get(slot) {
             Some(place) => place
                 .lock(rt)
                 .advance(alloc, &self.scale, &self.ages, slot, self.tries, executor),
-            None => Err(Strange),
+            None => Err(Unexpected),
         }
     }
 }

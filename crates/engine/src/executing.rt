@@ -2,10 +2,10 @@
 use crate::belongings::{Executor, STEP};
 use crate::engine::Engine;
 use crate::message::Message;
-use crate::place::{Advanced, Ended, Strange};
+use crate::place::{Advanced, Ended, Unexpected};
 use crate::{Gate, ServeNames};
 use crossbeam_utils::Backoff;
-use executor::{Commit, Errand, Following, GivenBack, Paused, Release, Report, Returns, Tried};
+use executor::{Commit, Act, Following, GivenBack, Paused, Release, Report, Returns, Tried};
 use std::alloc::Global;
 use std::sync::Wait;
 use std::time::Duration;
@@ -14,7 +14,7 @@ use std::time::Duration;
 /// from their first action on, and all but the oldest die: so one more would cost more than it brings (docs/COSTS.md).
 const MOST_BEGUN: usize = 1;
 
-/// How many messages to itself and posts that were freed an executor takes at most before it looks at its inbox.
+/// How many messages to itself and shards that were freed an executor takes at most before it looks at its inbox.
 const MOST_OWN: u32 = 16;
 
 /// An executor at work in its thread.
@@ -77,7 +77,7 @@ impl<J: ServeNames, G: Gate, R: Wait> AtWork<'_, '_, J, G, R> {
         true
     }
 
-    // Those who wait at the first post that somebody has left have their turn. Whether there was one.
+    // Those who wait at the first shard that somebody has left have their turn. Whether there was one.
     fn free_next(&mut self) -> bool {
         let Some(home) = self.own.freed.pop_front() else {
             return false;
@@ -112,16 +112,16 @@ impl<J: ServeNames, G: Gate, R: Wait> AtWork<'_, '_, J, G, R> {
 
     // Rests until a message comes, which it takes, or no longer than this. Whether one came.
     fn rest(&mut self, longest: Option<Duration>) -> bool {
-        let Some(bed) = self.engine.beds.get(self.own.number as usize) else {
+        let Some(parking) = self.engine.parkings.get(self.own.number as usize) else {
             return false;
         };
-        bed.lie_down();
+        parking.lie_down();
         // (one that came before is one of which nobody calls)
         let came = self.take_theirs();
         if !came {
-            bed.rest(self.rt, longest);
+            parking.rest(self.rt, longest);
         }
-        bed.get_up();
+        parking.get_up();
         came || self.take_theirs()
     }
 
@@ -156,7 +156,7 @@ impl<J: ServeNames, G: Gate, R: Wait> AtWork<'_, '_, J, G, R> {
                 Ok(Advanced::Answered) => self.engine.call_session(slot),
                 Ok(Advanced::Begins(first, paused)) => {
                     self.own.begun = self.own.begun.saturating_add(1);
-                    self.tell_asked(first);
+                    self.record_asked(first);
                     self.go_on(slot, Following::Next(paused));
                     return;
                 }
@@ -165,7 +165,7 @@ impl<J: ServeNames, G: Gate, R: Wait> AtWork<'_, '_, J, G, R> {
                     self.engine.end_session();
                     return;
                 }
-                Err(Strange) => {
+                Err(Unexpected) => {
                     self.engine.stop();
                     return;
                 }
@@ -174,7 +174,7 @@ impl<J: ServeNames, G: Gate, R: Wait> AtWork<'_, '_, J, G, R> {
     }
 
     // A session asks the request of this number for the first time.
-    fn tell_asked(&self, first: Option<(u32, u32)>) {
+    fn record_asked(&self, first: Option<(u32, u32)>) {
         if let Some((session, number)) = first
             && let Some(request) = self.engine.request(session, number)
         {
@@ -202,28 +202,28 @@ impl<J: ServeNames, G: Gate, R: Wait> AtWork<'_, '_, J, G, R> {
         match message {
             Message::Begin(slot) => self.get_ready(slot, 0),
             Message::Over(slot) => self.over(slot),
-            Message::Errand(errand) => self.act(errand),
+            Message::Act(act) => self.perform(act),
             Message::GivenBack(given) => self.take_back(given),
             Message::Move(order) => self.move_here(order),
-            Message::Fetch { home, to } => self.send_post(home, to),
-            Message::Parcel(post) => self.install(post),
+            Message::Fetch { home, to } => self.send_shard(home, to),
+            Message::Parcel(shard) => self.install(shard),
         }
     }
 
-    // An action asks at its post, and reports unless it waits there.
-    fn act(&mut self, errand: Errand<J>) {
-        let home = errand.home();
-        let Some(post) = self.own.posts.get_mut(home) else {
-            self.pass_on(home, Message::Errand(errand));
+    // An action asks at its shard, and reports unless it waits there.
+    fn perform(&mut self, act: Act<J>) {
+        let home = act.home();
+        let Some(shard) = self.own.shards.get_mut(home) else {
+            self.pass_on(home, Message::Act(act));
             return;
         };
-        if let Some(report) = post.work(self.alloc, errand) {
+        if let Some(report) = shard.work(self.alloc, act) {
             self.report(report);
         }
         self.take_turns(home);
     }
 
-    // Claims come back to their post.
+    // Claims come back to their shard.
     fn take_back(&mut self, given: GivenBack<J>) {
         let slot = given.slot();
         match self.give_back_here(given) {
@@ -232,12 +232,12 @@ impl<J: ServeNames, G: Gate, R: Wait> AtWork<'_, '_, J, G, R> {
         }
     }
 
-    // Claims go back to their post, if that is here.
+    // Claims go back to their shard, if that is here.
     fn give_back_here(&mut self, given: GivenBack<J>) -> Result<(), GivenBack<J>> {
         let home = given.home();
-        self.own.posts.give_back(given)?;
-        if let Some(post) = self.own.posts.get_mut(home)
-            && post.may_have_waiters()
+        self.own.shards.give_back(given)?;
+        if let Some(shard) = self.own.shards.get_mut(home)
+            && shard.may_have_waiters()
             && self.own.freed.push_back(home).is_err()
         {
             self.engine.stop();
@@ -245,10 +245,10 @@ impl<J: ServeNames, G: Gate, R: Wait> AtWork<'_, '_, J, G, R> {
         Ok(())
     }
 
-    /// Each of those who wait at a post and need not any more has its turn, and reports. Mostly nobody waits.
+    /// Each of those who wait at a shard and need not any more has its turn, and reports. Mostly nobody waits.
     pub(crate) fn take_turns(&mut self, home: u32) {
-        if let Some(post) = self.own.posts.get_mut(home)
-            && post.may_have_waiters()
+        if let Some(shard) = self.own.shards.get_mut(home)
+            && shard.may_have_waiters()
         {
             self.take_each_turn(home);
         }
@@ -256,10 +256,10 @@ impl<J: ServeNames, G: Gate, R: Wait> AtWork<'_, '_, J, G, R> {
 
     fn take_each_turn(&mut self, home: u32) {
         for _ in self.rt.forever() {
-            let Some(post) = self.own.posts.get_mut(home) else {
+            let Some(shard) = self.own.shards.get_mut(home) else {
                 return;
             };
-            let Some(report) = post.turn(self.alloc) else {
+            let Some(report) = shard.turn(self.alloc) else {
                 return;
             };
             self.report(report);
@@ -274,7 +274,7 @@ impl<J: ServeNames, G: Gate, R: Wait> AtWork<'_, '_, J, G, R> {
         match self.engine.report(self.rt, slot, report) {
             Ok(Some(met)) => self.go_on(slot, met.follow(self.alloc)),
             Ok(None) => {}
-            Err(Strange) => self.engine.stop(),
+            Err(Unexpected) => self.engine.stop(),
         }
     }
 
@@ -284,7 +284,7 @@ impl<J: ServeNames, G: Gate, R: Wait> AtWork<'_, '_, J, G, R> {
         let mut following = following;
         for _ in self.rt.forever() {
             match following {
-                Following::Next(paused) => match paused.run_here(self.alloc, &mut self.own.posts) {
+                Following::Next(paused) => match paused.run_here(self.alloc, &mut self.own.shards) {
                     Tried::Done(next) => following = next,
                     Tried::Apart(paused) => return self.send_out(slot, paused),
                 },
@@ -297,10 +297,10 @@ impl<J: ServeNames, G: Gate, R: Wait> AtWork<'_, '_, J, G, R> {
     // The next phase of a transaction goes by messages.
     fn send_out(&mut self, slot: usize, paused: Paused<J>) {
         match paused.send_out(self.alloc) {
-            Ok((phase, errands)) => {
+            Ok((phase, acts)) => {
                 self.engine.go_on(self.rt, slot, phase);
-                for errand in errands {
-                    self.send(errand.home(), Message::Errand(errand));
+                for act in acts {
+                    self.send(act.home(), Message::Act(act));
                 }
             }
             Err(release) => self.release(slot, release),
@@ -318,19 +318,19 @@ impl<J: ServeNames, G: Gate, R: Wait> AtWork<'_, '_, J, G, R> {
 
     // The transaction is over: its claims go back, and its session has the answer.
     fn release(&mut self, slot: usize, release: Release<J>) {
-        let (told, mut returns, keeper) = release.into_parts();
-        let session = told.session();
-        let number = told.number();
+        let (recorded, mut returns, phase_owner) = release.into_parts();
+        let session = recorded.session();
+        let number = recorded.number();
         let elsewhere = self.give_back_last(&mut returns);
         let ending = returns
             .len()
             .saturating_add(usize::from(elsewhere.is_some()));
-        let Ok(ended) = self.engine.end(self.rt, slot, told, keeper, ending) else {
+        let Ok(ended) = self.engine.end(self.rt, slot, recorded, phase_owner, ending) else {
             self.engine.stop();
             return;
         };
         self.engine.call_session(slot);
-        self.tell_answered(session, number, ended);
+        self.record_answered(session, number, ended);
         if let Some(given) = elsewhere {
             self.send_back(given);
         }
@@ -343,7 +343,7 @@ impl<J: ServeNames, G: Gate, R: Wait> AtWork<'_, '_, J, G, R> {
         self.send_over(slot, ended.over);
     }
 
-    // The claims of the last actions go back to their posts, as long as these are here. The first that go elsewhere, if some do.
+    // The claims of the last actions go back to their shards, as long as these are here. The first that go elsewhere, if some do.
     fn give_back_last(&mut self, returns: &mut Returns<J>) -> Option<GivenBack<J>> {
         for _ in 0..returns.len() {
             if let Err(given) = self.give_back_here(returns.next_back()?) {
@@ -359,7 +359,7 @@ impl<J: ServeNames, G: Gate, R: Wait> AtWork<'_, '_, J, G, R> {
     }
 
     // The request of this number has its answer, unless it is asked again.
-    fn tell_answered(&self, session: u32, number: u32, ended: Ended) {
+    fn record_answered(&self, session: u32, number: u32, ended: Ended) {
         if ended.is_answered
             && let Some(request) = self.engine.request(session, number)
         {

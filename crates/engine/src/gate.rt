@@ -1,10 +1,10 @@
 use requests::Request;
 
 /// Stands by while requests are served, and may hold an executor up where they come by. A request that its
-/// check refuses does not come by, nor one that can't be begun for want of memory; and what is asked by hand
+/// check refuses does not come by, nor one that can't be begun for lack of memory; and what is asked interactively
 /// comes by at the log alone. Whatever a gate does, the engine's answers keep their promise.
 pub trait Gate {
-    /// The session's request of this number is under way, for the first time.
+    /// The session's request of this number is in flight, for the first time.
     fn asked(&self, session: u32, number: u32, request: &Request);
 
     /// An executor is about to take the log's lock, for this request.

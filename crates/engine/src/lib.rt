@@ -1,11 +1,11 @@
-//! What executors in threads of their own do to serve sessions, which ask scripts or by hand: an engine is opened over tables, each
+//! What executors in threads of their own do to serve sessions, which ask scripts or interactively: an engine is opened over tables, each
 //! executor works on messages and begins the requests of sessions, and what came of it all is told once they have ended. `serve` and
 //! `serve_client` start the threads; nothing else does.
 #![tactic(auto)]
 
 mod answers;
 mod asking;
-mod bed;
+mod parking;
 mod belongings;
 mod client;
 mod closing;

@@ -8,7 +8,7 @@ pub(crate) struct Moves<'a> {
     orders: &'a [MoveOrder],
     /// How many were begun; one more than there are, once all are over.
     begun: AtomicUsize,
-    /// How many warehouses of the move that is under way have not yet come.
+    /// How many warehouses of the move that is in flight have not yet come.
     awaited: AtomicU32,
 }
 
@@ -22,7 +22,7 @@ impl<'a> Moves<'a> {
         }
     }
 
-    /// The next move, which is under way from now on; `None` where all are over. None may be under way.
+    /// The next move, which is in flight from now on; `None` where all are over. None may be in flight.
     pub(crate) fn begin_next(&self) -> Option<MoveOrder> {
         let place = self.begun.fetch_add(1, Ordering::SeqCst);
         let order = *self.orders.get(place)?;

@@ -1,18 +1,18 @@
-//! What an executor does of moves: it fetches posts and sends them, and messages follow them.
+//! What an executor does of moves: it fetches shards and sends them, and messages follow them.
 use crate::executing::AtWork;
 use crate::message::Message;
 use crate::{Gate, ServeNames};
-use executor::Post;
+use executor::CountedShard;
 use range_moves::MoveOrder;
 use std::sync::Wait;
 
 impl<J: ServeNames, G: Gate, R: Wait> AtWork<'_, '_, J, G, R> {
-    /// A move begins: the posts of its range are to be here. From now on messages for them come here too.
+    /// A move begins: the shards of its range are to be here. From now on messages for them come here too.
     pub(crate) fn move_here(&mut self, order: MoveOrder) {
         let MoveOrder { lo, hi, .. } = order;
         for home in lo..=hi {
             self.own.note(home, None);
-            if self.own.posts.has(home) {
+            if self.own.shards.has(home) {
                 self.report_moved();
             } else {
                 self.fetch(home);
@@ -20,7 +20,7 @@ impl<J: ServeNames, G: Gate, R: Wait> AtWork<'_, '_, J, G, R> {
         }
     }
 
-    // Has the post of a warehouse sent here.
+    // Has the shard of a warehouse sent here.
     fn fetch(&mut self, home: u32) {
         let to = self.own.number;
         let from = self.engine.routing.route(home);
@@ -28,21 +28,21 @@ impl<J: ServeNames, G: Gate, R: Wait> AtWork<'_, '_, J, G, R> {
         self.send_to(from, Message::Fetch { home, to });
     }
 
-    /// The post of a warehouse goes to this executor, with all who wait there.
-    pub(crate) fn send_post(&mut self, home: u32, to: u32) {
-        match self.own.posts.take(home) {
-            Some(post) => {
+    /// The shard of a warehouse goes to this executor, with all who wait there.
+    pub(crate) fn send_shard(&mut self, home: u32, to: u32) {
+        match self.own.shards.take(home) {
+            Some(shard) => {
                 self.own.note(home, Some(to));
-                self.send_to(to, Message::Parcel(post));
+                self.send_to(to, Message::Parcel(shard));
             }
             None => self.pass_on(home, Message::Fetch { home, to }),
         }
     }
 
-    /// The post of a warehouse has come.
-    pub(crate) fn install(&mut self, post: Box<Post<J>>) {
-        let home = post.home();
-        self.own.posts.put(post);
+    /// The shard of a warehouse has come.
+    pub(crate) fn install(&mut self, shard: Box<CountedShard<J>>) {
+        let home = shard.home();
+        self.own.shards.put(shard);
         self.report_moved();
         if self.own.unpark(home).is_err() {
             self.engine.stop();
@@ -51,7 +51,7 @@ impl<J: ServeNames, G: Gate, R: Wait> AtWork<'_, '_, J, G, R> {
         self.take_turns(home);
     }
 
-    // A warehouse of the move that is under way has come to where it goes. With the last one the next move begins; with the last
+    // A warehouse of the move that is in flight has come to where it goes. With the last one the next move begins; with the last
     // move, the executors end once all scripts are served.
     fn report_moved(&mut self) {
         if !self.engine.moves.report() {
@@ -63,7 +63,7 @@ impl<J: ServeNames, G: Gate, R: Wait> AtWork<'_, '_, J, G, R> {
         }
     }
 
-    /// A message for a post that isn't here goes to where the post went. If that is not noted, the post is on its way here, and the
+    /// A message for a shard that isn't here goes to where the shard went. If that is not noted, the shard is on its way here, and the
     /// message is parked until it comes.
     pub(crate) fn pass_on(&mut self, home: u32, message: Message<J>) {
         match self.own.noted(home) {
@@ -74,7 +74,7 @@ impl<J: ServeNames, G: Gate, R: Wait> AtWork<'_, '_, J, G, R> {
 
     // What is for no warehouse at all can't wait for one.
     fn park(&mut self, home: u32, message: Message<J>) {
-        if !self.own.posts.is_warehouse(home) || self.own.park(home, message).is_err() {
+        if !self.own.shards.is_warehouse(home) || self.own.park(home, message).is_err() {
             self.engine.stop();
         }
     }

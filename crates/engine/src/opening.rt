@@ -2,12 +2,12 @@
 ghost use Rattle.std.specs.Prelude.{◌≡◌, ◌≤◌, ◌<◌, All, IfOk, vec_len};
 ghost use Rattle.partitions.specs.Parts.{shared_of};
 ghost use Rattle.slices.specs.Openings.{AreOpenedFor};
-ghost use Rattle.engine.specs.ByHand.{HasAskedNothing};
-ghost use Rattle.engine.specs.Opening.{AreCoursesFrom, IsNamedFor, IsToOpen};
+ghost use Rattle.engine.specs.Interactive.{HasAskedNothing};
+ghost use Rattle.engine.specs.Opening.{AreAgreedPhasesFrom, IsNamedFor, IsToOpen};
 ghost use Rattle.engine.specs.Sessions.{AreNewFrom};
 
 use crate::asking::Ready;
-use crate::bed::Bed;
+use crate::parking::Parking;
 use crate::belongings::Executor;
 use crate::engine::Engine;
 use crate::message::Message;
@@ -15,7 +15,7 @@ use crate::moves::Moves;
 use crate::place::Place;
 use crate::{Gate, Idle, ServeNames, Session};
 use commit_log::{Log, LogBook, Pass, SessionSeat, UnnamedLog};
-use executor::{OpenedCourse, Post};
+use executor::{OpenedPhaseAgreement, CountedShard};
 use partitions::Catalog;
 use queues::Sender;
 use range_moves::MoveOrder;
@@ -30,42 +30,42 @@ use std::vec::IntoIter;
 use tickets::{GroupSeats, named_all};
 use transactions::home_of_request;
 
-/// What all that is under way will agree on, before it has a name: what a name is picked from.
+/// What all that is in flight will agree on, before it has a name: what a name is picked from.
 #[derive(Drop)]
 pub struct Opening {
     /// The seats of all groups, by their places.
     pub(crate) groups: Vec<GroupSeats>,
     pub(crate) log: UnnamedLog,
-    /// The course of each session's transactions, by the sessions' numbers.
-    pub(crate) courses: Vec<OpenedCourse>,
+    /// The agreed phase of each session's transactions, by the sessions' numbers.
+    pub(crate) agreed_phases: Vec<OpenedPhaseAgreement>,
 }
 
 impl Opening {
-    /// The agreements of the tables' groups, of a log without entries, and of so many sessions' courses. Nothing is left after
+    /// The agreements of the tables' groups, of a log without entries, and of so many sessions' agreed phases. Nothing is left after
     /// an error.
     pub fn open(alloc: Global, tables: &Tables, sessions: usize) -> Result<Opening, NoMemory>
         ensures groups { IfOk result (λ opening. AreOpenedFor tables.now opening.groups.items) }
-        ensures courses { IfOk result (λ opening. vec_len opening.courses ≡ sessions) }
+        ensures agreed_phases { IfOk result (λ opening. vec_len opening.agreed_phases ≡ sessions) }
     {
         let groups = open_groups(alloc, tables)?;
         let log = UnnamedLog::open(alloc)?;
-        let courses = open_courses(alloc, sessions)?;
+        let agreed_phases = open_agreed_phases(alloc, sessions)?;
         Ok(Opening {
             groups,
             log,
-            courses,
+            agreed_phases,
         })
     }
 }
 
-fn open_courses(alloc: Global, sessions: usize) -> Result<Vec<OpenedCourse>, NoMemory>
-    ensures { IfOk result (λ courses. vec_len courses ≡ sessions) }
+fn open_agreed_phases(alloc: Global, sessions: usize) -> Result<Vec<OpenedPhaseAgreement>, NoMemory>
+    ensures { IfOk result (λ agreed_phases. vec_len agreed_phases ≡ sessions) }
 {
-    let mut courses = Vec::with_capacity(alloc, sessions)?;
+    let mut agreed_phases = Vec::with_capacity(alloc, sessions)?;
     for _slot in 0..sessions {
-        courses.push(OpenedCourse::open(alloc)?)?;
+        agreed_phases.push(OpenedPhaseAgreement::open(alloc)?)?;
     }
-    Ok(courses)
+    Ok(agreed_phases)
 }
 
 /// The senders into each inbox that nobody has yet.
@@ -78,14 +78,14 @@ pub struct Opened<'a, J: ServeNames, G: Gate> {
     pub engine: Engine<'a, J, G>,
     pub executors: Vec<Executor<J>>,
     pub catalog: Catalog,
-    /// Those that ask by hand, in the order of their numbers.
+    /// Those that ask interactively, in the order of their numbers.
     pub sessions: Vec<Session<J>>,
     /// Those by which nobody asks.
     pub idle: Idle<J>,
 }
 
 /// An engine over these tables, with so many executors, for these scripts and moves. Session s asks script s; the sessions after
-/// these, as many as the opening has, ask by hand. An inbox holds `room` messages at most; one that finds it full waits at its
+/// these, as many as the opening has, ask interactively. An inbox holds `room` messages at most; one that finds it full waits at its
 /// sender. There has to be a way to make each move (`MoveOrder::is_within`), else its executors may never end. Nothing is left
 /// after an error.
 pub fn open<'a, J: ServeNames, G: Gate + Drop>(
@@ -100,29 +100,29 @@ pub fn open<'a, J: ServeNames, G: Gate + Drop>(
     gate: G,
 ) -> Result<Opened<'a, J, G>, NoMemory>
     requires room { 0 < room }
-    requires named { IsNamedFor J.LogNames J.GroupNames J.course J.scripts tables scripts.now opening }
+    requires named { IsNamedFor J.LogNames J.GroupNames J.agreed_phase J.scripts tables scripts.now opening }
     requires some { 1 ≤ executors }
-    requires most { vec_len opening.courses ≤ 64 }
+    requires most { vec_len opening.agreed_phases ≤ 64 }
     ensures catalog { IfOk result (λ opened. opened.catalog ≡ shared_of tables) }
-    ensures idle { IfOk result (λ opened. opened.idle.first ≡ vec_len opening.courses) }
+    ensures idle { IfOk result (λ opened. opened.idle.first ≡ vec_len opening.agreed_phases) }
     ensures sessions { IfOk result (λ opened. All HasAskedNothing opened.sessions.items) }
 {
     let Opening {
         groups,
         log,
-        courses,
+        agreed_phases,
     } = opening;
     let scale = tables.scale();
     let routing = Routing::opening(&scale, executors);
     let (boxes, seats) = named_all::<J>(alloc, scale.warehouses, groups)?;
     let (catalog, slices) = cut(alloc, tables, boxes)?;
-    let by_hand = courses.len().saturating_sub(scripts.len());
+    let interactive = agreed_phases.len().saturating_sub(scripts.len());
     let (mut executors, mut senders) = open_idle(
         alloc,
         executors,
         scale.warehouses,
         room,
-        by_hand as u32,
+        interactive as u32,
     )?;
     open_posts(alloc, &mut executors, &routing, slices)?;
     begin_sessions(&mut executors, &routing, scripts)?;
@@ -130,7 +130,7 @@ pub fn open<'a, J: ServeNames, G: Gate + Drop>(
     if let Some(order) = moves.begin_next() {
         begin_move(&mut executors, order)?;
     }
-    let beds = beds_for(alloc, executors.len())?;
+    let parkings = parkings_for(alloc, executors.len())?;
     let (book, lanes) = LogBook::<J>::open(alloc, log)?;
     let mut log = Log::new(book, seats);
     log.reserve(requests_in(scripts))?;
@@ -138,7 +138,7 @@ pub fn open<'a, J: ServeNames, G: Gate + Drop>(
         places,
         sessions,
         idle,
-    } = open_places(alloc, lanes, courses, scripts, &mut senders, tries)?;
+    } = open_places(alloc, lanes, agreed_phases, scripts, &mut senders, tries)?;
     let engine = Engine {
         scale,
         scripts,
@@ -149,8 +149,8 @@ pub fn open<'a, J: ServeNames, G: Gate + Drop>(
         log: Mutex::new(log),
         unserved: AtomicUsize::new(places.len()),
         places,
-        beds,
-        lobby: beds_for(alloc, sessions.len())?,
+        parkings,
+        waiters: parkings_for(alloc, sessions.len())?,
         ages: AtomicU64::new(0),
         is_stopped: AtomicBool::new(false),
     };
@@ -172,7 +172,7 @@ fn requests_in(scripts: &[Script]) -> usize {
     count
 }
 
-// The executors have the posts of their warehouses.
+// The executors have the shards of their warehouses.
 fn open_posts<J: ServeNames>(
     alloc: Global,
     executors: &mut Vec<Executor<J>>,
@@ -182,17 +182,17 @@ fn open_posts<J: ServeNames>(
     requires { All (IsToOpen J.opening) slices.items }
 {
     for slice in slices {
-        let post = Box::new(alloc, Post::new(alloc, slice))?;
-        let to = routing.route(post.home()) as usize;
-        put_post(executors, to, post);
+        let shard = Box::new(alloc, CountedShard::new(alloc, slice))?;
+        let to = routing.route(shard.home()) as usize;
+        put_shard(executors, to, shard);
     }
     Ok(())
 }
 
-// An executor has this post. One that nobody has would be missed at the end.
-fn put_post<J: ServeNames>(executors: &mut Vec<Executor<J>>, to: usize, post: Box<Post<J>>) {
+// An executor has this shard. One that nobody has would be missed at the end.
+fn put_shard<J: ServeNames>(executors: &mut Vec<Executor<J>>, to: usize, shard: Box<CountedShard<J>>) {
     if let Some(executor) = executors.get_mut(to) {
-        executor.posts.put(post);
+        executor.shards.put(shard);
     }
 }
 
@@ -225,7 +225,7 @@ fn begin_move<J: ServeNames>(
     }
 }
 
-// So many executors, each with its inbox, and no posts yet; and the further senders into each inbox, for so many sessions.
+// So many executors, each with its inbox, and no shards yet; and the further senders into each inbox, for so many sessions.
 fn open_idle<J: ServeNames>(
     alloc: Global,
     count: u32,
@@ -268,13 +268,13 @@ fn next_of_each<T: Drop>(
     Ok(next)
 }
 
-// A bed for each executor.
-fn beds_for(alloc: Global, executors: usize) -> Result<Vec<Bed>, NoMemory> {
-    let mut beds = Vec::with_capacity(alloc, executors)?;
+// A parking place for each executor.
+fn parkings_for(alloc: Global, executors: usize) -> Result<Vec<Parking>, NoMemory> {
+    let mut parkings = Vec::with_capacity(alloc, executors)?;
     for _ in 0..executors {
-        beds.push(Bed::new())?;
+        parkings.push(Parking::new())?;
     }
-    Ok(beds)
+    Ok(parkings)
 }
 
 /// The sessions, once they have their places.
@@ -285,11 +285,11 @@ struct Seated<'a, J: ServeNames> {
     idle: Idle<J>,
 }
 
-// A place for each course: those of the sessions that have a script, and then those of sessions that ask by hand.
+// A place for each agreed phase: those of the sessions that have a script, and then those of sessions that ask interactively.
 fn open_places<'a, J: ServeNames>(
     alloc: Global,
     lanes: Vec<(Pass<J>, SessionSeat<J>)>,
-    courses: Vec<OpenedCourse>,
+    agreed_phases: Vec<OpenedPhaseAgreement>,
     scripts: &'a [Script],
     senders: &mut Senders<J>,
     tries: u32,
@@ -297,30 +297,30 @@ fn open_places<'a, J: ServeNames>(
     requires scripts { J.scripts ≡ scripts.now }
     requires new { AreNewFrom 0 lanes.items }
     requires all { vec_len lanes ≡ 64 }
-    requires courses { AreCoursesFrom J.course 0 courses.items }
-    requires most { vec_len courses ≤ 64 }
-    ensures idle { IfOk result (λ seated. seated.idle.first ≡ vec_len courses) }
+    requires agreed_phases { AreAgreedPhasesFrom J.agreed_phase 0 agreed_phases.items }
+    requires most { vec_len agreed_phases ≤ 64 }
+    ensures idle { IfOk result (λ seated. seated.idle.first ≡ vec_len agreed_phases) }
     ensures sessions { IfOk result (λ seated. All HasAskedNothing seated.sessions.items) }
 {
-    let count = courses.len();
+    let count = agreed_phases.len();
     let mut lanes = lanes.into_iter();
-    let mut courses = courses.into_iter();
+    let mut agreed_phases = agreed_phases.into_iter();
     let mut places = Vec::with_capacity(alloc, count)?;
     let mut sessions = Vec::new(alloc);
     for slot in 0..count {
         let Some((pass, seat)) = lanes.next() else {
             unreachable!()
         };
-        let Some(course) = courses.next() else {
+        let Some(agreed_phase) = agreed_phases.next() else {
             unreachable!()
         };
-        let keeper = course.named::<J>(slot);
+        let phase_owner = agreed_phase.named::<J>(slot);
         let place = match scripts.get(slot) {
-            Some(script) => Place::new(Ready::open(alloc, script, pass, seat, tries)?, keeper),
+            Some(script) => Place::new(Ready::open(alloc, script, pass, seat, tries)?, phase_owner),
             None => {
                 let outlets = next_of_each(alloc, senders)?;
                 sessions.push(Session::new(alloc, pass, seat, outlets))?;
-                Place::free(keeper)
+                Place::free(phase_owner)
             }
         };
         places.push(Mutex::new(place))?;

@@ -15,9 +15,9 @@ pub struct Outcome {
     pub log: Vec<Entry>,
     /// The tables as the log's transactions have left them.
     pub tables: Tables,
-    /// The answers to each script, and then to what each session asked by hand.
+    /// The answers to each script, and then to what each session asked interactively.
     pub answers: Vec<Answers>,
-    /// What each session asked by hand, by their numbers, from that of the first one on.
+    /// What each session asked interactively, by their numbers, from that of the first one on.
     pub asked: Vec<Script>,
 }
 

@@ -1,9 +1,9 @@
-//! What is known of a session and of its request that is under way, by whoever has the lock.
+//! What is known of a session and of its request that is in flight, by whoever has the lock.
 ghost use Rattle.std.specs.Prelude.{◌≡◌};
 
 use crate::ServeNames;
 use crate::asking::{Asked, Next, Ready};
-use executor::{Journey, Keeper, Met, Paused, Phase, Report, Reported, Told};
+use executor::{Flow, PhaseOwner, Met, Paused, Phase, Report, Reported, SessionAnswer};
 use schema::Scale;
 use std::alloc::Global;
 use std::sync::atomic::AtomicU64;
@@ -13,17 +13,17 @@ use std::sync::atomic::AtomicU64;
 #[derive(Drop)]
 pub(crate) struct Place<'a, J: ServeNames> {
     stage: Option<Stage<'a, J>>,
-    // The phase that is under way, if one is.
+    // The phase that is in flight, if one is.
     phase: Option<Phase<J>>,
-    // The keeper of the course, while no phase is under way.
-    keeper: Option<Keeper<J>>,
+    // The phase owner of the agreed phase, while no phase is in flight.
+    phase_owner: Option<PhaseOwner<J>>,
     // The executor that began the transaction.
     begun_by: u32,
     // How many actions of a transaction that is over have still to give their claims back.
     ending: usize,
 }
 
-/// What a session is at: one that has a script, or one that asks by hand.
+/// What a session is at: one that has a script, or one that asks interactively.
 #[derive(Drop)]
 enum Stage<'a, J: ServeNames> {
     Ready(Ready<'a, J>),
@@ -33,11 +33,11 @@ enum Stage<'a, J: ServeNames> {
     /// By hand it asks nothing.
     Free,
     /// By hand it asks a request, at the terminal of this warehouse, which has not begun.
-    Calls { home: u32, journey: Journey<J> },
-    /// What it asks by hand is under way.
+    Calls { home: u32, flow: Flow<J> },
+    /// What it asks interactively is in flight.
     Away,
-    /// What it asked by hand has this answer, which it has not taken.
-    Answered(Told<J>),
+    /// What it asked interactively has this answer, which it has not taken.
+    Answered(SessionAnswer<J>),
     /// By hand it asks no more, which was not told yet.
     Leaves,
     /// It asks no more.
@@ -47,7 +47,7 @@ enum Stage<'a, J: ServeNames> {
 /// Something came to a place that does not belong there. Nothing is lost but that: all that is proved of what was logged
 /// stands, but nobody can go on here.
 #[derive(Clone, Copy, Debug, PartialEq, Eq)]
-pub(crate) struct Strange;
+pub(crate) struct Unexpected;
 
 /// What comes of the end of a transaction.
 #[derive(Clone, Copy, Debug)]
@@ -65,30 +65,30 @@ pub(crate) enum Advanced<J: ServeNames> {
     Answered,
     /// This request begins. If it was not asked before, these are its session and its number.
     Begins(Option<(u32, u32)>, Paused<J>),
-    /// It has to wait for what is under way.
+    /// It has to wait for what is in flight.
     Waits,
     /// Its script has come to its end: this is answered once.
     Ended,
 }
 
 impl<'a, J: ServeNames> Place<'a, J> {
-    /// The place of a session that is to ask its script, with who keeps the courses of its transactions.
-    pub(crate) fn new(session: Ready<'a, J>, keeper: Keeper<J>) -> Place<'a, J> {
+    /// The place of a session that is to ask its script, with who keeps the agreed phases of its transactions.
+    pub(crate) fn new(session: Ready<'a, J>, phase_owner: PhaseOwner<J>) -> Place<'a, J> {
         Place {
             stage: Some(Stage::Ready(session)),
             phase: None,
-            keeper: Some(keeper),
+            phase_owner: Some(phase_owner),
             begun_by: 0,
             ending: 0,
         }
     }
 
-    /// The place of a session that asks by hand, with who keeps the courses of its transactions.
-    pub(crate) fn free(keeper: Keeper<J>) -> Place<'a, J> {
+    /// The place of a session that asks interactively, with who keeps the agreed phases of its transactions.
+    pub(crate) fn free(phase_owner: PhaseOwner<J>) -> Place<'a, J> {
         Place {
             stage: Some(Stage::Free),
             phase: None,
-            keeper: Some(keeper),
+            phase_owner: Some(phase_owner),
             begun_by: 0,
             ending: 0,
         }
@@ -103,23 +103,23 @@ impl<'a, J: ServeNames> Place<'a, J> {
         }
     }
 
-    // ---- a session that asks by hand
+    // ---- a session that asks interactively
 
     /// It asks a request, at the terminal of this warehouse, which begins once all claims of the one before are back.
-    pub(crate) fn call(&mut self, home: u32, journey: Journey<J>) -> Result<(), Strange> {
+    pub(crate) fn call(&mut self, home: u32, flow: Flow<J>) -> Result<(), Unexpected> {
         let Some(Stage::Free) = self.stage.take() else {
-            return Err(Strange);
+            return Err(Unexpected);
         };
-        self.stage = Some(Stage::Calls { home, journey });
+        self.stage = Some(Stage::Calls { home, flow });
         Ok(())
     }
 
     /// It takes its answer, if that has come.
-    pub(crate) fn take_told(&mut self) -> Option<Told<J>> {
+    pub(crate) fn take_recorded(&mut self) -> Option<SessionAnswer<J>> {
         match self.stage.take() {
-            Some(Stage::Answered(told)) => {
+            Some(Stage::Answered(recorded)) => {
                 self.stage = Some(Stage::Free);
-                Some(told)
+                Some(recorded)
             }
             other => {
                 self.stage = other;
@@ -129,9 +129,9 @@ impl<'a, J: ServeNames> Place<'a, J> {
     }
 
     /// It asks no more.
-    pub(crate) fn leave(&mut self) -> Result<(), Strange> {
+    pub(crate) fn leave(&mut self) -> Result<(), Unexpected> {
         let Some(Stage::Free) = self.stage.take() else {
-            return Err(Strange);
+            return Err(Unexpected);
         };
         self.stage = Some(Stage::Leaves);
         Ok(())
@@ -139,7 +139,7 @@ impl<'a, J: ServeNames> Place<'a, J> {
 
     // ---- transactions
 
-    /// The session goes on with its next request, unless one is under way or has still claims to give back.
+    /// The session goes on with its next request, unless one is in flight or has still claims to give back.
     pub(crate) fn advance(
         &mut self,
         alloc: Global,
@@ -148,7 +148,7 @@ impl<'a, J: ServeNames> Place<'a, J> {
         slot: usize,
         tries: u32,
         executor: u32,
-    ) -> Result<Advanced<J>, Strange>
+    ) -> Result<Advanced<J>, Unexpected>
         requires { scale.now ≡ J.opening.scale }
     {
         if self.ending > 0 {
@@ -163,11 +163,11 @@ impl<'a, J: ServeNames> Place<'a, J> {
                 self.stage = Some(Stage::Ready(ready));
                 Ok(Advanced::Answered)
             }
-            Next::Asks(asked, journey) => {
+            Next::Asks(asked, flow) => {
                 let first = asked.first_try(tries);
                 self.begun_by = executor;
                 self.stage = Some(Stage::Asked(asked));
-                self.begin(first, journey)
+                self.begin(first, flow)
             }
             Next::Ended(ready) => {
                 self.stage = Some(Stage::Ended(ready));
@@ -176,17 +176,17 @@ impl<'a, J: ServeNames> Place<'a, J> {
         }
     }
 
-    // What the session asks by hand begins, or it asks no more. It stays at any other stage.
+    // What the session asks interactively begins, or it asks no more. It stays at any other stage.
     fn advance_by_hand(
         &mut self,
         stage: Option<Stage<'a, J>>,
         executor: u32,
-    ) -> Result<Advanced<J>, Strange> {
+    ) -> Result<Advanced<J>, Unexpected> {
         match stage {
-            Some(Stage::Calls { home: _, journey }) => {
+            Some(Stage::Calls { home: _, flow }) => {
                 self.begun_by = executor;
                 self.stage = Some(Stage::Away);
-                self.begin(None, journey)
+                self.begin(None, flow)
             }
             Some(Stage::Leaves) => {
                 self.stage = Some(Stage::Gone);
@@ -203,21 +203,21 @@ impl<'a, J: ServeNames> Place<'a, J> {
     fn begin(
         &mut self,
         first: Option<(u32, u32)>,
-        journey: Journey<J>,
-    ) -> Result<Advanced<J>, Strange> {
-        let Some(keeper) = self.keeper.take() else {
-            return Err(Strange);
+        flow: Flow<J>,
+    ) -> Result<Advanced<J>, Unexpected> {
+        let Some(phase_owner) = self.phase_owner.take() else {
+            return Err(Unexpected);
         };
-        match Paused::new(journey, keeper) {
+        match Paused::new(flow, phase_owner) {
             Some(paused) => Ok(Advanced::Begins(first, paused)),
-            None => Err(Strange),
+            None => Err(Unexpected),
         }
     }
 
     /// An action reports: `None` where another has not yet.
-    pub(crate) fn report(&mut self, report: Report<J>) -> Result<Option<Met<J>>, Strange> {
+    pub(crate) fn report(&mut self, report: Report<J>) -> Result<Option<Met<J>>, Unexpected> {
         let Some(phase) = self.phase.take() else {
-            return Err(Strange);
+            return Err(Unexpected);
         };
         match phase.report(report) {
             Reported::Awaits(phase) => {
@@ -225,11 +225,11 @@ impl<'a, J: ServeNames> Place<'a, J> {
                 Ok(None)
             }
             Reported::Met(met) => Ok(Some(met)),
-            Reported::Strange(phase, report) => Err(strange_report(phase, report)),
+            Reported::Unexpected(phase, report) => Err(unexpected_report(phase, report)),
         }
     }
 
-    /// A phase is under way by messages.
+    /// A phase is in flight by messages.
     pub(crate) fn go_on(&mut self, phase: Phase<J>) {
         self.phase = Some(phase);
     }
@@ -237,27 +237,27 @@ impl<'a, J: ServeNames> Place<'a, J> {
     /// The transaction is over: its session is told, and so many actions have still to give their claims back.
     pub(crate) fn end(
         &mut self,
-        told: Told<J>,
-        keeper: Keeper<J>,
+        recorded: SessionAnswer<J>,
+        phase_owner: PhaseOwner<J>,
         ending: usize,
         tries: u32,
-    ) -> Result<Ended, Strange> {
+    ) -> Result<Ended, Unexpected> {
         let is_answered = match self.stage.take() {
             Some(Stage::Asked(asked)) => {
-                let Some(ready) = asked.tell(told, tries) else {
-                    return Err(Strange);
+                let Some(ready) = asked.finish(recorded, tries) else {
+                    return Err(Unexpected);
                 };
                 let is_answered = ready.deaths(tries) == 0;
                 self.stage = Some(Stage::Ready(ready));
                 is_answered
             }
             Some(Stage::Away) => {
-                self.stage = Some(Stage::Answered(told));
+                self.stage = Some(Stage::Answered(recorded));
                 true
             }
-            _ => return Err(Strange),
+            _ => return Err(Unexpected),
         };
-        self.keeper = Some(keeper);
+        self.phase_owner = Some(phase_owner);
         self.ending = ending;
         let over = if ending == 0 {
             Some(self.begun_by)
@@ -278,7 +278,7 @@ impl<'a, J: ServeNames> Place<'a, J> {
         }
     }
 
-    /// The W_ID of the warehouse whose terminal asks the session's next request, if no request of it is under way; and how often
+    /// The W_ID of the warehouse whose terminal asks the session's next request, if no request of it is in flight; and how often
     /// that has died.
     pub(crate) fn next_home(&self, tries: u32) -> Option<(u32, u32)> {
         match &self.stage {
@@ -292,8 +292,8 @@ impl<'a, J: ServeNames> Place<'a, J> {
 // A report has come to a phase that doesn't await it.
 #[cold]
 #[inline(never)]
-fn strange_report<J: ServeNames>(phase: Phase<J>, report: Report<J>) -> Strange {
+fn unexpected_report<J: ServeNames>(phase: Phase<J>, report: Report<J>) -> Unexpected {
     drop(phase);
     drop(report);
-    Strange
+    Unexpected
 }

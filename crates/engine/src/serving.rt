@@ -2,7 +2,7 @@
 ghost use Rattle.std.specs.Prelude.{◌≡◌, ◌≤◌, ◌<◌, ◌+◌, [], ◌++◌, drop, length, vec_len, All, IfOk, OnOk, IfErr, IfSome, IfNone};
 ghost use Rattle.schema.specs.Consistency.{Consistent};
 ghost use Rattle.range_moves.specs.Orders.{IsWithin};
-ghost use Rattle.engine.specs.ByHand.{HasAskedNothing, asked_by, told_by};
+ghost use Rattle.engine.specs.Interactive.{HasAskedNothing, asked_by, recorded_by};
 ghost use Rattle.engine.specs.Faults.{AreWithin, IsFaultOf, IsFirstBad, IsOfServing};
 ghost use Rattle.engine.specs.Opening.{IsNamedFor};
 ghost use Rattle.engine.specs.Outcome.{IsOutcome};
@@ -54,7 +54,7 @@ pub fn serve<R: Threads + Wait + Sync, G: Gate + Send + Sync + Drop>(
     requires most { length scripts.now ≤ MOST_SESSIONS }
     requires executors { 1 ≤ executors }
     ensures outcome { IfOk result (λ outcome. IsOutcome opening scripts.now outcome.log.items outcome.tables outcome.answers.items) }
-    ensures by_hand { IfOk result (λ outcome. outcome.asked.items ≡ []) }
+    ensures interactive { IfOk result (λ outcome. outcome.asked.items ≡ []) }
     ensures consistent { OnOk result (Consistent opening) }
     ensures within { OnOk result (AreWithin opening executors moves.now) }
     ensures fault { IfErr result (λ fault. IsFaultOf opening executors moves.now fault) }
@@ -81,7 +81,7 @@ pub fn serve_with_room<R: Threads + Wait + Sync, G: Gate + Send + Sync + Drop>(
     requires executors { 1 ≤ executors }
     requires room { 0 < room }
     ensures outcome { IfOk result (λ outcome. IsOutcome opening scripts.now outcome.log.items outcome.tables outcome.answers.items) }
-    ensures by_hand { IfOk result (λ outcome. outcome.asked.items ≡ []) }
+    ensures interactive { IfOk result (λ outcome. outcome.asked.items ≡ []) }
     ensures consistent { OnOk result (Consistent opening) }
     ensures within { OnOk result (AreWithin opening executors moves.now) }
     ensures fault { IfErr result (λ fault. IsFaultOf opening executors moves.now fault) }
@@ -91,7 +91,7 @@ pub fn serve_with_room<R: Threads + Wait + Sync, G: Gate + Send + Sync + Drop>(
     )
 }
 
-/// Has a client ask by hand, by so many sessions, from the opening tables. So many executors, each in a thread of its own, have
+/// Has a client ask interactively, by so many sessions, from the opening tables. So many executors, each in a thread of its own, have
 /// the tables' warehouses between them meanwhile, as in `serve`. Once all sessions have left, what each of them asked is as a script
 /// (`asked`) with the answers that it had.
 ///
@@ -217,11 +217,11 @@ fn serve_from<
     client: &C,
 ) -> Result<Outcome, ServeFault>
     requires room { 0 < room }
-    requires named { IsNamedFor J.LogNames J.GroupNames J.course J.scripts tables scripts.now opening }
+    requires named { IsNamedFor J.LogNames J.GroupNames J.agreed_phase J.scripts tables scripts.now opening }
     requires some { 1 ≤ executors }
-    requires most { vec_len opening.courses ≤ 64 }
+    requires most { vec_len opening.agreed_phases ≤ 64 }
     ensures outcome { IfOk result (λ outcome. IsOutcome tables (scripts.now ++ outcome.asked.items) outcome.log.items outcome.tables outcome.answers.items) }
-    ensures asked { IfOk result (λ outcome. length scripts.now + length outcome.asked.items ≡ vec_len opening.courses) }
+    ensures asked { IfOk result (λ outcome. length scripts.now + length outcome.asked.items ≡ vec_len opening.agreed_phases) }
     ensures promised { IfOk result (λ outcome. C.promises client.now tables outcome.asked.items (drop (length scripts.now) outcome.answers.items)) }
     ensures fault { IfErr result (λ fault. IsOfServing fault) }
 {
@@ -258,7 +258,7 @@ fn work_all<
     sessions: Vec<Session<J>>,
 ) -> Result<(Vec<Executor<J>>, Vec<Left<J>>), ServeFault>
     requires { All HasAskedNothing sessions.items }
-    ensures promised { IfOk result (λ r. C.promises client.now J.opening (asked_by r.1.items) (told_by r.1.items)) }
+    ensures promised { IfOk result (λ r. C.promises client.now J.opening (asked_by r.1.items) (recorded_by r.1.items)) }
     ensures fault { IfErr result (λ fault. IsOfServing fault) }
 {
     let crew = Crew { rt, alloc, engine };
@@ -311,11 +311,11 @@ impl<J: ServeNames + Send + Sync, G: Gate, R: Threads + Wait + Sync, C: Client> 
     Vec<Left<J>>,
 > for Asking<'_, '_, J, G, R, C> {
     ghost use Rattle.std.specs.Prelude.{All};
-    ghost use Rattle.engine.specs.ByHand.{HasAskedNothing, asked_by, told_by};
+    ghost use Rattle.engine.specs.Interactive.{HasAskedNothing, asked_by, recorded_by};
 
     ghost may_run = { λ asking. All HasAskedNothing asking.sessions.items };
 
-    ghost gives = { λ asking left. C.promises asking.client.now J.opening (asked_by left.items) (told_by left.items) };
+    ghost gives = { λ asking left. C.promises asking.client.now J.opening (asked_by left.items) (recorded_by left.items) };
 
     // The client asks. Where it keeps a session back, the executors are to end without.
     fn run(self) -> Vec<Left<J>> {

@@ -1,19 +1,19 @@
-//! A session that asks by hand: it belongs to whoever asks by it, and waits for each answer.
+//! A session that asks interactively: it belongs to whoever asks by it, and waits for each answer.
 ghost use Rattle.std.specs.Prelude.{◌≡◌, ◌≤◌, [], ◌∷◌, ◌++◌, length, false, Ok, IfOk, IfErr, IfSome};
 ghost use Rattle.requests.specs.Check.{check_of};
 ghost use Rattle.commit_log.specs.Items.{items_of};
-ghost use Rattle.executor.specs.Answers.{IsToldBy};
+ghost use Rattle.executor.specs.Answers.{IsRecordedBy};
 ghost use Rattle.engine.specs.Asking.{known_of};
 ghost use Rattle.engine.specs.Outcome.{IsRefusal};
 ghost use Rattle.engine.specs.Served.{Served};
-ghost use Rattle.engine.specs.ByHand.{Asks, HasAskedNothing, HasMet, IsBackIn};
+ghost use Rattle.engine.specs.Interactive.{Asks, HasAskedNothing, HasMet, IsBackIn};
 
 use crate::asking::says_full;
 use crate::message::Message;
 use crate::{Answers, Engine, Gate, ServeNames};
 use commit_log::{Log, Pass, SessionSeat};
 use crossbeam_utils::Backoff;
-use executor::Journey;
+use executor::Flow;
 use queues::Sender;
 use requests::{Refusal, Request, Script, check};
 use std::alloc::Global;
@@ -22,7 +22,7 @@ use std::sync::Wait;
 use std::sync::atomic::Ordering;
 use transactions::home_of_request;
 
-/// A session that asks by hand, none of whose requests is under way.
+/// A session that asks interactively, none of whose requests is in flight.
 ///
 /// Contracts see what it has asked so far (`script`), its pass, with what it has seen of the log and logged (`pass`), and its answers
 /// (`answers`). It keeps that each answer says what came of its request.
@@ -39,15 +39,15 @@ pub struct Session<J: ServeNames> {
 }
 
 impl<J: ServeNames> Model for Session<J> {
-    ghost use Rattle.engine.specs.Asking.{Resting};
+    ghost use Rattle.engine.specs.Asking.{ReadyView};
 
-    ghost Value = { Resting };
+    ghost Value = { ReadyView };
 
-    ghost use Rattle.engine.specs.Asking.{IsResting, resting};
+    ghost use Rattle.engine.specs.Asking.{IsResting, ready_view};
 
-    ghost view = { λ s. resting s.requests.items s.seat s.pass s.answers.items s.is_full };
+    ghost view = { λ s. ready_view s.requests.items s.seat s.pass s.answers.items s.is_full };
 
-    ghost invariant = { λ s. IsResting J.opening.scale (resting s.requests.items s.seat s.pass s.answers.items s.is_full) };
+    ghost invariant = { λ s. IsResting J.opening.scale (ready_view s.requests.items s.seat s.pass s.answers.items s.is_full) };
 }
 
 /// A session with a request that it is to ask, and room to keep it and its answer.
@@ -64,20 +64,20 @@ struct Asker<J: ServeNames> {
 }
 
 impl<J: ServeNames> Model for Asker<J> {
-    ghost use Rattle.engine.specs.ByHand.{Calling};
+    ghost use Rattle.engine.specs.Interactive.{AskerView};
 
-    ghost Value = { Calling };
+    ghost Value = { AskerView };
 
     ghost use Rattle.std.specs.Prelude.{vec_capacity};
-    ghost use Rattle.engine.specs.Asking.{resting};
-    ghost use Rattle.engine.specs.ByHand.{IsCalling, calling};
+    ghost use Rattle.engine.specs.Asking.{ready_view};
+    ghost use Rattle.engine.specs.Interactive.{IsCalling, asker_view};
 
-    ghost view = { λ s. calling (resting s.requests.items s.seat s.pass s.answers.items s.is_full) s.request };
+    ghost view = { λ s. asker_view (ready_view s.requests.items s.seat s.pass s.answers.items s.is_full) s.request };
 
-    ghost invariant = { λ s. IsCalling J.opening.scale (resting s.requests.items s.seat s.pass s.answers.items s.is_full) s.number (vec_capacity s.requests) (vec_capacity s.answers) };
+    ghost invariant = { λ s. IsCalling J.opening.scale (ready_view s.requests.items s.seat s.pass s.answers.items s.is_full) s.number (vec_capacity s.requests) (vec_capacity s.answers) };
 }
 
-/// A session whose request is under way: its pass goes with it.
+/// A session whose request is in flight: its pass goes with it.
 #[derive(Drop)]
 struct Away<J: ServeNames> {
     seat: SessionSeat<J>,
@@ -88,20 +88,20 @@ struct Away<J: ServeNames> {
 }
 
 impl<J: ServeNames> Model for Away<J> {
-    ghost use Rattle.engine.specs.Asking.{Waiting};
+    ghost use Rattle.engine.specs.Asking.{AskedView};
 
-    ghost Value = { Waiting };
+    ghost Value = { AskedView };
 
     ghost use Rattle.std.specs.Prelude.{vec_capacity};
-    ghost use Rattle.engine.specs.Asking.{waiting};
-    ghost use Rattle.engine.specs.ByHand.{IsCalled};
+    ghost use Rattle.engine.specs.Asking.{asked_view};
+    ghost use Rattle.engine.specs.Interactive.{IsCalled};
 
-    ghost view = { λ s. waiting s.requests.items s.seat s.answers.items };
+    ghost view = { λ s. asked_view s.requests.items s.seat s.answers.items };
 
-    ghost invariant = { λ s. IsCalled J.opening.scale (waiting s.requests.items s.seat s.answers.items) s.request (vec_capacity s.requests) (vec_capacity s.answers) };
+    ghost invariant = { λ s. IsCalled J.opening.scale (asked_view s.requests.items s.seat s.answers.items) s.request (vec_capacity s.requests) (vec_capacity s.answers) };
 }
 
-/// Why a session has no answer to what it asked by hand.
+/// Why a session has no answer to what it asked interactively.
 #[derive(Drop)]
 pub enum AskFault<J: ServeNames> {
     /// There was no memory to keep the request: it was not asked, and the session is as it was.
@@ -307,7 +307,7 @@ impl<J: ServeNames> Asker<J> {
         let age = engine.ages.fetch_add(1, Ordering::SeqCst);
         let slot = pass.session() as usize;
         let home = home_of_request(&request);
-        let begun = Journey::begin(alloc, age, slot, number, &request, pass);
+        let begun = Flow::begin(alloc, age, slot, number, &request, pass);
         let mut away = Away {
             seat,
             requests,
@@ -316,10 +316,10 @@ impl<J: ServeNames> Asker<J> {
             request,
         };
         match begun {
-            Ok(journey) => {
-                away.send(rt, engine, slot, home, journey);
-                let told = engine.wait_for_answer(rt, slot)?;
-                let (mut pass, answer) = told.into_parts();
+            Ok(flow) => {
+                away.send(rt, engine, slot, home, flow);
+                let recorded = engine.wait_for_answer(rt, slot)?;
+                let (mut pass, answer) = recorded.into_parts();
                 if pass.session() != away.seat.session() {
                     return None;
                 }
@@ -332,18 +332,18 @@ impl<J: ServeNames> Asker<J> {
 }
 
 impl<J: ServeNames> Away<J> {
-    // Its journey begins where its warehouse is.
+    // Its flow begins where its warehouse is.
     fn send<G: Gate>(
         &mut self,
         rt: &impl Wait,
         engine: &Engine<'_, J, G>,
         slot: usize,
         home: u32,
-        journey: Journey<J>,
+        flow: Flow<J>,
     )
         ensures { self.new ≡ self.old }
     {
-        match engine.ask(rt, slot, home, journey) {
+        match engine.ask(rt, slot, home, flow) {
             Ok(()) => {
                 let to = engine.routing.route(home);
                 begin_at(rt, engine, &mut self.outlets, slot, to);
@@ -359,7 +359,7 @@ impl<J: ServeNames> Away<J> {
         answer: Result<u32, Refusal>,
     ) -> (Session<J>, Result<u32, Refusal>)
         requires session { pass.session ≡ self.seat.session }
-        requires told { IsToldBy self.seat.asking pass answer }
+        requires recorded { IsRecordedBy self.seat.asking pass answer }
         ensures answer { result.1 ≡ answer }
         ensures noted { result.0.script ≡ self.script ++ self.seat.asking.request ∷ [] }
         ensures answered { result.0.answers ≡ self.answers ++ answer ∷ [] }
@@ -392,7 +392,7 @@ impl<J: ServeNames> Left<J> {
     /// where it is another session, or has asked more than a script can have.
     pub(crate) fn audit(self, log: &mut Log<J>, number: usize) -> Option<(Script, Answers)>
         ensures asked { IfSome result (λ r. r.0 ≡ self.session.script) }
-        ensures told { IfSome result (λ r. r.1 ≡ self.session.answers) }
+        ensures recorded { IfSome result (λ r. r.1 ≡ self.session.answers) }
         ensures served { IfSome result (λ r. Served J.opening.scale self.session.script r.1 (items_of number log.old) (length log.old)) }
         ensures same { log.new ≡ log.old }
     {

@@ -3,18 +3,18 @@ use Rattle.std.proofs.Common.{◌≡◌, ◌≤◌, ◌+◌, ℕ, zero, suc, Lis
 use Rattle.std.specs.Prelude.{All}
 use Rattle.std.proofs.lemmas.List.{length-append}
 use Rattle.std.proofs.lemmas.List.Elements.{All-append, All-nil, All-push, All-weaker}
-use Rattle.partitions.specs.Parts.{Shared}
-use Rattle.tickets.specs.Claims.{Claiming}
+use Rattle.partitions.specs.Parts.{SharedTables}
+use Rattle.tickets.specs.Claims.{ClaimView}
 use Rattle.transactions.specs.declared.work.Found.{Found}
 use Rattle.transactions.specs.declared.work.Work.{Work}
 use Rattle.transactions.specs.Progresses.{works_of}
 use Rattle.transactions.specs.Works.{HasDone, HaveAllDone}
 use Rattle.executor.specs.AtOnce.{HaveDoneAtOnce, HaveDoneBut}
-use Rattle.executor.specs.Journeys.{CarriesJourney, Journeying}
+use Rattle.executor.specs.Flows.{CarriesFlow, FlowView}
 use Rattle.transactions.specs.Acting.{AreUndoneBy, CanAllBeUndone}
 
 -- one more has done its work
-done_more : (shared : Shared) (works : List Work) (found : List Found) (own : List (List Claiming)) (work : Work) (one : Found) (claims : List Claiming) → HaveAllDone shared works found own
+done_more : (shared : SharedTables) (works : List Work) (found : List Found) (own : List (List ClaimView)) (work : Work) (one : Found) (claims : List ClaimView) → HaveAllDone shared works found own
     → HasDone shared work one claims → HaveAllDone shared (works ++ work ∷ []) (found ++ one ∷ []) (own ++ claims ∷ [])
 done_more shared [] [] [] work one claims all more = (more, tt)
 done_more shared (w ∷ works) (f ∷ found) (c ∷ own) work one claims all more = (all.0, done_more shared works found own work one claims all.1 more)
@@ -25,9 +25,9 @@ done_more shared (w ∷ works) [] [] work one claims all more = absurd all
 done_more shared (w ∷ works) [] (c ∷ own) work one claims all more = absurd all
 done_more shared (w ∷ works) (f ∷ found) [] work one claims all more = absurd all
 
-module _ (shared : Shared) (age : ℕ) (works : List Work) (before : List (List Claiming)) where
+module _ (shared : SharedTables) (age : ℕ) (works : List Work) (before : List (List ClaimView)) where
   -- none has yet
-  pub none_done : (held : List (List Claiming)) (found : List Found) → held ≡ before → found ≡ [] → HaveDoneBut shared age works works before held found
+  pub none_done : (held : List (List ClaimView)) (found : List Found) → held ≡ before → found ≡ [] → HaveDoneBut shared age works works before held found
   none_done held found same none = record {
     first = [];
     own = [];
@@ -38,25 +38,25 @@ module _ (shared : Shared) (age : ℕ) (works : List Work) (before : List (List 
   }
 
   -- the next one has
-  pub next_done : (last rest : List Work) (held more : List (List Claiming)) (found further : List Found) (work : Work) (claims : List Claiming) (one : Found) → last ≡ work ∷ rest → more ≡ held ++ claims ∷ []
+  pub next_done : (last rest : List Work) (held more : List (List ClaimView)) (found further : List Found) (work : Work) (claims : List ClaimView) (one : Found) → last ≡ work ∷ rest → more ≡ held ++ claims ∷ []
       → further ≡ found ++ one ∷ [] → HasDone shared work one claims → AreUndoneBy age claims → HaveDoneBut shared age last works before held found → HaveDoneBut shared age rest works before more further
   next_done last rest held more found further work claims one is put kept done undone so_far = record {
     first = so_far.first ++ work ∷ [];
     own = so_far.own ++ claims ∷ [];
     works_are = so_far.works_are ∙ ap (λ (l : List Work). so_far.first ++ l) is ∙ sym (append_assoc so_far.first (work ∷ []) rest);
-    held_is = put ∙ ap (λ (h : List (List Claiming)). h ++ claims ∷ []) so_far.held_is ∙ append_assoc before so_far.own (claims ∷ []);
+    held_is = put ∙ ap (λ (h : List (List ClaimView)). h ++ claims ∷ []) so_far.held_is ∙ append_assoc before so_far.own (claims ∷ []);
     done = subst (λ (f : List Found). HaveAllDone shared (so_far.first ++ work ∷ []) f (so_far.own ++ claims ∷ [])) (sym kept) (done_more shared so_far.first found so_far.own work one claims so_far.done done);
     undone = All-push (AreUndoneBy age) so_far.own claims so_far.undone undone;
   }
 
   -- no fewer are held than before
-  pub more_held : (last : List Work) (held : List (List Claiming)) (found : List Found) → HaveDoneBut shared age last works before held found → length before ≤ length held
+  pub more_held : (last : List Work) (held : List (List ClaimView)) (found : List Found) → HaveDoneBut shared age last works before held found → length before ≤ length held
   more_held last held found so_far = omega (arith, ap length so_far.held_is, length-append before so_far.own)
 
   -- what is held after those before can be taken back
-  pub can_be_undone : (last : List Work) (held : List (List Claiming)) (found : List Found) → All (AreUndoneBy age) before → HaveDoneBut shared age last works before held found → All CanAllBeUndone held
+  pub can_be_undone : (last : List Work) (held : List (List ClaimView)) (found : List Found) → All (AreUndoneBy age) before → HaveDoneBut shared age last works before held found → All CanAllBeUndone held
   can_be_undone last held found first so_far =
-      subst (λ (h : List (List Claiming)). All CanAllBeUndone h) (sym so_far.held_is)
+      subst (λ (h : List (List ClaimView)). All CanAllBeUndone h) (sym so_far.held_is)
       (All-weaker (AreUndoneBy age) CanAllBeUndone (λ claims h. h.0) (before ++ so_far.own) (All-append (AreUndoneBy age) before so_far.own first so_far.undone))
 
 -- without the last ones the first ones are the same
@@ -71,7 +71,7 @@ take_front n all front last is few = ap (λ l. take n l) is ∙ front_alone n fr
     front_alone (suc n) (x ∷ xs) ys few = ap (λ l. x ∷ l) (front_alone n xs ys (omega (arith, few)))
 
 -- and all that is held can be taken back
-pub undone_at_once : (shared : Shared) (j : Journeying) (held : List (List Claiming)) (found : List Found) → CarriesJourney shared j → HaveDoneAtOnce shared j.age (works_of j.progress) j.held held found
+pub undone_at_once : (shared : SharedTables) (j : FlowView) (held : List (List ClaimView)) (found : List Found) → CarriesFlow shared j → HaveDoneAtOnce shared j.age (works_of j.progress) j.held held found
     → All (AreUndoneBy j.age) held
 undone_at_once shared j held found carries all =
-    subst (λ (h : List (List Claiming)). All (AreUndoneBy j.age) h) (sym all.held_is) (All-append (AreUndoneBy j.age) j.held all.own carries.undone all.undone)
+    subst (λ (h : List (List ClaimView)). All (AreUndoneBy j.age) h) (sym all.held_is) (All-append (AreUndoneBy j.age) j.held all.own carries.undone all.undone)

@@ -3,7 +3,7 @@ pub mod Phases
 pub mod SentOut
 pub mod SortedOut
 pub mod Refusals
-pub mod AtPosts
+pub mod AtShards
 pub mod Onward
 pub mod AtOnce
 pub mod Logged

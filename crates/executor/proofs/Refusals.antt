@@ -2,7 +2,7 @@
 use Rattle.std.proofs.Common.{◌≡◌, ℕ, List, [], ◌∷◌, Option, Some, None, sym, subst}
 use Rattle.std.specs.Prelude.{All, Contains, IfSome}
 use Rattle.std.proofs.lemmas.List.Elements.{All-cons, All-nil}
-use Rattle.partitions.specs.Parts.{Shared}
+use Rattle.partitions.specs.Parts.{SharedTables}
 use Rattle.requests.specs.declared.group.Group.{Group}
 use Rattle.requests.specs.declared.request.Request.{Request}
 use Rattle.requests.specs.declared.refusal.Refusal.{Refusal}
@@ -15,39 +15,39 @@ use Rattle.transactions.specs.Acting.{IsRanBy}
 use Rattle.transactions.specs.Laws.{ClaimsAreOfTheFootprint}
 use Rattle.transactions.specs.Progresses.{works_of}
 use Rattle.transactions.specs.SortedOut.{IsRefusedFor, refusal_of}
-use Rattle.transactions.specs.Works.{all_wishes, wishes_of}
-use Rattle.transactions.proofs.OnGroups.{first_wish, later_wish, of_footprint}
+use Rattle.transactions.specs.Works.{all_group_wants, group_wants_of}
+use Rattle.transactions.proofs.OnGroups.{first_group_want, later_group_want, of_footprint}
 use Rattle.transactions.proofs.SortedOut.{IfDied, refused_by_all}
 use Rattle.executor.specs.Answers.{MayBeRefused}
-use Rattle.executor.specs.Journeys.{CarriesJourney, Journeying}
+use Rattle.executor.specs.Flows.{CarriesFlow, FlowView}
 use Rattle.executor.specs.Phases.{AreAllRans}
 
-module _ {J : Type 0} (shared : Shared) (age entries : ℕ) (request : Request) where
+module _ {J : Type 0} (shared : SharedTables) (age entries : ℕ) (request : Request) where
   -- an action that died, died on a group of its work's
-  one_died : (work : Work) (own : Ran J) → ((group : Group) → Contains (groups_of (wishes_of work)) group → Contains (groups_of (footprint request)) group)
+  one_died : (work : Work) (own : Ran J) → ((group : Group) → Contains (groups_of (group_wants_of work)) group → Contains (groups_of (footprint request)) group)
       → IsRanBy shared age work own → IfDied (MayBeRefused entries request) own
   one_died work (ran.Done claims found) within is = tt
   one_died work (ran.Died group holder) within is = within group is
   one_died work ran.NoMemory within is = tt
 
   -- so did all that died
-  all_died : (works : List Work) (rans : List (Ran J)) → ((group : Group) → Contains (groups_of (all_wishes works)) group → Contains (groups_of (footprint request)) group)
+  all_died : (works : List Work) (rans : List (Ran J)) → ((group : Group) → Contains (groups_of (all_group_wants works)) group → Contains (groups_of (footprint request)) group)
       → AreAllRans shared age works rans → All (IfDied (MayBeRefused entries request)) rans
   all_died [] [] within all = All-nil (IfDied (MayBeRefused entries request))
   all_died [] (own ∷ rans) within all = absurd all
   all_died (work ∷ works) [] within all = absurd all
   all_died (work ∷ works) (own ∷ rans) within all =
-      All-cons (IfDied (MayBeRefused entries request)) own rans (one_died work own (λ group is. within group (first_wish work works group is)) all.0)
-      (all_died works rans (λ group is. within group (later_wish work works group is)) all.1)
+      All-cons (IfDied (MayBeRefused entries request)) own rans (one_died work own (λ group is. within group (first_group_want work works group is)) all.0)
+      (all_died works rans (λ group is. within group (later_group_want work works group is)) all.1)
 
--- want of memory may have been the reason before any action
+-- lack of memory may have been the reason before any action
 at_first : (entries : ℕ) (request : Request) (start : Option Refusal) → IfSome start (λ w. w ≡ refusal.NoMemory) → IfSome start (MayBeRefused entries request)
 at_first entries request None begun = tt
 at_first entries request (Some why) begun = subst (MayBeRefused entries request) (sym begun) tt
 
 module _ {J : Type 0} where
   -- for what a transaction is refused when its phase has met
-  pub may_be_refused : (shared : Shared) (j : Journeying) (rans : List (Ran J)) (start : Option Refusal) → ClaimsAreOfTheFootprint → CarriesJourney shared j
+  pub may_be_refused : (shared : SharedTables) (j : FlowView) (rans : List (Ran J)) (start : Option Refusal) → ClaimsAreOfTheFootprint → CarriesFlow shared j
       → AreAllRans shared j.age (works_of j.progress) rans → IfSome start (λ w. w ≡ refusal.NoMemory) → IfSome (refusal_of start rans) (MayBeRefused j.pass.reached j.request)
   may_be_refused shared j rans start within carries are begun =
       refused_by_all (MayBeRefused j.pass.reached j.request) tt start rans

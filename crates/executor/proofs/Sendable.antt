@@ -1,4 +1,4 @@
--- Posts, phases, and all that goes between executors may go to another thread, where the names may.
+-- ExecutorShards, phases, and all that goes between executors may go to another thread, where the names may.
 use denote.RattleType.{RattleType}
 use denote.Param.Send.{IsSend, sendable, view_send}
 use denote.Param.SendFields.{declared_send, variants_send}
@@ -10,25 +10,25 @@ use Rattle.requests.proofs.Sendable.{Refusal-send, Reply-send, Request-send}
 use Rattle.agreement.proofs.Sendable.{Seat-send}
 use Rattle.tickets.proofs.Sendable.{Claims-send}
 use Rattle.commit_log.proofs.Sendable.{Pass-send}
-use Rattle.transactions.proofs.Sendable.{HeldClaims-send, Progress-send, Work-send, Ran-send, Station-send}
+use Rattle.transactions.proofs.Sendable.{HeldClaims-send, Progress-send, Work-send, Ran-send, Shard-send}
 use Rattle.rendezvous.proofs.Sendable.{Meeting-send}
 use Rattle.tickets.specs.declared.group_names.GroupNames.{Ghosts as GroupNames}
 use Rattle.commit_log.specs.declared.log_names.LogNames.{Ghosts as LogNames}
-use Rattle.executor.specs.declared.names.CourseNames.{Ghosts as CourseNames}
-use Rattle.executor.specs.contracts.course.Share as Share
-use Rattle.executor.specs.contracts.course.Keeper as Keeper
-use Rattle.executor.specs.contracts.errand.Errand as Errand
-use Rattle.executor.specs.contracts.errand.Carried as Carried
+use Rattle.executor.specs.declared.names.PhaseNames.{Ghosts as PhaseNames}
+use Rattle.executor.specs.contracts.agreed_phase.Share as Share
+use Rattle.executor.specs.contracts.agreed_phase.PhaseOwner as PhaseOwner
+use Rattle.executor.specs.contracts.act.Act as Act
+use Rattle.executor.specs.contracts.act.Carried as Carried
 use Rattle.executor.specs.contracts.giving_back.Settle as Settle
 use Rattle.executor.specs.contracts.giving_back.Undo as Undo
-use Rattle.executor.specs.contracts.journey.Matter as Matter
-use Rattle.executor.specs.contracts.journey.Transaction as Transaction
-use Rattle.executor.specs.contracts.journey.Journey as Journey
+use Rattle.executor.specs.contracts.flow.FlowBody as FlowBody
+use Rattle.executor.specs.contracts.flow.Transaction as Transaction
+use Rattle.executor.specs.contracts.flow.Flow as Flow
 use Rattle.executor.specs.contracts.phase.Phase as Phase
-use Rattle.executor.specs.contracts.post.Post as Post
-use Rattle.executor.specs.contracts.posts.Posts as Posts
+use Rattle.executor.specs.contracts.counted_shard.CountedShard as CountedShard
+use Rattle.executor.specs.contracts.shards.ExecutorShards as ExecutorShards
 use Rattle.executor.specs.contracts.release.GivenBack as GivenBack
-use Rattle.executor.specs.contracts.release.Told as Told
+use Rattle.executor.specs.contracts.release.SessionAnswer as SessionAnswer
 
 -- an answer: a place in the log, or a refusal
 pub Answer-send : IsSend (Result.the_row u32 Refusal.the_row)
@@ -40,12 +40,12 @@ Answer-send = variants_send (Result.enum u32 Refusal.the_row) (
   ),
 )
 
-Matter-send : IsSend Matter.the_row
-Matter-send = declared_send Matter.the_type (Request-send, (Progress-send, (Reply-send, tt)))
+FlowBody-send : IsSend FlowBody.the_row
+FlowBody-send = declared_send FlowBody.the_type (Request-send, (Progress-send, (Reply-send, tt)))
 
-module _ (J : RattleType) (course : CourseNames J.Denot) (log : LogNames J.Denot) (groups : GroupNames J.Denot) (s : IsSend J) where
-  Share-send : IsSend (Share.the_row J course log groups)
-  Share-send = view_send _ _ _ _ _ (declared_send (Share.TheInside.the_type J course log groups) (
+module _ (J : RattleType) (agreed_phase : PhaseNames J.Denot) (log : LogNames J.Denot) (groups : GroupNames J.Denot) (s : IsSend J) where
+  Share-send : IsSend (Share.the_row J agreed_phase log groups)
+  Share-send = view_send _ _ _ _ _ (declared_send (Share.TheInside.the_type J agreed_phase log groups) (
     search sendable depth 20,
     (
       search (Seat-send, sendable) depth 20,
@@ -56,8 +56,8 @@ module _ (J : RattleType) (course : CourseNames J.Denot) (log : LogNames J.Denot
     ),
   ))
 
-  pub Keeper-send : IsSend (Keeper.the_row J course log groups)
-  Keeper-send = view_send _ _ _ _ _ (declared_send (Keeper.TheInside.the_type J course log groups) (
+  pub PhaseOwner-send : IsSend (PhaseOwner.the_row J agreed_phase log groups)
+  PhaseOwner-send = view_send _ _ _ _ _ (declared_send (PhaseOwner.TheInside.the_type J agreed_phase log groups) (
     search sendable depth 20,
     (
       search (Seat-send, sendable) depth 20,
@@ -79,7 +79,7 @@ module _ (J : RattleType) (course : CourseNames J.Denot) (log : LogNames J.Denot
       (
         search sendable depth 20,
         (
-          Box-send Matter.the_row Matter-send,
+          Box-send FlowBody.the_row FlowBody-send,
           (
             Pass-send J log s,
             tt,
@@ -89,8 +89,8 @@ module _ (J : RattleType) (course : CourseNames J.Denot) (log : LogNames J.Denot
     ),
   )
 
-  pub Journey-send : IsSend (Journey.the_row J course log groups)
-  Journey-send = view_send _ _ _ _ _ (declared_send (Journey.TheInside.the_type J course log groups) (
+  pub Flow-send : IsSend (Flow.the_row J agreed_phase log groups)
+  Flow-send = view_send _ _ _ _ _ (declared_send (Flow.TheInside.the_type J agreed_phase log groups) (
     Transaction-send,
     (
       HeldClaims-send J groups s,
@@ -98,8 +98,8 @@ module _ (J : RattleType) (course : CourseNames J.Denot) (log : LogNames J.Denot
     ),
   ))
 
-  pub Told-send : IsSend (Told.the_row J course log groups)
-  Told-send = view_send _ _ _ _ _ (declared_send (Told.TheInside.the_type J course log groups) (
+  pub SessionAnswer-send : IsSend (SessionAnswer.the_row J agreed_phase log groups)
+  SessionAnswer-send = view_send _ _ _ _ _ (declared_send (SessionAnswer.TheInside.the_type J agreed_phase log groups) (
     search sendable depth 20,
     (
       search sendable depth 20,
@@ -113,8 +113,8 @@ module _ (J : RattleType) (course : CourseNames J.Denot) (log : LogNames J.Denot
     ),
   ))
 
-  pub Errand-send : IsSend (Errand.the_row J course log groups)
-  Errand-send = view_send _ _ _ _ _ (declared_send (Errand.TheInside.the_type J course log groups) (
+  pub Act-send : IsSend (Act.the_row J agreed_phase log groups)
+  Act-send = view_send _ _ _ _ _ (declared_send (Act.TheInside.the_type J agreed_phase log groups) (
     search sendable depth 40,
     (
       search sendable depth 20,
@@ -123,7 +123,7 @@ module _ (J : RattleType) (course : CourseNames J.Denot) (log : LogNames J.Denot
         (
           Share-send,
           (
-            search (Journey-send, sendable) depth 20,
+            search (Flow-send, sendable) depth 20,
             tt,
           ),
         ),
@@ -131,20 +131,20 @@ module _ (J : RattleType) (course : CourseNames J.Denot) (log : LogNames J.Denot
     ),
   ))
 
-  Carried-send : IsSend (Carried.the_row J course log groups)
-  Carried-send = declared_send (Carried.the_type J course log groups) (
+  Carried-send : IsSend (Carried.the_row J agreed_phase log groups)
+  Carried-send = declared_send (Carried.the_type J agreed_phase log groups) (
     search sendable depth 20,
     (
       Share-send,
       (
-        search (Journey-send, sendable) depth 20,
+        search (Flow-send, sendable) depth 20,
         tt,
       ),
     ),
   )
 
-  Settle-send : IsSend (Settle.the_row J course log groups)
-  Settle-send = view_send _ _ _ _ _ (declared_send (Settle.TheInside.the_type J course log groups) (
+  Settle-send : IsSend (Settle.the_row J agreed_phase log groups)
+  Settle-send = view_send _ _ _ _ _ (declared_send (Settle.TheInside.the_type J agreed_phase log groups) (
     search sendable depth 20,
     (
       Claims-send J groups s,
@@ -152,8 +152,8 @@ module _ (J : RattleType) (course : CourseNames J.Denot) (log : LogNames J.Denot
     ),
   ))
 
-  Undo-send : IsSend (Undo.the_row J course log groups)
-  Undo-send = view_send _ _ _ _ _ (declared_send (Undo.TheInside.the_type J course log groups) (
+  Undo-send : IsSend (Undo.the_row J agreed_phase log groups)
+  Undo-send = view_send _ _ _ _ _ (declared_send (Undo.TheInside.the_type J agreed_phase log groups) (
     search sendable depth 20,
     (
       Claims-send J groups s,
@@ -161,8 +161,8 @@ module _ (J : RattleType) (course : CourseNames J.Denot) (log : LogNames J.Denot
     ),
   ))
 
-  pub GivenBack-send : IsSend (GivenBack.the_row J course log groups)
-  GivenBack-send = variants_send (GivenBack.enum J course log groups) (
+  pub GivenBack-send : IsSend (GivenBack.the_row J agreed_phase log groups)
+  GivenBack-send = variants_send (GivenBack.enum J agreed_phase log groups) (
     (Settle-send, tt),
     (
       (Undo-send, tt),
@@ -170,11 +170,11 @@ module _ (J : RattleType) (course : CourseNames J.Denot) (log : LogNames J.Denot
     ),
   )
 
-  pub Phase-send : IsSend (Phase.the_row J course log groups)
-  Phase-send = view_send _ _ _ _ _ (declared_send (Phase.TheInside.the_type J course log groups) (
-    Keeper-send,
+  pub Phase-send : IsSend (Phase.the_row J agreed_phase log groups)
+  Phase-send = view_send _ _ _ _ _ (declared_send (Phase.TheInside.the_type J agreed_phase log groups) (
+    PhaseOwner-send,
     (
-      search (Journey-send, sendable) depth 20,
+      search (Flow-send, sendable) depth 20,
       (
         search (Ran-send, Meeting-send, sendable) depth 20,
         tt,
@@ -182,17 +182,17 @@ module _ (J : RattleType) (course : CourseNames J.Denot) (log : LogNames J.Denot
     ),
   ))
 
-  pub Post-send : IsSend (Post.the_row J course log groups)
-  Post-send = view_send _ _ _ _ _ (declared_send (Post.TheInside.the_type J course log groups) (
-    search (Carried-send, Station-send, sendable) depth 20,
+  pub CountedShard-send : IsSend (CountedShard.the_row J agreed_phase log groups)
+  CountedShard-send = view_send _ _ _ _ _ (declared_send (CountedShard.TheInside.the_type J agreed_phase log groups) (
+    search (Carried-send, Shard-send, sendable) depth 20,
     (
       search sendable depth 20,
       tt,
     ),
   ))
 
-  pub Posts-send : IsSend (Posts.the_row J course log groups)
-  Posts-send = declared_send (Posts.the_type J course log groups) (
-    search (Post-send, Box-send, Vec-send, sendable) depth 20,
+  pub ExecutorShards-send : IsSend (ExecutorShards.the_row J agreed_phase log groups)
+  ExecutorShards-send = declared_send (ExecutorShards.the_type J agreed_phase log groups) (
+    search (CountedShard-send, Box-send, Vec-send, sendable) depth 20,
     tt,
   )

@@ -5,7 +5,7 @@ use Rattle.std.proofs.lemmas.List.Elements.{All-cons, All-nil}
 use Rattle.transactions.specs.declared.work.Work.{Work}
 use Rattle.transactions.specs.declared.acting.Ran.{Ran}
 use Rattle.transactions.specs.declared.acting.Ran.TheVariants as ran
-use Rattle.partitions.specs.Parts.{Shared}
+use Rattle.partitions.specs.Parts.{SharedTables}
 use Rattle.transactions.specs.Works.{HaveAllDone}
 use Rattle.transactions.specs.Acting.{AreUndoneBy}
 use Rattle.executor.specs.Phases.{AreAllRans}
@@ -14,7 +14,7 @@ use Rattle.transactions.proofs.SortedOut.{stays_refused}
 
 module _ {J : Type 0} where
   -- where no action died or found no memory all have done their work
-  pub all_done : (shared : Shared) (age : ℕ) (works : List Work) (rans : List (Ran J)) → AreAllRans shared age works rans → refusal_of None rans ≡ None
+  pub all_done : (shared : SharedTables) (age : ℕ) (works : List Work) (rans : List (Ran J)) → AreAllRans shared age works rans → refusal_of None rans ≡ None
       → HaveAllDone shared works (found_in rans) (held_in rans)
   all_done shared age [] [] all none = tt
   all_done shared age [] (r ∷ rans) all none = absurd all
@@ -24,7 +24,7 @@ module _ {J : Type 0} where
   all_done shared age (w ∷ works) (ran.NoMemory ∷ rans) all none = absurd (stays_refused _ rans none)
 
   -- all that they hold can be taken back
-  pub all_undone : (shared : Shared) (age : ℕ) (works : List Work) (rans : List (Ran J)) → AreAllRans shared age works rans → All (AreUndoneBy age) (held_in rans)
+  pub all_undone : (shared : SharedTables) (age : ℕ) (works : List Work) (rans : List (Ran J)) → AreAllRans shared age works rans → All (AreUndoneBy age) (held_in rans)
   all_undone shared age [] [] all = All-nil (AreUndoneBy age)
   all_undone shared age [] (r ∷ rans) all = absurd all
   all_undone shared age (w ∷ works) [] all = absurd all
@@ -33,7 +33,7 @@ module _ {J : Type 0} where
   all_undone shared age (w ∷ works) (ran.NoMemory ∷ rans) all = all_undone shared age works rans all.1
 
   -- and there are as many as actions
-  pub as_many : (shared : Shared) (age : ℕ) (works : List Work) (rans : List (Ran J)) → AreAllRans shared age works rans → length rans ≡ length works
+  pub as_many : (shared : SharedTables) (age : ℕ) (works : List Work) (rans : List (Ran J)) → AreAllRans shared age works rans → length rans ≡ length works
   as_many shared age [] [] all = refl
   as_many shared age [] (r ∷ rans) all = absurd all
   as_many shared age (w ∷ works) [] all = absurd all

@@ -5,27 +5,27 @@ use Rattle.requests.specs.declared.reply.Reply.{Reply}
 use Rattle.requests.specs.declared.refusal.Refusal.{Refusal}
 use Rattle.requests.specs.declared.refusal.Refusal.TheVariants.{Died, NoMemory, LogFull}
 use Rattle.groups.specs.Footprint.{footprint, groups_of}
-use Rattle.tickets.specs.Claims.{Claiming}
+use Rattle.tickets.specs.Claims.{ClaimView}
 use Rattle.commit_log.specs.declared.asking.Asking.{Asking}
 use Rattle.commit_log.specs.Items.{item}
-use Rattle.commit_log.specs.Passing.{Passing}
-use Rattle.executor.specs.Courses.{Keeping}
+use Rattle.commit_log.specs.PassView.{PassView}
+use Rattle.executor.specs.AgreedPhases.{PhaseOwnerView}
 use Rattle.transactions.specs.Acting.{CanAllBeSettled, CanAllBeUndone}
 
 -- ---- the answer
 
 -- an answer on its way: the transaction's age, the number of the request in its session, the session's pass, and the answer, which is the
 -- place of the transaction's entry in the log, or why it was refused
-pub record Telling : Type 0 where
+pub record AnswerView : Type 0 where
   pub age : ℕ
   pub number : ℕ
-  pub pass : Passing
+  pub pass : PassView
   pub answer : Result ℕ Refusal
 
-abbrev pub telling : ℕ → ℕ → Passing → Result ℕ Refusal → Telling
-telling age number pass answer = record { age = age; number = number; pass = pass; answer = answer }
+abbrev pub answer_view : ℕ → ℕ → PassView → Result ℕ Refusal → AnswerView
+answer_view age number pass answer = record { age = age; number = number; pass = pass; answer = answer }
 
--- For what a request may be refused that is under way, where the log has reached so many entries: there was no memory; or the log has its
+-- For what a request may be refused that is in flight, where the log has reached so many entries: there was no memory; or the log has its
 -- most entries; or an action died on a group that the request claims, of whomever. It is refused for nothing else.
 abbrev pub MayBeRefused : ℕ → Request → Refusal → Type 0
 MayBeRefused entries request NoMemory = Unit {0}
@@ -35,43 +35,43 @@ MayBeRefused entries request _ = ⊥
 
 -- What the pass has seen and logged is what it had when the session asked this, and the answer: an entry behind all that it had
 -- seen; or nothing more, where it was refused, and it may be refused for this.
-abbrev pub IsToldBy : Asking → Passing → Result ℕ Refusal → Type 0
-IsToldBy asks pass (Ok place) =
+abbrev pub IsRecordedBy : Asking → PassView → Result ℕ Refusal → Type 0
+IsRecordedBy asks pass (Ok place) =
     (asks.seen ≤ place) × (pass.seen ≡ place + 1) × (shown : Reply) × (pass.mine ≡ asks.mine ++ item place asks.number asks.request shown ∷ [])
-IsToldBy asks pass (Err why) = (pass.seen ≡ asks.seen) × (pass.mine ≡ asks.mine) × MayBeRefused pass.reached asks.request why
+IsRecordedBy asks pass (Err why) = (pass.seen ≡ asks.seen) × (pass.mine ≡ asks.mine) × MayBeRefused pass.reached asks.request why
 
 -- an answer is to the request that its session asked with the pass, and the pass tells it
-pub record CarriesAnswer (t : Telling) : Type 0 where
+pub record CarriesAnswer (t : AnswerView) : Type 0 where
   pub number_is : t.pass.asks.number ≡ t.number
-  pub told : IsToldBy t.pass.asks t.pass t.answer
+  pub recorded : IsRecordedBy t.pass.asks t.pass t.answer
 
 -- ---- what goes back
 
 -- what the actions of a transaction that is over give back: its slot, whether their claims are settled, and the claims of each
-pub record Returning : Type 0 where
+pub record ReturnsView : Type 0 where
   pub slot : ℕ
   pub settle : Bool
-  pub held : List (List Claiming)
+  pub held : List (List ClaimView)
 
-abbrev pub returning : ℕ → Bool → List (List Claiming) → Returning
-returning slot settle held = record { slot = slot; settle = settle; held = held }
+abbrev pub returns_view : ℕ → Bool → List (List ClaimView) → ReturnsView
+returns_view slot settle held = record { slot = slot; settle = settle; held = held }
 
 -- what the claims of one action left is committed, or all that was done under them can be taken back
-abbrev pub IsGiven : Bool → List Claiming → Type 0
+abbrev pub IsGiven : Bool → List ClaimView → Type 0
 IsGiven true claims = CanAllBeSettled claims
 IsGiven false claims = CanAllBeUndone claims
 
 -- so are those of all
-abbrev pub AreGiven : Bool → List (List Claiming) → Type 0
+abbrev pub AreGiven : Bool → List (List ClaimView) → Type 0
 AreGiven settle held = All (IsGiven settle) held
 
 -- ---- a transaction that is over
 
--- what its session is told, what its actions give back, and who keeps its course
-pub record Releasing : Type 0 where
-  pub told : Telling
-  pub returns : Returning
-  pub keeper : Keeping
+-- what its session is told, what its actions give back, and who keeps its agreed phase
+pub record ReleaseView : Type 0 where
+  pub recorded : AnswerView
+  pub returns : ReturnsView
+  pub phase_owner : PhaseOwnerView
 
-abbrev pub releasing : Telling → Returning → Keeping → Releasing
-releasing told returns keeper = record { told = told; returns = returns; keeper = keeper }
+abbrev pub release_view : AnswerView → ReturnsView → PhaseOwnerView → ReleaseView
+release_view recorded returns phase_owner = record { recorded = recorded; returns = returns; phase_owner = phase_owner }

@@ -1,7 +1,7 @@
 -- A phase whose actions do their work at once.
 use Rattle.std.specs.Prelude.{◌≡◌, ℕ, List, [], ◌++◌, All}
-use Rattle.partitions.specs.Parts.{Shared}
-use Rattle.tickets.specs.Claims.{Claiming}
+use Rattle.partitions.specs.Parts.{SharedTables}
+use Rattle.tickets.specs.Claims.{ClaimView}
 use Rattle.transactions.specs.declared.work.Found.{Found}
 use Rattle.transactions.specs.declared.work.Work.{Work}
 use Rattle.transactions.specs.Progresses.{works_of}
@@ -10,26 +10,26 @@ use Rattle.executor.specs.declared.paused.Tried.{Tried}
 use Rattle.executor.specs.declared.paused.Tried.TheVariants.{Apart, Done}
 use Rattle.executor.specs.Followed.{Gathers, transaction_of}
 use Rattle.transactions.specs.Acting.{AreUndoneBy}
-use Rattle.executor.specs.Pauses.{Pausing}
+use Rattle.executor.specs.PausedView.{PausedView}
 
 -- Of these works all but the last ones were done, under claims of a transaction of this age that are held after those before;
 -- this was found, and all that was done can be taken back.
-pub record HaveDoneBut (shared : Shared) (age : ℕ) (last works : List Work) (before held : List (List Claiming)) (found : List Found) : Type 0 where
+pub record HaveDoneBut (shared : SharedTables) (age : ℕ) (last works : List Work) (before held : List (List ClaimView)) (found : List Found) : Type 0 where
   pub first : List Work
-  pub own : List (List Claiming)
+  pub own : List (List ClaimView)
   pub works_are : works ≡ first ++ last
   pub held_is : held ≡ before ++ own
   pub done : HaveAllDone shared first found own
   pub undone : All (AreUndoneBy age) own
 
 -- all of them were
-abbrev pub HaveDoneAtOnce : Shared → ℕ → List Work → List (List Claiming) → List (List Claiming) → List Found → Type 0
+abbrev pub HaveDoneAtOnce : SharedTables → ℕ → List Work → List (List ClaimView) → List (List ClaimView) → List Found → Type 0
 HaveDoneAtOnce shared age works before held found = HaveDoneBut shared age [] works before held found
 
 module _ {J : Type 0} where
   -- All actions of the phase have done their work, and what follows is what was found gives; or nothing was done.
-  abbrev pub RunsHere : Shared → Pausing → Tried J → Type 0
+  abbrev pub RunsHere : SharedTables → PausedView → Tried J → Type 0
   RunsHere shared p (Done following) =
-      (held : List (List Claiming)) × (found : List Found) × HaveDoneAtOnce shared p.journey.age (works_of p.journey.progress) p.journey.held held found
-      × Gathers p.keeper (transaction_of p.journey) held p.journey.progress found following
+      (held : List (List ClaimView)) × (found : List Found) × HaveDoneAtOnce shared p.flow.age (works_of p.flow.progress) p.flow.held held found
+      × Gathers p.phase_owner (transaction_of p.flow) held p.flow.progress found following
   RunsHere shared p (Apart back) = back ≡ p

@@ -2,24 +2,24 @@
 use Rattle.std.specs.Prelude.{◌+◌, ℕ, List, [], ◌∷◌, Option, Some, None, length, replicate}
 use Rattle.transactions.specs.declared.work.Work.{Work}
 use Rattle.transactions.specs.Progresses.{works_of}
-use Rattle.executor.specs.declared.course.Course.{Course}
-use Rattle.executor.specs.Carrying.{Erranding, action_at, course_of}
-use Rattle.executor.specs.Journeys.{Journeying}
-use Rattle.executor.specs.Phases.{Phasing}
+use Rattle.executor.specs.declared.agreed_phase.AgreedPhase.{AgreedPhase}
+use Rattle.executor.specs.Carrying.{ActView, action_at, agreed_phase_of}
+use Rattle.executor.specs.Flows.{FlowView}
+use Rattle.executor.specs.Phases.{PhaseView}
 
 -- the action of this number, which carries this
-abbrev pub errand_at : ℕ → Course → ℕ → Option Journeying → Work → Erranding
-errand_at slot told number carried work = record { by = action_at told number; number = number; work = work; slot = slot; course = told; journey = carried }
+abbrev pub act_at : ℕ → AgreedPhase → ℕ → Option FlowView → Work → ActView
+act_at slot recorded number carried work = record { by = action_at recorded number; number = number; work = work; slot = slot; agreed_phase = recorded; flow = carried }
 
 -- the actions from this number on; the first of them carries this
-abbrev pub errands_from : ℕ → Course → ℕ → Option Journeying → List Work → List Erranding
-errands_from slot told number carried [] = []
-errands_from slot told number carried (work ∷ works) = errand_at slot told number carried work ∷ errands_from slot told (number + 1) None works
+abbrev pub acts_from : ℕ → AgreedPhase → ℕ → Option FlowView → List Work → List ActView
+acts_from slot recorded number carried [] = []
+acts_from slot recorded number carried (work ∷ works) = act_at slot recorded number carried work ∷ acts_from slot recorded (number + 1) None works
 
 -- the actions of a transaction's phase: the first carries the transaction
-abbrev pub errands_of : Journeying → List Erranding
-errands_of j = errands_from j.slot (course_of j) 0 (Some j) (works_of j.progress)
+abbrev pub acts_of : FlowView → List ActView
+acts_of j = acts_from j.slot (agreed_phase_of j) 0 (Some j) (works_of j.progress)
 
 -- its phase, of which no action has reported
-abbrev pub awaiting_all : {J : Type 0} → Journeying → Phasing J
-awaiting_all j = record { slot = j.slot; course = course_of j; journey = None; rans = replicate (length (works_of j.progress)) None }
+abbrev pub awaiting_all : {J : Type 0} → FlowView → PhaseView J
+awaiting_all j = record { slot = j.slot; agreed_phase = agreed_phase_of j; flow = None; rans = replicate (length (works_of j.progress)) None }

@@ -1,85 +1,85 @@
 -- What an action carries with it on its way, and what its report does, whatever becomes of the others.
 use Rattle.std.specs.Prelude.{◌≡◌, ◌+◌, ℕ, zero, suc, Option, Some, None, length}
 use Rattle.std.specs.List.{slice_get}
-use Rattle.partitions.specs.Parts.{Shared}
+use Rattle.partitions.specs.Parts.{SharedTables}
 use Rattle.wait_die.specs.declared.deciding.Holder.{Holder}
 use Rattle.transactions.specs.declared.work.Work.{Work}
 use Rattle.transactions.specs.declared.acting.Ran.{Ran}
 use Rattle.transactions.specs.Works.{CanDo}
 use Rattle.transactions.specs.Progresses.{works_of}
-use Rattle.executor.specs.declared.course.Course.{Course}
-use Rattle.executor.specs.Courses.{Sharing, course}
-use Rattle.executor.specs.Journeys.{Journeying}
+use Rattle.executor.specs.declared.agreed_phase.AgreedPhase.{AgreedPhase}
+use Rattle.executor.specs.AgreedPhases.{ShareView, agreed_phase}
+use Rattle.executor.specs.Flows.{FlowView}
 use Rattle.transactions.specs.Acting.{IsRanBy}
 
 -- ---- a transaction
 
--- its course
-abbrev pub course_of : Journeying → Course
-course_of j = course j.age (length j.held) j.progress
+-- its agreed phase
+abbrev pub agreed_phase_of : FlowView → AgreedPhase
+agreed_phase_of j = agreed_phase j.age (length j.held) j.progress
 
 -- the transaction in this slot has come as far as this
-pub record IsOn (slot : ℕ) (told : Course) (j : Journeying) : Type 0 where
+pub record IsOn (slot : ℕ) (recorded : AgreedPhase) (j : FlowView) : Type 0 where
   pub slot_is : j.slot ≡ slot
-  pub course_is : course_of j ≡ told
+  pub agreed_phase_is : agreed_phase_of j ≡ recorded
 
 -- the transaction goes with the first action of its phase, and with no other
-abbrev pub IsCarriedAt : ℕ → Course → ℕ → Option Journeying → Type 0
-IsCarriedAt slot told zero None = ⊥
-IsCarriedAt slot told zero (Some j) = IsOn slot told j
-IsCarriedAt slot told (suc number) None = Unit {0}
-IsCarriedAt slot told (suc number) (Some j) = ⊥
+abbrev pub IsCarriedAt : ℕ → AgreedPhase → ℕ → Option FlowView → Type 0
+IsCarriedAt slot recorded zero None = ⊥
+IsCarriedAt slot recorded zero (Some j) = IsOn slot recorded j
+IsCarriedAt slot recorded (suc number) None = Unit {0}
+IsCarriedAt slot recorded (suc number) (Some j) = ⊥
 
 -- ---- an action
 
 -- the action of this number of the phase, from 0, does this
-abbrev pub IsWorkAt : Course → ℕ → Work → Type 0
-IsWorkAt told number work = slice_get (works_of told.progress) number ≡ Some work
+abbrev pub IsWorkAt : AgreedPhase → ℕ → Work → Type 0
+IsWorkAt recorded number work = slice_get (works_of recorded.progress) number ≡ Some work
 
 -- who it is: its transaction, by its age, and its place among all actions of it
-abbrev pub action_at : Course → ℕ → Holder
-action_at told number = record { age = told.age; place = told.first + number }
+abbrev pub action_at : AgreedPhase → ℕ → Holder
+action_at recorded number = record { age = recorded.age; place = recorded.first + number }
 
--- an action on its way: who it is, its number in its phase, what it does; the slot of its transaction, the course that its share
+-- an action on its way: who it is, its number in its phase, what it does; the slot of its transaction, the agreed phase that its share
 -- tells, and the transaction, if it goes with it
-pub record Erranding : Type 0 where
+pub record ActView : Type 0 where
   pub by : Holder
   pub number : ℕ
   pub work : Work
   pub slot : ℕ
-  pub course : Course
-  pub journey : Option Journeying
+  pub agreed_phase : AgreedPhase
+  pub flow : Option FlowView
 
-abbrev pub erranding : Holder → ℕ → Work → Sharing → Option Journeying → Erranding
-erranding by number work share journey = record { by = by; number = number; work = work; slot = share.slot; course = share.course; journey = journey }
+abbrev pub act_view : Holder → ℕ → Work → ShareView → Option FlowView → ActView
+act_view by number work share flow = record { by = by; number = number; work = work; slot = share.slot; agreed_phase = share.agreed_phase; flow = flow }
 
--- An action on its way does the work of its number in the phase that the course tells, which can be done; and it brings the
+-- An action on its way does the work of its number in the phase that the agreed phase tells, which can be done; and it brings the
 -- transaction exactly where it is the first.
-pub record CarriesErrand (shared : Shared) (e : Erranding) : Type 0 where
-  pub by_is : e.by ≡ action_at e.course e.number
-  pub work_is : IsWorkAt e.course e.number e.work
+pub record CarriesAct (shared : SharedTables) (e : ActView) : Type 0 where
+  pub by_is : e.by ≡ action_at e.agreed_phase e.number
+  pub work_is : IsWorkAt e.agreed_phase e.number e.work
   pub can : CanDo shared e.work
-  pub journey_is : IsCarriedAt e.slot e.course e.number e.journey
+  pub flow_is : IsCarriedAt e.slot e.agreed_phase e.number e.flow
 
 module _ {J : Type 0} where
   -- what came of the work of this number
-  abbrev pub IsRanAt : Shared → Course → ℕ → Ran J → Type 0
-  IsRanAt shared told number ran = (work : Work) × (IsWorkAt told number work × IsRanBy shared told.age work ran)
+  abbrev pub IsRanAt : SharedTables → AgreedPhase → ℕ → Ran J → Type 0
+  IsRanAt shared recorded number ran = (work : Work) × (IsWorkAt recorded number work × IsRanBy shared recorded.age work ran)
 
--- a report: the number of the action in its phase, and what came of it; the slot of its transaction, the course that its share tells,
+-- a report: the number of the action in its phase, and what came of it; the slot of its transaction, the agreed phase that its share tells,
 -- and the transaction, if it goes with it
-pub record Reporting (J : Type 0) : Type 0 where
+pub record ReportView (J : Type 0) : Type 0 where
   pub number : ℕ
   pub ran : Ran J
   pub slot : ℕ
-  pub course : Course
-  pub journey : Option Journeying
+  pub agreed_phase : AgreedPhase
+  pub flow : Option FlowView
 
 module _ {J : Type 0} where
-  abbrev pub reporting : ℕ → Ran J → Sharing → Option Journeying → Reporting J
-  reporting number ran share journey = record { number = number; ran = ran; slot = share.slot; course = share.course; journey = journey }
+  abbrev pub report_view : ℕ → Ran J → ShareView → Option FlowView → ReportView J
+  report_view number ran share flow = record { number = number; ran = ran; slot = share.slot; agreed_phase = share.agreed_phase; flow = flow }
 
-  -- A report is of the work of its number in the phase that the course tells, and brings the transaction as the action did.
-  pub record CarriesReport (shared : Shared) (r : Reporting J) : Type 0 where
-    pub ran_is : IsRanAt shared r.course r.number r.ran
-    pub journey_is : IsCarriedAt r.slot r.course r.number r.journey
+  -- A report is of the work of its number in the phase that the agreed phase tells, and brings the transaction as the action did.
+  pub record CarriesReport (shared : SharedTables) (r : ReportView J) : Type 0 where
+    pub ran_is : IsRanAt shared r.agreed_phase r.number r.ran
+    pub flow_is : IsCarriedAt r.slot r.agreed_phase r.number r.flow

@@ -5,61 +5,61 @@ use Rattle.requests.specs.declared.request.Request.{Request}
 use Rattle.requests.specs.declared.reply.Reply.{Reply}
 use Rattle.requests.specs.declared.refusal.Refusal.{Refusal}
 use Rattle.requests.specs.Check.{IsAccepted}
-use Rattle.tickets.specs.Claims.{Claiming, all_claims}
+use Rattle.tickets.specs.Claims.{ClaimView, all_claims}
 use Rattle.commit_log.specs.declared.entry.Entry.{Entry}
 use Rattle.commit_log.specs.declared.log_book.AppendFault.{AppendFault}
 use Rattle.commit_log.specs.declared.log_book.AppendFault.TheVariants as fault
 use Rattle.commit_log.specs.Claimed.{IsCarriedOut, claims_logged}
 use Rattle.commit_log.specs.Items.{entry_of, item}
-use Rattle.commit_log.specs.Passing.{Passing, after_item, after_refusal}
-use Rattle.executor.specs.Courses.{Keeping, KeepsWhole}
-use Rattle.executor.specs.Journeys.{IsAskedBy}
+use Rattle.commit_log.specs.PassView.{PassView, after_item, after_refusal}
+use Rattle.executor.specs.AgreedPhases.{PhaseOwnerView, KeepsWhole}
+use Rattle.executor.specs.Flows.{IsAskedBy}
 use Rattle.transactions.specs.Acting.{AreUndoneBy}
 use Rattle.transactions.specs.Logged.{is_settled, why_refused}
-use Rattle.executor.specs.Transactions.{Transacting}
-use Rattle.executor.specs.Answers.{Releasing, releasing, returning, telling}
+use Rattle.executor.specs.Transactions.{TransactionView}
+use Rattle.executor.specs.Answers.{ReleaseView, release_view, returns_view, answer_view}
 
--- a transaction that was carried out: who keeps its course, its age, its slot, the number of its request in its session, the request, the
+-- a transaction that was carried out: who keeps its agreed phase, its age, its slot, the number of its request in its session, the request, the
 -- session's pass, the claims of its actions, by place, and the reply
-pub record Committing : Type 0 where
-  pub keeper : Keeping
+pub record CommitView : Type 0 where
+  pub phase_owner : PhaseOwnerView
   pub age : ℕ
   pub slot : ℕ
   pub number : ℕ
   pub request : Request
-  pub pass : Passing
-  pub held : List (List Claiming)
+  pub pass : PassView
+  pub held : List (List ClaimView)
   pub shown : Reply
 
-abbrev pub committing : Keeping → Transacting → List (List Claiming) → Reply → Committing
-committing keeper t held shown =
-    record { keeper = keeper; age = t.age; slot = t.slot; number = t.number; request = t.request; pass = t.pass; held = held; shown = shown }
+abbrev pub commit_view : PhaseOwnerView → TransactionView → List (List ClaimView) → Reply → CommitView
+commit_view phase_owner t held shown =
+    record { phase_owner = phase_owner; age = t.age; slot = t.slot; number = t.number; request = t.request; pass = t.pass; held = held; shown = shown }
 
 -- Its session asks it; its check accepts the request, which was carried out under these claims with this reply; all that was done
--- under them can be taken back; and who keeps its course has all shares.
-pub record CarriesCommit (opening : Database) (c : Committing) : Type 0 where
+-- under them can be taken back; and who keeps its agreed phase has all shares.
+pub record CarriesCommit (opening : Database) (c : CommitView) : Type 0 where
   pub asked : IsAskedBy c.number c.request c.pass
   pub accepted : IsAccepted opening.scale c.request
   pub carried_out : IsCarriedOut opening c.request (all_claims c.held) c.shown
   pub undone : All (AreUndoneBy c.age) c.held
-  pub whole : KeepsWhole c.slot c.keeper
+  pub whole : KeepsWhole c.slot c.phase_owner
 
 -- its entry
-abbrev pub entry_committed : Committing → Entry
+abbrev pub entry_committed : CommitView → Entry
 entry_committed c = entry_of c.pass.session c.number c.request c.shown
 
 -- It is logged at this place: its session is told so, and its claims go back, as they are then.
-abbrev pub logging : Committing → ℕ → Releasing
+abbrev pub logging : CommitView → ℕ → ReleaseView
 logging c place =
-    releasing (telling c.age c.number (after_item c.pass (item place c.number c.request c.shown)) (Ok place))
-    (returning c.slot (is_settled c.shown) (map (claims_logged c.shown) c.held)) c.keeper
+    release_view (answer_view c.age c.number (after_item c.pass (item place c.number c.request c.shown)) (Ok place))
+    (returns_view c.slot (is_settled c.shown) (map (claims_logged c.shown) c.held)) c.phase_owner
 
 -- it is refused: its session is told so, with this pass, and what its actions did is taken back
-abbrev pub refusing : Committing → Passing → Refusal → Releasing
-refusing c pass why = releasing (telling c.age c.number pass (Err why)) (returning c.slot false c.held) c.keeper
+abbrev pub refusing : CommitView → PassView → Refusal → ReleaseView
+refusing c pass why = release_view (answer_view c.age c.number pass (Err why)) (returns_view c.slot false c.held) c.phase_owner
 
 -- The log has the entry more, at its end; or it refused it, and is as it was. A full log refuses every entry as such, and no other does.
-abbrev pub Commits : Committing → List Entry → Releasing → List Entry → Type 0
+abbrev pub Commits : CommitView → List Entry → ReleaseView → List Entry → Type 0
 Commits c old release new =
     ((length old < 16777216) × ((release ≡ logging c (length old)) × (new ≡ old ++ entry_committed c ∷ [])))
     ⊎ ((why : AppendFault) × (((why ≡ fault.LogFull) ↔ (16777216 ≤ length old))

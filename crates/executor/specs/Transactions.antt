@@ -1,16 +1,16 @@
 -- Who a transaction is, as all steps of it pass it on.
 use Rattle.std.specs.Prelude.{ℕ}
 use Rattle.requests.specs.declared.request.Request.{Request}
-use Rattle.commit_log.specs.Passing.{Passing}
-use Rattle.executor.specs.declared.journey.Transaction.{Transaction}
+use Rattle.commit_log.specs.PassView.{PassView}
+use Rattle.executor.specs.declared.flow.Transaction.{Transaction}
 
 -- its age, its slot, the number of its request in its session, the request, and the session's pass
-pub record Transacting : Type 0 where
+pub record TransactionView : Type 0 where
   pub age : ℕ
   pub slot : ℕ
   pub number : ℕ
   pub request : Request
-  pub pass : Passing
+  pub pass : PassView
 
-abbrev pub transacting : {J : Type 0} → Transaction J → Transacting
-transacting t = record { age = t.age; slot = t.slot; number = t.number; request = t.matter.value.request; pass = t.pass }
+abbrev pub transaction_view : {J : Type 0} → Transaction J → TransactionView
+transaction_view t = record { age = t.age; slot = t.slot; number = t.number; request = t.body.value.request; pass = t.pass }

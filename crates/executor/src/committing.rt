@@ -3,15 +3,15 @@ ghost use Rattle.std.specs.Prelude.{◌≡◌, ◌<◌, All};
 ghost use Rattle.requests.specs.Check.{IsAccepted};
 ghost use Rattle.tickets.specs.Claims.{all_claims};
 ghost use Rattle.commit_log.specs.Claimed.{IsCarriedOut};
-ghost use Rattle.executor.specs.Commits.{Commits, committing};
-ghost use Rattle.executor.specs.Courses.{KeepsWhole};
-ghost use Rattle.executor.specs.Journeys.{IsAskedBy};
+ghost use Rattle.executor.specs.Commits.{Commits, commit_view};
+ghost use Rattle.executor.specs.AgreedPhases.{KeepsWhole};
+ghost use Rattle.executor.specs.Flows.{IsAskedBy};
 ghost use Rattle.transactions.specs.Acting.{AreUndoneBy};
-ghost use Rattle.executor.specs.Transactions.{transacting};
+ghost use Rattle.executor.specs.Transactions.{transaction_view};
 
-use crate::journey::Transaction;
+use crate::flow::Transaction;
 use crate::release::Returns;
-use crate::{CourseNames, Keeper, Release, Told};
+use crate::{PhaseNames, PhaseOwner, Release, SessionAnswer};
 use commit_log::{Entry, Log};
 use requests::Request;
 use std::marker::Model;
@@ -20,51 +20,51 @@ use transactions::{HeldClaims, Logged};
 /// A transaction that was carried out, on its way to the log.
 ///
 /// Contracts see the transaction's age, its slot, the number of its request in its session, the request, the pass, the claims of
-/// its actions, by place, the reply, and who keeps its course. It keeps that its session asks it with this pass, which is as it was
+/// its actions, by place, the reply, and who keeps its agreed phase. It keeps that its session asks it with this pass, which is as it was
 /// then; that the check accepts the request; that it was carried out under these claims with this reply; that all that was done can
-/// be taken back; and that who keeps its course has all shares.
+/// be taken back; and that who keeps its agreed phase has all shares.
 #[derive(Drop)]
-pub struct Commit<J: CourseNames> {
+pub struct Commit<J: PhaseNames> {
     transaction: Transaction<J>,
     held: HeldClaims<J>,
-    keeper: Keeper<J>,
+    phase_owner: PhaseOwner<J>,
 }
 
-impl<J: CourseNames> Model for Commit<J> {
+impl<J: PhaseNames> Model for Commit<J> {
     ghost use Rattle.std.specs.Coded.{codes};
     ghost use Rattle.groups.specs.contracts.content.Content as content;
-    ghost use Rattle.executor.specs.Commits.{Committing};
+    ghost use Rattle.executor.specs.Commits.{CommitView};
 
-    ghost Value = { Committing };
+    ghost Value = { CommitView };
 
     ghost coded = { Prim.hlevel (codes, content.the_row.coded) };
 
-    ghost use Rattle.executor.specs.Commits.{CarriesCommit, committing};
-    ghost use Rattle.executor.specs.Transactions.{transacting};
+    ghost use Rattle.executor.specs.Commits.{CarriesCommit, commit_view};
+    ghost use Rattle.executor.specs.Transactions.{transaction_view};
 
-    ghost view = { λ c. committing c.keeper (transacting c.transaction) c.held c.transaction.matter.value.reply };
+    ghost view = { λ c. commit_view c.phase_owner (transaction_view c.transaction) c.held c.transaction.body.value.reply };
 
-    ghost invariant = { λ c. CarriesCommit J.opening (committing c.keeper (transacting c.transaction) c.held c.transaction.matter.value.reply) };
+    ghost invariant = { λ c. CarriesCommit J.opening (commit_view c.phase_owner (transaction_view c.transaction) c.held c.transaction.body.value.reply) };
 }
 
-impl<J: CourseNames> Commit<J> {
+impl<J: PhaseNames> Commit<J> {
     // A transaction that was carried out under these claims.
     pub(crate) fn new(
-        keeper: Keeper<J>,
+        phase_owner: PhaseOwner<J>,
         transaction: Transaction<J>,
         held: HeldClaims<J>,
     ) -> Commit<J>
-        requires asked { IsAskedBy transaction.number transaction.matter.value.request transaction.pass }
-        requires accepted { IsAccepted J.opening.scale transaction.matter.value.request }
-        requires carried_out { IsCarriedOut J.opening transaction.matter.value.request (all_claims held) transaction.matter.value.reply }
+        requires asked { IsAskedBy transaction.number transaction.body.value.request transaction.pass }
+        requires accepted { IsAccepted J.opening.scale transaction.body.value.request }
+        requires carried_out { IsCarriedOut J.opening transaction.body.value.request (all_claims held) transaction.body.value.reply }
         requires undone { All (AreUndoneBy transaction.age) held }
-        requires whole { KeepsWhole transaction.slot keeper }
-        ensures { result ≡ committing keeper (transacting transaction) held transaction.matter.value.reply }
+        requires whole { KeepsWhole transaction.slot phase_owner }
+        ensures { result ≡ commit_view phase_owner (transaction_view transaction) held transaction.body.value.reply }
     {
         Commit {
             transaction,
             held,
-            keeper,
+            phase_owner,
         }
     }
 
@@ -86,7 +86,7 @@ impl<J: CourseNames> Commit<J> {
     pub fn request(&self) -> &Request
         ensures { result.now ≡ self.now.request }
     {
-        &self.transaction.matter.request
+        &self.transaction.body.request
     }
 
     /// The transaction is logged, or refused where there is no memory, or the log is full. Then it is over: what its actions
@@ -97,20 +97,20 @@ impl<J: CourseNames> Commit<J> {
         let Commit {
             transaction,
             mut held,
-            keeper,
+            phase_owner,
         } = self;
         let Transaction {
             age,
             slot,
             number,
-            mut matter,
+            mut body,
             pass,
         } = transaction;
         let entry = Entry {
             session: pass.session(),
             number,
-            request: matter.take_request(),
-            reply: matter.take_reply(),
+            request: body.take_request(),
+            reply: body.take_reply(),
         };
         let Logged {
             answer,
@@ -118,14 +118,14 @@ impl<J: CourseNames> Commit<J> {
             is_settled,
         } = held.log(log, pass, entry);
         Release {
-            told: Told {
+            recorded: SessionAnswer {
                 age,
                 number,
                 pass,
                 answer,
             },
             returns: Returns::new(slot, is_settled, held),
-            keeper,
+            phase_owner,
         }
     }
 }

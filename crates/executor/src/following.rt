@@ -1,15 +1,15 @@
 //! What follows when a phase is over.
 ghost use Rattle.std.specs.Prelude.{◌≡◌, ◌≤◌, ◌+◌, ◌++◌, All, IfSome, None, [], length, vec_capacity};
 ghost use Rattle.partitions.specs.Parts.{shared_of};
-ghost use Rattle.executor.specs.Journeys.{IsAskedBy};
+ghost use Rattle.executor.specs.Flows.{IsAskedBy};
 ghost use Rattle.transactions.specs.Acting.{AreUndoneBy};
 ghost use Rattle.executor.specs.Answers.{MayBeRefused};
 ghost use Rattle.executor.specs.Followed.{Follows, FollowsUnless, HasMetUnder};
-ghost use Rattle.executor.specs.Transactions.{transacting};
+ghost use Rattle.executor.specs.Transactions.{transaction_view};
 ghost use Rattle.transactions.specs.SortedOut.{found_in, held_in, refusal_of};
 
-use crate::journey::Transaction;
-use crate::{Commit, CourseNames, Journey, Keeper, Met, Paused, Release};
+use crate::flow::Transaction;
+use crate::{Commit, PhaseNames, Flow, PhaseOwner, Met, Paused, Release};
 use rendezvous::Results;
 use std::alloc::Global;
 use transactions::{
@@ -19,7 +19,7 @@ use transactions::{
 
 /// What follows once all actions of a phase are over.
 #[derive(Drop)]
-pub enum Following<J: CourseNames> {
+pub enum Following<J: PhaseNames> {
     /// The next phase is to begin.
     Next(Paused<J>),
     /// It was carried out, and is to be logged.
@@ -28,7 +28,7 @@ pub enum Following<J: CourseNames> {
     Over(Release<J>),
 }
 
-impl<J: CourseNames> Met<J> {
+impl<J: PhaseNames> Met<J> {
     /// What follows of what came of the actions of the phase. The first death by place is answered, and else want of
     /// memory; where there is none, what they found is gathered: the next phase begins, or the transaction is to be logged.
     pub fn follow(self, alloc: Global) -> Following<J>
@@ -37,19 +37,19 @@ impl<J: CourseNames> Met<J> {
         transactions_have_few_actions();
         claims_are_of_the_footprint();
         let Met {
-            keeper,
-            journey,
+            phase_owner,
+            flow,
             rans,
         } = self;
-        let Journey { transaction, held } = journey;
+        let Flow { transaction, held } = flow;
         let start = Sorted::start(alloc, rans.len());
         let (held, sorted) = sort_out(rans, held, start);
-        go_on(alloc, keeper, transaction, held, sorted)
+        go_on(alloc, phase_owner, transaction, held, sorted)
     }
 }
 
 // The transaction holds what its actions hold, and what they found stands in order, unless it is refused.
-fn sort_out<J: CourseNames>(
+fn sort_out<J: PhaseNames>(
     mut rans: Results<Ran<J>>,
     mut held: HeldClaims<J>,
     mut sorted: Sorted,
@@ -67,32 +67,32 @@ fn sort_out<J: CourseNames>(
 }
 
 // What follows of what came of the actions of a phase, which hold the last of these claims.
-pub(crate) fn go_on<J: CourseNames>(
+pub(crate) fn go_on<J: PhaseNames>(
     alloc: Global,
-    keeper: Keeper<J>,
+    phase_owner: PhaseOwner<J>,
     mut transaction: Transaction<J>,
     held: HeldClaims<J>,
     sorted: Sorted,
 ) -> Following<J>
-    requires slot { transaction.slot ≡ keeper.slot }
-    requires all { keeper.out ≡ 0 }
-    requires asked { IsAskedBy transaction.number transaction.matter.value.request transaction.pass }
+    requires slot { transaction.slot ≡ phase_owner.slot }
+    requires all { phase_owner.out ≡ 0 }
+    requires asked { IsAskedBy transaction.number transaction.body.value.request transaction.pass }
     requires undone { All (AreUndoneBy transaction.age) held }
-    requires may { IfSome sorted.refusal (MayBeRefused transaction.pass.reached transaction.matter.value.request) }
-    requires met { sorted.refusal ≡ None → HasMetUnder (shared_of J.opening) transaction.matter.value.request transaction.matter.value.progress held sorted.found.items }
-    ensures { FollowsUnless sorted.refusal keeper (transacting transaction) held transaction.matter.value.progress sorted.found.items result }
+    requires may { IfSome sorted.refusal (MayBeRefused transaction.pass.reached transaction.body.value.request) }
+    requires met { sorted.refusal ≡ None → HasMetUnder (shared_of J.opening) transaction.body.value.request transaction.body.value.progress held sorted.found.items }
+    ensures { FollowsUnless sorted.refusal phase_owner (transaction_view transaction) held transaction.body.value.progress sorted.found.items result }
 {
     reached_requests_are_accepted();
     let progress = transaction.take_progress();
     match sorted.follow(alloc, progress) {
         Ok(Gathered::Next(progress)) => {
             transaction.put_progress(progress);
-            Following::Next(Paused::between(Journey { transaction, held }, keeper))
+            Following::Next(Paused::between(Flow { transaction, held }, phase_owner))
         }
         Ok(Gathered::Finish(reply)) => {
             transaction.put_reply(reply);
-            Following::Commit(Commit::new(keeper, transaction, held))
+            Following::Commit(Commit::new(phase_owner, transaction, held))
         }
-        Err(why) => Following::Over(Release::refused(keeper, transaction, held, why)),
+        Err(why) => Following::Over(Release::refused(phase_owner, transaction, held, why)),
     }
 }

@@ -2,7 +2,7 @@
 ghost use Rattle.std.specs.Prelude.{◌≡◌};
 ghost use Rattle.transactions.specs.Works.{home_of_claims};
 
-use crate::CourseNames;
+use crate::PhaseNames;
 use std::marker::Model;
 use tickets::Claims;
 
@@ -10,30 +10,30 @@ use tickets::Claims;
 ///
 /// Contracts see the claims.
 #[derive(Drop)]
-pub struct Settle<J: CourseNames> {
+pub struct Settle<J: PhaseNames> {
     /// The slot of its transaction.
     pub(crate) slot: usize,
     pub(crate) claims: Claims<J>,
 }
 
-impl<J: CourseNames> Model for Settle<J> {
+impl<J: PhaseNames> Model for Settle<J> {
     ghost use Rattle.std.specs.Coded.{codes};
     ghost use Rattle.groups.specs.contracts.content.Content as content;
-    ghost use Rattle.executor.specs.Givings.{Giving};
+    ghost use Rattle.executor.specs.GivenBackViews.{GivenBackView};
 
-    ghost Value = { Giving };
+    ghost Value = { GivenBackView };
 
     ghost coded = { Prim.hlevel (codes, content.the_row.coded) };
 
-    ghost use Rattle.executor.specs.Givings.{giving};
+    ghost use Rattle.executor.specs.GivenBackViews.{given_back_view};
     ghost use Rattle.transactions.specs.Acting.{CanAllBeSettled};
 
-    ghost view = { λ s. giving s.slot s.claims };
+    ghost view = { λ s. given_back_view s.slot s.claims };
 
     ghost invariant = { λ s. CanAllBeSettled s.claims };
 }
 
-impl<J: CourseNames> Settle<J> {
+impl<J: PhaseNames> Settle<J> {
     /// The slot of its transaction.
     pub fn slot(&self) -> usize
         ensures { result ≡ self.now.slot }
@@ -53,30 +53,30 @@ impl<J: CourseNames> Settle<J> {
 ///
 /// Contracts see the claims.
 #[derive(Drop)]
-pub struct Undo<J: CourseNames> {
+pub struct Undo<J: PhaseNames> {
     /// The slot of its transaction.
     pub(crate) slot: usize,
     pub(crate) claims: Claims<J>,
 }
 
-impl<J: CourseNames> Model for Undo<J> {
+impl<J: PhaseNames> Model for Undo<J> {
     ghost use Rattle.std.specs.Coded.{codes};
     ghost use Rattle.groups.specs.contracts.content.Content as content;
-    ghost use Rattle.executor.specs.Givings.{Giving};
+    ghost use Rattle.executor.specs.GivenBackViews.{GivenBackView};
 
-    ghost Value = { Giving };
+    ghost Value = { GivenBackView };
 
     ghost coded = { Prim.hlevel (codes, content.the_row.coded) };
 
-    ghost use Rattle.executor.specs.Givings.{giving};
+    ghost use Rattle.executor.specs.GivenBackViews.{given_back_view};
     ghost use Rattle.transactions.specs.Acting.{CanAllBeUndone};
 
-    ghost view = { λ u. giving u.slot u.claims };
+    ghost view = { λ u. given_back_view u.slot u.claims };
 
     ghost invariant = { λ u. CanAllBeUndone u.claims };
 }
 
-impl<J: CourseNames> Undo<J> {
+impl<J: PhaseNames> Undo<J> {
     /// The slot of its transaction.
     pub fn slot(&self) -> usize
         ensures { result ≡ self.now.slot }

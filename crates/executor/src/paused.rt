@@ -3,12 +3,12 @@ ghost use Rattle.std.specs.Prelude.{◌≡◌, ◌≤◌, ◌+◌, [], All, IfEr
 ghost use Rattle.partitions.specs.Parts.{shared_of};
 ghost use Rattle.transactions.specs.Works.{CanDo};
 ghost use Rattle.executor.specs.AtOnce.{HaveDoneAtOnce, RunsHere};
-ghost use Rattle.executor.specs.Courses.{KeepsWhole};
+ghost use Rattle.executor.specs.AgreedPhases.{KeepsWhole};
 ghost use Rattle.transactions.specs.Acting.{AreUndoneBy, CanAllBeUndone};
-ghost use Rattle.executor.specs.Pauses.{pausing};
+ghost use Rattle.executor.specs.PausedView.{paused_view};
 
 use crate::following::go_on;
-use crate::{CourseNames, Following, GivenBack, Journey, Keeper, Posts, Undo};
+use crate::{PhaseNames, Following, GivenBack, Flow, PhaseOwner, ExecutorShards, Undo};
 use std::alloc::Global;
 use std::marker::Model;
 use transactions::{
@@ -17,92 +17,92 @@ use transactions::{
 };
 use wait_die::{Age, Holder};
 
-/// A transaction between two phases: no action of it is under way, and all shares of its course are here.
+/// A transaction between two phases: no action of it is in flight, and all shares of its agreed phase are here.
 ///
-/// Contracts see the transaction, and who keeps its course. It keeps that this one keeps the course in the transaction's slot,
+/// Contracts see the transaction, and who keeps its agreed phase. It keeps that this one keeps the agreed phase in the transaction's slot,
 /// and has all shares.
 #[derive(Drop)]
-pub struct Paused<J: CourseNames> {
-    journey: Journey<J>,
-    keeper: Keeper<J>,
+pub struct Paused<J: PhaseNames> {
+    flow: Flow<J>,
+    phase_owner: PhaseOwner<J>,
 }
 
-impl<J: CourseNames> Model for Paused<J> {
+impl<J: PhaseNames> Model for Paused<J> {
     ghost use Rattle.std.specs.Coded.{codes};
     ghost use Rattle.groups.specs.contracts.content.Content as content;
-    ghost use Rattle.executor.specs.Pauses.{Pausing};
+    ghost use Rattle.executor.specs.PausedView.{PausedView};
 
-    ghost Value = { Pausing };
+    ghost Value = { PausedView };
 
     ghost coded = { Prim.hlevel (codes, content.the_row.coded) };
 
-    ghost use Rattle.executor.specs.Courses.{KeepsWhole};
-    ghost use Rattle.executor.specs.Pauses.{pausing};
+    ghost use Rattle.executor.specs.AgreedPhases.{KeepsWhole};
+    ghost use Rattle.executor.specs.PausedView.{paused_view};
 
-    ghost view = { λ p. pausing p.keeper p.journey };
+    ghost view = { λ p. paused_view p.phase_owner p.flow };
 
-    ghost invariant = { λ p. KeepsWhole p.journey.slot p.keeper };
+    ghost invariant = { λ p. KeepsWhole p.flow.slot p.phase_owner };
 }
 
 /// What comes of a phase whose actions are to do their work at once.
 #[derive(Drop)]
-pub enum Tried<J: CourseNames> {
+pub enum Tried<J: PhaseNames> {
     /// All have done it, and this follows.
     Done(Following<J>),
-    /// The post of one is elsewhere, or somebody is in its way, or there is no memory: nothing was done.
+    /// The shard of one is elsewhere, or somebody is in its way, or there is no memory: nothing was done.
     Apart(Paused<J>),
 }
 
-impl<J: CourseNames> Paused<J> {
-    /// A transaction before its first phase, with who keeps the courses of its slot. `None` where that one keeps another
+impl<J: PhaseNames> Paused<J> {
+    /// A transaction before its first phase, with who keeps the agreed phases of its slot. `None` where that one keeps another
     /// slot's, or has not all shares.
-    pub fn new(journey: Journey<J>, keeper: Keeper<J>) -> Option<Paused<J>>
-        ensures { IfSome result (λ paused. paused ≡ pausing keeper journey) }
+    pub fn new(flow: Flow<J>, phase_owner: PhaseOwner<J>) -> Option<Paused<J>>
+        ensures { IfSome result (λ paused. paused ≡ paused_view phase_owner flow) }
     {
-        if keeper.slot() != journey.slot() || !keeper.is_whole() {
+        if phase_owner.slot() != flow.slot() || !phase_owner.is_whole() {
             return None;
         }
-        Some(Paused::between(journey, keeper))
+        Some(Paused::between(flow, phase_owner))
     }
 
     // A transaction between two phases.
-    pub(crate) fn between(journey: Journey<J>, keeper: Keeper<J>) -> Paused<J>
-        requires { KeepsWhole journey.slot keeper }
-        ensures { result ≡ pausing keeper journey }
+    pub(crate) fn between(flow: Flow<J>, phase_owner: PhaseOwner<J>) -> Paused<J>
+        requires { KeepsWhole flow.slot phase_owner }
+        ensures { result ≡ paused_view phase_owner flow }
     {
-        Paused { journey, keeper }
+        Paused { flow, phase_owner }
     }
 
-    // The transaction, and who keeps its course.
-    pub(crate) fn into_parts(self) -> (Journey<J>, Keeper<J>)
-        ensures journey { result.0 ≡ self.journey }
-        ensures keeper { result.1 ≡ self.keeper }
-        ensures whole { KeepsWhole self.journey.slot self.keeper }
+    // The transaction, and who keeps its agreed phase.
+    pub(crate) fn into_parts(self) -> (Flow<J>, PhaseOwner<J>)
+        ensures flow { result.0 ≡ self.flow }
+        ensures phase_owner { result.1 ≡ self.phase_owner }
+        ensures whole { KeepsWhole self.flow.slot self.phase_owner }
     {
-        (self.journey, self.keeper)
+        (self.flow, self.phase_owner)
     }
 
-    /// All actions of the next phase do their work at once, by place, at posts that are here: no message is made of them, and no
-    /// share of the course goes out. Or none does, and nothing has changed.
-    pub fn run_here(self, alloc: Global, posts: &mut Posts<J>) -> Tried<J>
+    /// All actions of the next phase do their work at once, by place, at shards that are here: no message is made of them, and no
+    /// share of the agreed phase goes out. Or none does, and nothing has changed.
+    pub fn run_here(self, alloc: Global, shards: &mut ExecutorShards<J>) -> Tried<J>
         ensures { RunsHere (shared_of J.opening) self result }
     {
         actions_can_do_their_work();
         transactions_have_few_actions();
-        let (journey, keeper) = self.into_parts();
-        let Ok(works) = journey.transaction.matter.progress.works(alloc) else {
-            return Tried::Apart(Paused::between(journey, keeper));
+        let (flow, phase_owner) = self.into_parts();
+        let Ok(works) = flow.transaction.body.progress.works(alloc) else {
+            return Tried::Apart(Paused::between(flow, phase_owner));
         };
-        if !posts.have_all(&works) {
-            return Tried::Apart(Paused::between(journey, keeper));
+        if !shards.have_all(&works) {
+            return Tried::Apart(Paused::between(flow, phase_owner));
         }
         let Ok(found) = Vec::with_capacity(alloc, works.len()) else {
-            return Tried::Apart(Paused::between(journey, keeper));
+            return Tried::Apart(Paused::between(flow, phase_owner));
         };
-        let Journey { transaction, held } = journey;
+        let Flow { transaction, held } = flow;
         match do_all(
             alloc,
-            posts,
+            shards,
             transaction.age,
             transaction.slot,
             held,
@@ -114,20 +114,20 @@ impl<J: CourseNames> Paused<J> {
                     found,
                     refusal: None,
                 };
-                Tried::Done(go_on(alloc, keeper, transaction, held, sorted))
+                Tried::Done(go_on(alloc, phase_owner, transaction, held, sorted))
             }
             Err(held) => {
-                let journey = Journey { transaction, held };
-                Tried::Apart(Paused::between(journey, keeper))
+                let flow = Flow { transaction, held };
+                Tried::Apart(Paused::between(flow, phase_owner))
             }
         }
     }
 }
 
 // Each of these works is done, one after another; or what was done is taken back, and the claims that were held before come back.
-fn do_all<J: CourseNames>(
+fn do_all<J: PhaseNames>(
     alloc: Global,
-    posts: &mut Posts<J>,
+    shards: &mut ExecutorShards<J>,
     age: Age,
     slot: usize,
     mut held: HeldClaims<J>,
@@ -148,8 +148,8 @@ fn do_all<J: CourseNames>(
             age,
             place: held.len(),
         };
-        let Some((claims, one)) = posts.work_at_once(alloc, by, work) else {
-            return Err(take_back(posts, slot, first, held));
+        let Some((claims, one)) = shards.work_at_once(alloc, by, work) else {
+            return Err(take_back(shards, slot, first, held));
         };
         held.put(claims);
         found.push_reserved(one);
@@ -157,9 +157,9 @@ fn do_all<J: CourseNames>(
     Ok((held, found))
 }
 
-// What was done under the claims after the first ones is taken back, and they come back to their posts.
-fn take_back<J: CourseNames>(
-    posts: &mut Posts<J>,
+// What was done under the claims after the first ones is taken back, and they come back to their shards.
+fn take_back<J: PhaseNames>(
+    shards: &mut ExecutorShards<J>,
     slot: usize,
     first: usize,
     held: HeldClaims<J>,
@@ -173,8 +173,8 @@ fn take_back<J: CourseNames>(
         let Some(claims) = held.take_last() else {
             unreachable!()
         };
-        // (their post is here, since they were granted there)
-        let _ = posts.give_back(GivenBack::Undo(Undo { slot, claims }));
+        // (their shard is here, since they were granted there)
+        let _ = shards.give_back(GivenBack::Undo(Undo { slot, claims }));
     }
     held
 }

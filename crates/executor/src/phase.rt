@@ -4,88 +4,88 @@ ghost use Rattle.executor.specs.Phases as spec;
 ghost use Rattle.executor.specs.Phases.{AwaitsNumber};
 ghost use Rattle.executor.specs.Reports.{Reports};
 
-use crate::{CourseNames, Journey, Keeper, Report};
+use crate::{PhaseNames, Flow, PhaseOwner, Report};
 use rendezvous::Results;
 use std::marker::Model;
 use transactions::Ran;
 
-/// The phase of a transaction that is under way, where its actions report. It has all shares of the course that no
+/// The phase of a transaction that is in flight, where its actions report. It has all shares of the agreed phase that no
 /// action has.
 #[derive(Drop)]
-pub struct Phase<J: CourseNames> {
-    pub(crate) keeper: Keeper<J>,
+pub struct Phase<J: PhaseNames> {
+    pub(crate) phase_owner: PhaseOwner<J>,
     // The transaction, once it has come with the first action's report.
-    pub(crate) journey: Option<Journey<J>>,
-    pub(crate) meeting: rendezvous::Meeting<Ran<J>>,
+    pub(crate) flow: Option<Flow<J>>,
+    pub(crate) meeting: rendezvous::MetView<Ran<J>>,
 }
 
-impl<J: CourseNames> Model for Phase<J> {
+impl<J: PhaseNames> Model for Phase<J> {
     ghost use Rattle.std.specs.Coded.{codes};
     ghost use Rattle.groups.specs.contracts.content.Content as content;
-    ghost use Rattle.executor.specs.Phases.{Phasing};
+    ghost use Rattle.executor.specs.Phases.{PhaseView};
 
-    ghost Value = { Phasing J };
+    ghost Value = { PhaseView J };
 
     ghost coded = { Prim.hlevel (codes, content.the_row.coded) };
 
     ghost use Rattle.partitions.specs.Parts.{shared_of};
     ghost use Rattle.executor.specs.Phases.{CarriesPhase};
 
-    ghost view = { λ p. record { slot = p.keeper.slot; course = p.keeper.course; journey = p.journey; rans = p.meeting } };
+    ghost view = { λ p. record { slot = p.phase_owner.slot; agreed_phase = p.phase_owner.agreed_phase; flow = p.flow; rans = p.meeting } };
 
-    ghost invariant = { λ p. CarriesPhase (shared_of J.opening) p.keeper.out (record { slot = p.keeper.slot; course = p.keeper.course; journey = p.journey; rans = p.meeting }) };
+    ghost invariant = { λ p. CarriesPhase (shared_of J.opening) p.phase_owner.out (record { slot = p.phase_owner.slot; agreed_phase = p.phase_owner.agreed_phase; flow = p.flow; rans = p.meeting }) };
 }
 
-/// A phase of which all actions have reported: all shares of the course are here.
+/// A phase of which all actions have reported: all shares of the agreed phase are here.
 #[derive(Drop)]
-pub struct Met<J: CourseNames> {
-    pub(crate) keeper: Keeper<J>,
-    pub(crate) journey: Journey<J>,
+pub struct Met<J: PhaseNames> {
+    pub(crate) phase_owner: PhaseOwner<J>,
+    pub(crate) flow: Flow<J>,
     pub(crate) rans: Results<Ran<J>>,
 }
 
-impl<J: CourseNames> Model for Met<J> {
+impl<J: PhaseNames> Model for Met<J> {
     ghost use Rattle.std.specs.Coded.{codes};
     ghost use Rattle.groups.specs.contracts.content.Content as content;
-    ghost use Rattle.executor.specs.Phases.{Meeting};
+    ghost use Rattle.executor.specs.Phases.{MetView};
 
-    ghost Value = { Meeting J };
+    ghost Value = { MetView J };
 
     ghost coded = { Prim.hlevel (codes, content.the_row.coded) };
 
     ghost use Rattle.partitions.specs.Parts.{shared_of};
     ghost use Rattle.executor.specs.Phases.{CarriesMeeting};
 
-    ghost view = { λ m. record { journey = m.journey; rans = m.rans } };
+    ghost view = { λ m. record { flow = m.flow; rans = m.rans } };
 
-    ghost invariant = { λ m. CarriesMeeting (shared_of J.opening) m.keeper.slot m.keeper.out (record { journey = m.journey; rans = m.rans }) };
+    ghost invariant = { λ m. CarriesMeeting (shared_of J.opening) m.phase_owner.slot m.phase_owner.out (record { flow = m.flow; rans = m.rans }) };
 }
 
 /// What becomes of a report.
 #[derive(Drop)]
-pub enum Reported<J: CourseNames> {
+pub enum Reported<J: PhaseNames> {
     /// It is no report of an action that this phase awaits. Nothing has changed.
-    Strange(Phase<J>, Report<J>),
+    Unexpected(Phase<J>, Report<J>),
     /// Another action has not reported yet.
     Awaits(Phase<J>),
     /// All have reported.
     Met(Met<J>),
 }
 
-impl<J: CourseNames> Phase<J> {
+impl<J: PhaseNames> Phase<J> {
     /// The slot of its transaction.
     pub fn slot(&self) -> usize
         ensures { result ≡ self.now.slot }
     {
-        self.keeper.slot()
+        self.phase_owner.slot()
     }
 
     /// An action reports.
     pub fn report(self, report: Report<J>) -> Reported<J>
         ensures { Reports self report result }
     {
-        if report.slot() != self.keeper.slot() || !self.meeting.awaits(report.number) {
-            return Reported::Strange(self, report);
+        if report.slot() != self.phase_owner.slot() || !self.meeting.awaits(report.number) {
+            return Reported::Unexpected(self, report);
         }
         self.take(report)
     }
@@ -97,31 +97,31 @@ impl<J: CourseNames> Phase<J> {
         ensures { Reports self report result }
     {
         let Phase {
-            mut keeper,
-            journey,
+            mut phase_owner,
+            flow,
             mut meeting,
         } = self;
         let Report {
             number,
             ran,
             share,
-            journey: own,
+            flow: own,
         } = report;
-        keeper.take(share);
-        let journey = come_with(own, journey);
+        phase_owner.take(share);
+        let flow = come_with(own, flow);
         match meeting.report(number, ran) {
             rendezvous::Reported::NotLast => Reported::Awaits(Phase {
-                keeper,
-                journey,
+                phase_owner,
+                flow,
                 meeting,
             }),
             rendezvous::Reported::Last(rans) => {
-                let Some(journey) = journey else {
+                let Some(flow) = flow else {
                     unreachable!()
                 };
                 Reported::Met(Met {
-                    keeper,
-                    journey,
+                    phase_owner,
+                    flow,
                     rans,
                 })
             }
@@ -130,10 +130,10 @@ impl<J: CourseNames> Phase<J> {
 }
 
 // What is here once this has come.
-fn come_with<J: CourseNames>(
-    own: Option<Journey<J>>,
-    before: Option<Journey<J>>,
-) -> Option<Journey<J>>
+fn come_with<J: PhaseNames>(
+    own: Option<Flow<J>>,
+    before: Option<Flow<J>>,
+) -> Option<Flow<J>>
     ensures { result ≡ spec.come_with own before }
 {
     match own {

@@ -1,15 +1,15 @@
 //! A transaction that is over: its answer, and what its actions give back.
 ghost use Rattle.std.specs.Prelude.{◌≡◌, [], All, IfNone, IfSome, length};
-ghost use Rattle.executor.specs.Journeys.{IsAskedBy};
+ghost use Rattle.executor.specs.Flows.{IsAskedBy};
 ghost use Rattle.transactions.specs.Acting.{AreUndoneBy};
-ghost use Rattle.executor.specs.Answers.{AreGiven, IsGiven, IsToldBy, MayBeRefused, returning};
-ghost use Rattle.executor.specs.Courses.{KeepsWhole};
+ghost use Rattle.executor.specs.Answers.{AreGiven, IsGiven, IsRecordedBy, MayBeRefused, returns_view};
+ghost use Rattle.executor.specs.AgreedPhases.{KeepsWhole};
 ghost use Rattle.transactions.specs.Works.{home_of_claims};
 ghost use Rattle.executor.specs.Released.{IsGivenBack, IsGivenFor, giving_of, refused};
-ghost use Rattle.executor.specs.Transactions.{transacting};
+ghost use Rattle.executor.specs.Transactions.{transaction_view};
 
-use crate::journey::Transaction;
-use crate::{CourseNames, Keeper, Settle, Undo};
+use crate::flow::Transaction;
+use crate::{PhaseNames, PhaseOwner, Settle, Undo};
 use commit_log::Pass;
 use requests::Refusal;
 use std::marker::Model;
@@ -23,26 +23,26 @@ use transactions::HeldClaims;
 /// pass has seen and logged what it had when the session asked, and this answer; and that a request that is refused may be
 /// refused for this: so the session may learn all that from it.
 #[derive(Drop)]
-pub struct Told<J: CourseNames> {
+pub struct SessionAnswer<J: PhaseNames> {
     pub(crate) age: u64,
     pub(crate) number: u32,
     pub(crate) pass: Pass<J>,
     pub(crate) answer: Result<u32, Refusal>,
 }
 
-impl<J: CourseNames> Model for Told<J> {
-    ghost use Rattle.executor.specs.Answers.{Telling};
+impl<J: PhaseNames> Model for SessionAnswer<J> {
+    ghost use Rattle.executor.specs.Answers.{AnswerView};
 
-    ghost Value = { Telling };
+    ghost Value = { AnswerView };
 
-    ghost use Rattle.executor.specs.Answers.{CarriesAnswer, telling};
+    ghost use Rattle.executor.specs.Answers.{CarriesAnswer, answer_view};
 
-    ghost view = { λ t. telling t.age t.number t.pass t.answer };
+    ghost view = { λ t. answer_view t.age t.number t.pass t.answer };
 
-    ghost invariant = { λ t. CarriesAnswer (telling t.age t.number t.pass t.answer) };
+    ghost invariant = { λ t. CarriesAnswer (answer_view t.age t.number t.pass t.answer) };
 }
 
-impl<J: CourseNames> Told<J> {
+impl<J: PhaseNames> SessionAnswer<J> {
     /// The session to which it goes.
     pub fn session(&self) -> u32
         ensures { result ≡ self.now.pass.session }
@@ -61,7 +61,7 @@ impl<J: CourseNames> Told<J> {
     pub fn into_parts(self) -> (Pass<J>, Result<u32, Refusal>)
         ensures pass { result.0 ≡ self.pass }
         ensures answer { result.1 ≡ self.answer }
-        ensures told { IsToldBy self.pass.asks self.pass self.answer }
+        ensures recorded { IsRecordedBy self.pass.asks self.pass self.answer }
     {
         (self.pass, self.answer)
     }
@@ -72,36 +72,36 @@ impl<J: CourseNames> Told<J> {
 /// Contracts see the slot of the transaction, whether the claims are settled, and the claims of each action, by place. It keeps
 /// that what they left is committed, where they are settled, and else that all that was done under them can be taken back.
 #[derive(Drop)]
-pub struct Returns<J: CourseNames> {
+pub struct Returns<J: PhaseNames> {
     slot: usize,
     is_settled: bool,
     held: HeldClaims<J>,
 }
 
-impl<J: CourseNames> Model for Returns<J> {
+impl<J: PhaseNames> Model for Returns<J> {
     ghost use Rattle.std.specs.Coded.{codes};
     ghost use Rattle.groups.specs.contracts.content.Content as content;
-    ghost use Rattle.executor.specs.Answers.{Returning};
+    ghost use Rattle.executor.specs.Answers.{ReturnsView};
 
-    ghost Value = { Returning };
+    ghost Value = { ReturnsView };
 
     ghost coded = { Prim.hlevel (codes, content.the_row.coded) };
 
-    ghost use Rattle.executor.specs.Answers.{AreGiven, returning};
+    ghost use Rattle.executor.specs.Answers.{AreGiven, returns_view};
 
-    ghost view = { λ r. returning r.slot r.is_settled r.held };
+    ghost view = { λ r. returns_view r.slot r.is_settled r.held };
 
     ghost invariant = { λ r. AreGiven r.is_settled r.held };
 }
 
 /// The claims of an action on their way back.
 #[derive(Drop)]
-pub enum GivenBack<J: CourseNames> {
+pub enum GivenBack<J: PhaseNames> {
     Settle(Settle<J>),
     Undo(Undo<J>),
 }
 
-impl<J: CourseNames> GivenBack<J> {
+impl<J: PhaseNames> GivenBack<J> {
     /// The slot of their transaction.
     pub fn slot(&self) -> usize
         ensures { result ≡ (giving_of self.now).slot }
@@ -123,10 +123,10 @@ impl<J: CourseNames> GivenBack<J> {
     }
 }
 
-impl<J: CourseNames> Returns<J> {
+impl<J: PhaseNames> Returns<J> {
     pub(crate) fn new(slot: usize, is_settled: bool, held: HeldClaims<J>) -> Returns<J>
         requires { AreGiven is_settled held }
-        ensures { result ≡ returning slot is_settled held }
+        ensures { result ≡ returns_view slot is_settled held }
     {
         Returns {
             slot,
@@ -155,7 +155,7 @@ impl<J: CourseNames> Returns<J> {
 }
 
 // The claims of an action, as they go back.
-fn given_back<J: CourseNames>(slot: usize, is_settled: bool, claims: Claims<J>) -> GivenBack<J>
+fn given_back<J: PhaseNames>(slot: usize, is_settled: bool, claims: Claims<J>) -> GivenBack<J>
     requires { IsGiven is_settled claims }
     ensures { IsGivenFor slot is_settled claims result }
 {
@@ -168,73 +168,73 @@ fn given_back<J: CourseNames>(slot: usize, is_settled: bool, claims: Claims<J>) 
 
 /// A transaction that is over.
 ///
-/// Contracts see what its session is told, what its actions give back, and who keeps its course. It keeps that this one keeps
-/// the course in the transaction's slot and has all shares: another may have the slot once all claims are given back.
+/// Contracts see what its session is told, what its actions give back, and who keeps its agreed phase. It keeps that this one keeps
+/// the agreed phase in the transaction's slot and has all shares: another may have the slot once all claims are given back.
 #[derive(Drop)]
-pub struct Release<J: CourseNames> {
-    pub(crate) told: Told<J>,
+pub struct Release<J: PhaseNames> {
+    pub(crate) recorded: SessionAnswer<J>,
     pub(crate) returns: Returns<J>,
-    pub(crate) keeper: Keeper<J>,
+    pub(crate) phase_owner: PhaseOwner<J>,
 }
 
-impl<J: CourseNames> Model for Release<J> {
+impl<J: PhaseNames> Model for Release<J> {
     ghost use Rattle.std.specs.Coded.{codes};
     ghost use Rattle.groups.specs.contracts.content.Content as content;
-    ghost use Rattle.executor.specs.Answers.{Releasing};
+    ghost use Rattle.executor.specs.Answers.{ReleaseView};
 
-    ghost Value = { Releasing };
+    ghost Value = { ReleaseView };
 
     ghost coded = { Prim.hlevel (codes, content.the_row.coded) };
 
-    ghost use Rattle.executor.specs.Answers.{releasing};
-    ghost use Rattle.executor.specs.Courses.{KeepsWhole};
+    ghost use Rattle.executor.specs.Answers.{release_view};
+    ghost use Rattle.executor.specs.AgreedPhases.{KeepsWhole};
 
-    ghost view = { λ r. releasing r.told r.returns r.keeper };
+    ghost view = { λ r. release_view r.recorded r.returns r.phase_owner };
 
-    ghost invariant = { λ r. KeepsWhole r.returns.slot r.keeper };
+    ghost invariant = { λ r. KeepsWhole r.returns.slot r.phase_owner };
 }
 
-impl<J: CourseNames> Release<J> {
+impl<J: PhaseNames> Release<J> {
     // A transaction that is refused, whose actions hold this.
     pub(crate) fn refused(
-        keeper: Keeper<J>,
+        phase_owner: PhaseOwner<J>,
         transaction: Transaction<J>,
         held: HeldClaims<J>,
         why: Refusal,
     ) -> Release<J>
-        requires asked { IsAskedBy transaction.number transaction.matter.value.request transaction.pass }
-        requires may { MayBeRefused transaction.pass.reached transaction.matter.value.request why }
+        requires asked { IsAskedBy transaction.number transaction.body.value.request transaction.pass }
+        requires may { MayBeRefused transaction.pass.reached transaction.body.value.request why }
         requires undone { All (AreUndoneBy transaction.age) held }
-        requires whole { KeepsWhole transaction.slot keeper }
-        ensures { result ≡ refused keeper (transacting transaction) held why }
+        requires whole { KeepsWhole transaction.slot phase_owner }
+        ensures { result ≡ refused phase_owner (transaction_view transaction) held why }
     {
         let Transaction {
             age,
             slot,
             number,
-            matter: _,
+            body: _,
             pass,
         } = transaction;
-        let told = Told {
+        let recorded = SessionAnswer {
             age,
             number,
             pass,
             answer: Err(why),
         };
         Release {
-            told,
+            recorded,
             returns: Returns::new(slot, false, held),
-            keeper,
+            phase_owner,
         }
     }
 
-    /// Its parts: the answer, what goes back, and the keeper, which has all shares of the course in the slot.
-    pub fn into_parts(self) -> (Told<J>, Returns<J>, Keeper<J>)
-        ensures told { result.0 ≡ self.told }
+    /// Its parts: the answer, what goes back, and the phase owner, which has all shares of the agreed phase in the slot.
+    pub fn into_parts(self) -> (SessionAnswer<J>, Returns<J>, PhaseOwner<J>)
+        ensures recorded { result.0 ≡ self.recorded }
         ensures returns { result.1 ≡ self.returns }
-        ensures keeper { result.2 ≡ self.keeper }
-        ensures whole { KeepsWhole self.returns.slot self.keeper }
+        ensures phase_owner { result.2 ≡ self.phase_owner }
+        ensures whole { KeepsWhole self.returns.slot self.phase_owner }
     {
-        (self.told, self.returns, self.keeper)
+        (self.recorded, self.returns, self.phase_owner)
     }
 }

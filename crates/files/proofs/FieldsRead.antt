@@ -11,7 +11,7 @@ use Rattle.std.proofs.lemmas.Bool.{and_parts}
 use Rattle.files.specs.declared.fault.FaultKind.{FaultKind}
 use Rattle.files.specs.declared.fault.FaultKind.TheVariants as fault
 use Rattle.files.specs.Fault.{fault_number, least_fault}
-use Rattle.files.specs.FieldRead.{Taking, is_negative, is_within, next_read, noted, value_or, whole_read}
+use Rattle.files.specs.FieldRead.{FieldsView, is_negative, is_within, next_read, noted, value_or, whole_read}
 use Rattle.files.specs.Number.{is_number, is_positive}
 use Rattle.files.specs.Word.{text_read}
 use Rattle.files.proofs.Numerals.{all_digits_decimal, is_number-decimal, spelling}
@@ -103,7 +103,7 @@ pub field_is : {X : Type 0} (read : List ℕ → Result X FaultKind) (other valu
     → new ≡ drop 1 old → (old ≡ [] → (word ≡ []) × (mid ≡ noted known fault.WrongShape)) → ((field : List ℕ) (rest : List (List ℕ)) → old ≡ field ∷ rest → (word ≡ field) × (mid ≡ known))
     → Absent read other
     → MatchResult (read word) (λ v. (value ≡ v) × (after ≡ mid)) (λ kind. (value ≡ other) × (after ≡ noted mid kind))
-    → ◌≡◌ {A = X × Taking} (value, record { left = new; fault = after }) (next_read read other old known)
+    → ◌≡◌ {A = X × FieldsView} (value, record { left = new; fault = after }) (next_read read other old known)
 field_is {X} read other value [] new known mid after word left none some (Faulty kind more bad) given =
     let absent = none refl in
     let kept = rw (absent.0, bad) at given in
@@ -117,7 +117,7 @@ field_is {X} read other value (field ∷ rest) new known mid after word left non
     by (read field) (subst (λ w. MatchResult (read w) (λ v. (value ≡ v) × (after ≡ mid)) (λ kind. (value ≡ other) × (after ≡ noted mid kind))) there.0 given)
   where
     by : (r : Result X FaultKind) → MatchResult r (λ v. (value ≡ v) × (after ≡ mid)) (λ kind. (value ≡ other) × (after ≡ noted mid kind))
-        → ◌≡◌ {A = X × Taking} (value, record { left = new; fault = after }) (value_or r other rest known)
+        → ◌≡◌ {A = X × FieldsView} (value, record { left = new; fault = after }) (value_or r other rest known)
     by (Ok v) kept = rw (left, kept.0, kept.1, (some field rest refl).1) refl
     by (Err kind) kept = rw (left, kept.0, kept.1, (some field rest refl).1) refl
 

@@ -27,7 +27,7 @@ use Rattle.rows.specs.Text.{is_printable_byte}
 use Rattle.files.specs.declared.fault.FaultKind.{FaultKind}
 use Rattle.files.specs.declared.fault.FaultKind.TheVariants as fault
 use Rattle.files.specs.declared.fields.Fields.{Fields}
-use Rattle.files.specs.FieldRead.{Taking, taking, field_read, is_negative, is_within, next_read, noted, whole_read}
+use Rattle.files.specs.FieldRead.{FieldsView, fields_view, field_read, is_negative, is_within, next_read, noted, whole_read}
 use Rattle.files.specs.KindsRead.{count_read, credit_read, moment_at, moment_read, money_read, optional_read, parts_seconds, parts_text, read_as, signed_value, spelt_moment, word_read}
 use Rattle.files.specs.MomentText.{IsMoment, IsMomentText}
 use Rattle.files.specs.Number.{is_number, is_positive}
@@ -249,7 +249,7 @@ pub field_from : {X : Type 0} (read : List ℕ → Result X FaultKind) (other st
     → ((field : List ℕ) (rest : List (List ℕ)) → fields_left f ≡ field ∷ rest → (word ≡ field) × (fault_of b ≡ fault_of f))
     → fields_left n ≡ fields_left b
     → IfOk parsed (λ v. (value ≡ v) × (fault_of n ≡ fault_of b)) → IfErr parsed (λ kind. fault_of n ≡ Some (with_fault (fault_of b) kind)) → IfErr parsed (λ kind. value ≡ stood)
-    → ◌≡◌ {A = X × Taking} (value, taking n) (field_read read other (taking f))
+    → ◌≡◌ {A = X × FieldsView} (value, fields_view n) (field_read read other (fields_view f))
 field_from {X} read other stood value f b n word parsed empty is same left none some kept ok err stands =
     field_is read other value (fields_left f) (fields_left n) (fault_of f) (fault_of b) (fault_of n) word (kept ∙ left) none some empty
     (given_by (read word) parsed other value (fault_of b) (fault_of n) is
@@ -263,31 +263,31 @@ pub record TookField {X : Type 0} (read : List ℕ → Result X FaultKind) (valu
   pub left : old ≡ text ∷ new
 
 pub took_next : {X : Type 0} (read : List ℕ → Result X FaultKind) (other value : X) (old new : List (List ℕ)) (known after : Option FaultKind)
-    → ◌≡◌ {A = X × Taking} (value, record { left = new; fault = after }) (next_read read other old known) → after ≡ None → TookField read value old new known
+    → ◌≡◌ {A = X × FieldsView} (value, record { left = new; fault = after }) (next_read read other old known) → after ≡ None → TookField read value old new known
 took_next {X} read other value [] new known after is none =
-    let clash : after ≡ noted known fault.WrongShape = ap (λ (p : X × Taking). p.1.fault) is in
+    let clash : after ≡ noted known fault.WrongShape = ap (λ (p : X × FieldsView). p.1.fault) is in
     absurd cc
 took_next {X} read other value (text ∷ rest) new known after is none = by (read text) refl
   where
     by : (r : Result X FaultKind) → read text ≡ r → TookField read value (text ∷ rest) new known
     by (Ok v) e =
         let done = rw e at is in
-        let same : value ≡ v = ap (λ (p : X × Taking). p.0) done in
-        let left : new ≡ rest = ap (λ (p : X × Taking). p.1.left) done in
-        let faults : after ≡ known = ap (λ (p : X × Taking). p.1.fault) done in
+        let same : value ≡ v = ap (λ (p : X × FieldsView). p.0) done in
+        let left : new ≡ rest = ap (λ (p : X × FieldsView). p.1.left) done in
+        let faults : after ≡ known = ap (λ (p : X × FieldsView). p.1.fault) done in
         record { faultless = sym faults ∙ none; text = text; is_read = e ∙ ap Ok (sym same); left = ap (λ l. text ∷ l) (sym left) }
     by (Err kind) e =
         let done = rw e at is in
-        let clash : after ≡ noted known kind = ap (λ (p : X × Taking). p.1.fault) done in
+        let clash : after ≡ noted known kind = ap (λ (p : X × FieldsView). p.1.fault) done in
         absurd cc
 
 pub took_field : {X : Type 0} (read : List ℕ → Result X FaultKind) (other value : X) (f n : Fields)
-    → ◌≡◌ {A = X × Taking} (value, taking n) (field_read read other (taking f)) → fault_of n ≡ None → TookField read value (fields_left f) (fields_left n) (fault_of f)
+    → ◌≡◌ {A = X × FieldsView} (value, fields_view n) (field_read read other (fields_view f)) → fault_of n ≡ None → TookField read value (fields_left f) (fields_left n) (fault_of f)
 took_field {X} read other value f n is none = took_next read other value (fields_left f) (fields_left n) (fault_of f) (fault_of n) is none
 
 -- and it spells what it was read as
 pub takes_field : {X : Type 0} (read : List ℕ → Result X FaultKind) (other value : X) (f n : Fields) (spelling : List ℕ)
-    → ◌≡◌ {A = X × Taking} (value, taking n) (field_read read other (taking f)) → ((text : List ℕ) → read text ≡ Ok value → spelling ≡ text) → TakesWell f n spelling
+    → ◌≡◌ {A = X × FieldsView} (value, fields_view n) (field_read read other (fields_view f)) → ((text : List ℕ) → read text ≡ Ok value → spelling ≡ text) → TakesWell f n spelling
 takes_field {X} read other value f n spelling is sound = λ none.
     let took = took_field read other value f n is none in
     (took.faultless, took.left ∙ ap (λ t. t ∷ fields_left n) (sym (sound took.text took.is_read)))
@@ -299,7 +299,7 @@ optional_of {X} read (byte ∷ bytes) r some e = ap (read_as (λ v. Some v)) e
 
 -- a field that may be empty spells what it was read as
 pub optional_takes : {X : Type 0} (read : List ℕ → Result X FaultKind) (spelling : X → List ℕ) (value : Option X) (f n : Fields)
-    → ◌≡◌ {A = Option X × Taking} (value, taking n) (field_read (optional_read read) None (taking f)) → ((text : List ℕ) (v : X) → read text ≡ Ok v → spelling v ≡ text)
+    → ◌≡◌ {A = Option X × FieldsView} (value, fields_view n) (field_read (optional_read read) None (fields_view f)) → ((text : List ℕ) (v : X) → read text ≡ Ok v → spelling v ≡ text)
     → MatchOption value (TakesWell f n []) (λ v. TakesWell f n (spelling v))
 optional_takes {X} read spelling None f n is sound = takes_field (optional_read read) None None f n [] is (λ text e. sym (optional_is read text None e))
 optional_takes {X} read spelling (Some v) f n is sound = takes_field (optional_read read) None (Some v) f n (spelling v) is (λ text e. sound text v (optional_is read text (Some v) e))

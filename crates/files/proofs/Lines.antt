@@ -48,7 +48,7 @@ unfolding next_record
 after_return [] = refl
 after_return (byte ∷ text) = elim (byte == 10) as (λ b. byte == 10 ≡ b → next_record default_config st.AfterCr [] [] (byte ∷ text) ≡ next_record default_config st.StartRecord [] [] (byte ∷ text)) [ true ↦ λ e. let same : byte ≡ 10 = grind (arith, nat_tests) in rw same refl | false ↦ λ e. rw e refl ] refl
 
--- the bytes before a place were cut, and the field under way begins there
+-- the bytes before a place were cut, and the field in flight begins there
 pub record IsCutSoFar (bytes : List ℕ) (spans : List Span) (from to : ℕ) : Type 0 where
   pub ordered : from ≤ to
   pub fed : Feeds default_config st.StartRecord [] [] (take to bytes) (line_state from to) (parts bytes spans) (drop from (take to bytes)) false
@@ -68,7 +68,7 @@ start_field_next to =
     let same : (suc to == suc to) ≡ true = grind (arith, nat_tests) in
     rw (next, same) refl
 
--- the field under way, with one more byte
+-- the field in flight, with one more byte
 field_next : (bytes : List ℕ) (from to : ℕ) → from ≤ to → to < length bytes → drop from (take (to + 1) bytes) ≡ drop from (take to bytes) ++ (get_or bytes to 0 ∷ [])
 field_next bytes from to ordered inside =
     let held : length (take to bytes) ≡ to = length-take-le to bytes (omega arith) in

@@ -8,21 +8,21 @@ use Rattle.std.specs.Int.{trailing_zeros}
 use Rattle.std.specs.List.{prefix_len}
 use Rattle.std.specs.Simd.Lanes.{chunk, mask_l, top, zip2}
 use Rattle.files.specs.declared.marks.Marks.{Marks}
-use Rattle.files.specs.Marks.{ArePlain, IsNextMark, Tells, is_mark}
+use Rattle.files.specs.Marks.{ArePlain, IsNextMark, Reports, is_mark}
 
 -- the mask of as many bytes as are looked at at once
 abbrev mask_of : List ℕ → ℕ
 mask_of lanes = mask_l (map (top 7) (zip2 (λ a b. cond (leb a b) 255 0) lanes (replicate 32 44))) % 2 ^ 64
 
 -- that mask tells of those bytes
-pub lanes_told : (bytes : List ℕ) (at : ℕ) → at + 32 ≤ length bytes → Tells bytes at (record { mask = mask_of (chunk at 32 bytes); end = at + 32 })
-lanes_told bytes at room =
+pub lanes_reported : (bytes : List ℕ) (at : ℕ) → at + 32 ≤ length bytes → Reports bytes at (record { mask = mask_of (chunk at 32 bytes); end = at + 32 })
+lanes_reported bytes at room =
     let all : 32 ≡ at + 32 - at = omega arith in
     record {
       low = omega arith;
       few = omega arith;
       high = room;
-      told = bitmask_splat w8 leb (chunk at 32 bytes) 32 44 (length-chunk at 32 bytes room) (omega arith) ∙ ap (λ n. mask_l (map is_mark (chunk at n bytes))) all;
+      reported = bitmask_splat w8 leb (chunk at 32 bytes) 32 44 (length-chunk at 32 bytes room) (omega arith) ∙ ap (λ n. mask_l (map is_mark (chunk at n bytes))) all;
     }
 
 -- a mask without its lowest bit
@@ -63,24 +63,24 @@ next_behind bytes at place next ordered before found = record {
 }
 
 -- where no bit is set, the bytes of the mask are plain
-pub none_told : (bytes : List ℕ) (at : ℕ) (marks : Marks) → Tells bytes at marks → marks.mask ≡ 0 → ArePlain bytes at marks.end
-none_told bytes at marks h none k from to =
+pub none_reported : (bytes : List ℕ) (at : ℕ) (marks : Marks) → Reports bytes at marks → marks.mask ≡ 0 → ArePlain bytes at marks.end
+none_reported bytes at marks h none k from to =
     let low = h.low in
     let high = h.high in
-    leb-false (get_or bytes k 0) 44 (none_from_empty_mask is_mark bytes at (marks.end - at) 0 (omega arith) (sym h.told ∙ none) k from (omega arith))
+    leb-false (get_or bytes k 0) 44 (none_from_empty_mask is_mark bytes at (marks.end - at) 0 (omega arith) (sym h.reported ∙ none) k from (omega arith))
 
 -- the lowest bit that is set is the next mark
-pub first_told : (bytes : List ℕ) (at : ℕ) (marks : Marks) → Tells bytes at marks → marks.mask ≢ 0
+pub first_reported : (bytes : List ℕ) (at : ℕ) (marks : Marks) → Reports bytes at marks → marks.mask ≢ 0
     → (trailing_zeros w64 marks.mask < marks.end - at) × IsNextMark bytes at (at + trailing_zeros w64 marks.mask)
-first_told bytes at marks h some =
+first_reported bytes at marks h some =
     let low = h.low in
     let few = h.few in
     let high = h.high in
-    let told = h.told in
+    let reported = h.reported in
     let room : at + (marks.end - at) ≤ length bytes = omega arith in
     let lanes = chunk at (marks.end - at) bytes in
     let long = length-chunk at (marks.end - at) bytes room in
-    let run = ap (trailing_zeros w64) told ∙ trailing_mask_l is_mark 64 lanes (omega arith) (omega arith) in
+    let run = ap (trailing_zeros w64) reported ∙ trailing_mask_l is_mark 64 lanes (omega arith) (omega arith) in
     let short = some_set lanes (omega arith) in
     let skipped : trailing_zeros w64 marks.mask < marks.end - at = omega arith in (
       skipped,
@@ -93,9 +93,9 @@ first_told bytes at marks h some =
     )
 
 -- the bits behind that of a byte tell of the bytes behind it
-pub rest_told : (bytes : List ℕ) (at skipped : ℕ) (marks : Marks) → Tells bytes at marks → skipped < marks.end - at
-    → Tells bytes (at + skipped + 1) (record { mask = marks.mask / 2 ^ (skipped + 1); end = marks.end })
-rest_told bytes at skipped marks h within =
+pub rest_reported : (bytes : List ℕ) (at skipped : ℕ) (marks : Marks) → Reports bytes at marks → skipped < marks.end - at
+    → Reports bytes (at + skipped + 1) (record { mask = marks.mask / 2 ^ (skipped + 1); end = marks.end })
+rest_reported bytes at skipped marks h within =
     let low = h.low in
     let few = h.few in
     let k = skipped + 1 in
@@ -107,7 +107,7 @@ rest_told bytes at skipped marks h within =
       low = omega arith;
       few = omega arith;
       high = h.high;
-      told = ap (λ m. m / 2 ^ k) (h.told ∙ ap (λ n. mask_l (map is_mark (chunk at n bytes))) all)
+      reported = ap (λ m. m / 2 ^ k) (h.reported ∙ ap (λ n. mask_l (map is_mark (chunk at n bytes))) all)
           ∙ mask_l-drop k (map is_mark (chunk at (k + left) bytes))
           ∙ ap mask_l (drop-map is_mark k (chunk at (k + left) bytes) ∙ ap (map is_mark) behind);
     }

@@ -14,7 +14,7 @@ use Rattle.files.specs.declared.span.Span.{Span}
 use Rattle.csv.proofs.ReadFacts.{reads-false}
 use Rattle.files.proofs.NextRecord.{reads_kept}
 
--- a record without quotation marks is under way
+-- a record without quotation marks is in flight
 pub next_plain : {R : Type 0} (remaining : R → Option (List ℕ)) (before : Option (List ℕ)) (r : Records R) (after : State) (hand rest : List ℕ) (spans : List Span)
     → is_begun r.source ≡ true → r.is_quoted ≡ false → at_hand r.source ≡ hand → drop r.taken hand ≡ rest → r.spans.items ≡ spans → IsBetween after
     → ReadsNext default_config state.StartRecord before (prepend_known rest (remaining r.source.reader)) true (parts hand spans) after → IsKept (parts hand spans)
@@ -26,7 +26,7 @@ next_plain remaining before r after hand rest spans begun plain is_hand is_rest 
   is_kept = λ _. rw (plain, is_hand, are_spans) kept;
 }
 
--- a record with quotation marks is under way
+-- a record with quotation marks is in flight
 pub next_quoted : {R : Type 0} (remaining : R → Option (List ℕ)) (before : Option (List ℕ)) (r : Records R) (after : State) (bytes : List ℕ) (spans : List Span)
     → is_begun r.source ≡ true → r.is_quoted ≡ true → r.taken ≡ 0 → r.unquoted.bytes.items ≡ bytes → r.spans.items ≡ spans → IsBetween after
     → ReadsNext default_config state.StartRecord before (prepend_known (at_hand r.source) (remaining r.source.reader)) true (parts bytes spans) after → IsKept (parts bytes spans)

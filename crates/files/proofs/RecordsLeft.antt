@@ -7,7 +7,7 @@ use Rattle.files.specs.declared.fault.FileError.{FileError}
 use Rattle.files.specs.declared.fault.FileError.TheVariants.{NoMemory, Failed}
 use Rattle.files.specs.declared.fault.FileFault.{FileFault}
 use Rattle.files.specs.declared.records.Records.{Records}
-use Rattle.files.specs.FirstFault.{TellsFault, fault_at, unless_long}
+use Rattle.files.specs.FirstFault.{ReportsFault, fault_at, unless_long}
 use Rattle.files.specs.Place.{HasLeft, HasLeftAfter, file_fault, record_fields}
 use Rattle.files.specs.Span.{record_size}
 use Rattle.files.proofs.Unlike.{true_false}
@@ -25,10 +25,10 @@ no_row remaining (row ∷ rows) found r e h = let clash : true ≡ false = sym h
 
 -- a reader that failed, or a record that is too long
 pub not_advanced : (error : FileError) (number : ℕ) (first : Option FileFault) → (error ≡ NoMemory) ⊎ (error ≡ Failed number) ⊎ (error ≡ file_fault fault.WrongShape number)
-    → (error ≡ file_fault fault.WrongShape number → first ≡ Some (fault_at fault.WrongShape number)) → TellsFault error first
-not_advanced error number first (inl e) long = subst (λ x. TellsFault x first) (sym e) tt
-not_advanced error number first (inr (inl e)) long = subst (λ x. TellsFault x first) (sym e) tt
-not_advanced error number first (inr (inr e)) long = subst (λ x. TellsFault x first) (sym e) (long e)
+    → (error ≡ file_fault fault.WrongShape number → first ≡ Some (fault_at fault.WrongShape number)) → ReportsFault error first
+not_advanced error number first (inl e) long = subst (λ x. ReportsFault x first) (sym e) tt
+not_advanced error number first (inr (inl e)) long = subst (λ x. ReportsFault x first) (sym e) tt
+not_advanced error number first (inr (inr e)) long = subst (λ x. ReportsFault x first) (sym e) (long e)
 
 -- a record that is not too long
 pub short_record : (row : List (List ℕ)) (kind : Option FaultKind) → record_size row ≤ 65536 → unless_long row kind ≡ kind

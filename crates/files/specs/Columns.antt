@@ -5,7 +5,7 @@ use Rattle.rows.specs.declared.records.Credit.TheVariants.{Good}
 use Rattle.files.specs.declared.fault.FaultKind.{FaultKind}
 use Rattle.files.specs.declared.fault.FaultKind.TheVariants.{WrongShape}
 use Rattle.files.specs.declared.fields.Fields.{Fields}
-use Rattle.files.specs.FieldRead.{Taking, taking, field_read, noted, whole_read}
+use Rattle.files.specs.FieldRead.{FieldsView, fields_view, field_read, noted, whole_read}
 use Rattle.files.specs.KindsRead.{count_read, credit_read, moment_read, money_read, optional_read, word_read}
 use Rattle.files.specs.Word.{text_read}
 
@@ -23,12 +23,12 @@ pub data Column : Type 0 where
   Spelt : (List ℕ → Option FaultKind) → Column
 
 -- a fault that was found of what was taken, if one was
-abbrev pub found : Option FaultKind → Taking → Taking
+abbrev pub found : Option FaultKind → FieldsView → FieldsView
 found None t = t
 found (Some kind) t = record { left = t.left; fault = noted t.fault kind }
 
 -- the word that the next field is, and what is known of the record behind it
-abbrev pub take_word : Taking → List ℕ × Taking
+abbrev pub take_word : FieldsView → List ℕ × FieldsView
 take_word t = field_read word_read [] t
 
 -- ---- what the fields tell
@@ -75,12 +75,12 @@ stand_in (Count count) = count
 stand_in (Spelt fault) = []
 
 -- the next field, read as one of the column: what it tells, and what is known of the record behind it
-abbrev pub read_column : (column : Column) → Taking → Value column × Taking
+abbrev pub read_column : (column : Column) → FieldsView → Value column × FieldsView
 read_column (Spelt fault) t = let word = take_word t in (word.0, found (fault word.0) word.1)
 read_column column t = field_read (column_read column) (stand_in column) t
 
 -- the same of several, from left to right
-abbrev pub read_columns : (columns : List Column) → Taking → Values columns × Taking
+abbrev pub read_columns : (columns : List Column) → FieldsView → Values columns × FieldsView
 read_columns [] t = (tt, t)
 read_columns (column ∷ columns) t =
     let first = read_column column t in
@@ -89,17 +89,17 @@ read_columns (column ∷ columns) t =
 
 -- these columns were read, and this was made of what their fields tell
 pub record Reads {X : Type 0} (columns : List Column) (form : Values columns → X) (result : X) (old new : Fields) : Type 0 where
-  pub value : result ≡ form (read_columns columns (taking old)).0
-  pub after : taking new ≡ (read_columns columns (taking old)).1
+  pub value : result ≡ form (read_columns columns (fields_view old)).0
+  pub after : fields_view new ≡ (read_columns columns (fields_view old)).1
 
 -- ---- the faults alone
 
 -- what is known of a record behind a field of the column
-abbrev pub take_column : Column → Taking → Taking
+abbrev pub take_column : Column → FieldsView → FieldsView
 take_column column t = (read_column column t).1
 
 -- the same of several, from left to right
-abbrev pub take_columns : List Column → Taking → Taking
+abbrev pub take_columns : List Column → FieldsView → FieldsView
 take_columns [] t = t
 take_columns (column ∷ columns) t = take_columns columns (take_column column t)
 
@@ -109,8 +109,8 @@ at_end [] fault = fault
 at_end (field ∷ fields) fault = noted fault WrongShape
 
 -- the least fault, where these are all columns that are left
-abbrev pub columns_end : List Column → Taking → Option FaultKind
-columns_end columns t = let u : Taking = take_columns columns t in at_end u.left u.fault
+abbrev pub columns_end : List Column → FieldsView → Option FaultKind
+columns_end columns t = let u : FieldsView = take_columns columns t in at_end u.left u.fault
 
 -- the least fault of a record's fields, where these are its columns
 abbrev pub columns_fault : List Column → List (List ℕ) → Option FaultKind

@@ -9,13 +9,13 @@ use Rattle.files.specs.declared.stop.Stop.TheVariants.{Unreadable}
 abbrev pub IsNoFailure : Stop → Type 0
 IsNoFailure stop = stop ≢ Unreadable
 
--- a fault of the text, or want of memory
+-- a fault of the text, or lack of memory
 abbrev pub IsOfText : FileError → Type 0
 IsOfText NoMemory = Unit {0}
 IsOfText (Failed number) = ⊥
 IsOfText (File fault) = Unit {0}
 
--- writing failed, or want of memory
+-- writing failed, or lack of memory
 abbrev pub IsOfWriting : FileError → Type 0
 IsOfWriting NoMemory = Unit {0}
 IsOfWriting (Failed number) = Unit {0}

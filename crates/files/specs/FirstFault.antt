@@ -26,14 +26,14 @@ abbrev pub behind_end : ℕ → List (List (List ℕ)) → Option FileFault
 behind_end number [] = None
 behind_end number (row ∷ rows) = Some (fault_at AfterEnd (number + 1))
 
--- an error is that fault of the record of that number, beside want of memory
-abbrev pub TellsKind : FileError → Option FaultKind → ℕ → Type 0
-TellsKind NoMemory kind number = Unit {0}
-TellsKind (Failed at) kind number = ⊥
-TellsKind (File fault) kind number = (kind ≡ Some fault.kind) × (fault.record ≡ number)
+-- an error is that fault of the record of that number, beside lack of memory
+abbrev pub ReportsKind : FileError → Option FaultKind → ℕ → Type 0
+ReportsKind NoMemory kind number = Unit {0}
+ReportsKind (Failed at) kind number = ⊥
+ReportsKind (File fault) kind number = (kind ≡ Some fault.kind) × (fault.record ≡ number)
 
--- an error is that fault of the text, beside want of memory and a reader that failed
-abbrev pub TellsFault : FileError → Option FileFault → Type 0
-TellsFault NoMemory first = Unit {0}
-TellsFault (Failed number) first = Unit {0}
-TellsFault (File fault) first = first ≡ Some fault
+-- an error is that fault of the text, beside lack of memory and a reader that failed
+abbrev pub ReportsFault : FileError → Option FileFault → Type 0
+ReportsFault NoMemory first = Unit {0}
+ReportsFault (Failed number) first = Unit {0}
+ReportsFault (File fault) first = first ≡ Some fault

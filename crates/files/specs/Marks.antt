@@ -19,8 +19,8 @@ pub record IsNextMark (bytes : List ℕ) (at place : ℕ) : Type 0 where
   pub mark : slice_index bytes place ≤ 44
 
 -- the mask has a bit for each byte from a place up to its end: whether it is a mark
-pub record Tells (bytes : List ℕ) (at : ℕ) (marks : Marks) : Type 0 where
+pub record Reports (bytes : List ℕ) (at : ℕ) (marks : Marks) : Type 0 where
   pub low : at ≤ marks.end
   pub few : marks.end ≤ at + 32
   pub high : marks.end ≤ length bytes
-  pub told : marks.mask ≡ mask_l (map is_mark (chunk at (marks.end - at) bytes))
+  pub reported : marks.mask ≡ mask_l (map is_mark (chunk at (marks.end - at) bytes))

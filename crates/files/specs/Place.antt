@@ -17,7 +17,7 @@ use Rattle.files.specs.Span.{parts, record_size}
 abbrev pub input : {R : Type 0} → Records R → R
 input r = r.source.reader
 
--- the number of the record under way
+-- the number of the record in flight
 abbrev pub record_number : {R : Type 0} → Records R → ℕ
 record_number r = r.number
 
@@ -25,15 +25,15 @@ record_number r = r.number
 abbrev pub file_fault : FaultKind → ℕ → FileError
 file_fault kind number = File (record { kind = kind; «record» = number })
 
--- the bytes among which the fields of the record under way are
+-- the bytes among which the fields of the record in flight are
 abbrev pub record_bytes : {R : Type 0} → Records R → List ℕ
 record_bytes r = if r.is_quoted then r.unquoted.bytes.items else at_hand r.source
 
--- the fields of the record under way
+-- the fields of the record in flight
 abbrev pub record_fields : {R : Type 0} → Records R → List (List ℕ)
 record_fields r = parts (record_bytes r) r.spans.items
 
--- the text after the record under way, if it is known; a byte order mark at the front of a file is none of it
+-- the text after the record in flight, if it is known; a byte order mark at the front of a file is none of it
 abbrev pub text_left : {R : Type 0} → (R → Option (List ℕ)) → Records R → Option (List ℕ)
 text_left remaining r =
     let left = prepend_known (drop r.taken (at_hand r.source)) (remaining r.source.reader) in
@@ -86,7 +86,7 @@ abbrev pub NextIsTooLong : Option (List ℕ) → Type 0
 NextIsTooLong None = Unit {0}
 NextIsTooLong (Some text) = FindsLonger 65536 (next_record default_config state.StartRecord [] [] text)
 
--- the record under way is the next one of the text that was left before, or there was none; what comes after it is left
+-- the record in flight is the next one of the text that was left before, or there was none; what comes after it is left
 pub record IsNext {R : Type 0} (remaining : R → Option (List ℕ)) (before : Option (List ℕ)) (found : Bool) (r : Records R) : Type 0 where
   pub after : State
   pub is_between : IsBetween after

@@ -34,7 +34,7 @@ machine_action action.EndRecord = act.EndRecord
 abbrev pub fields_ended : Unquoted → List Span → List (List ℕ)
 fields_ended u spans = parts u.bytes.items spans
 
--- the bytes of the field under way
+-- the bytes of the field in flight
 abbrev pub field_begun : Unquoted → List ℕ
 field_begun u = drop u.from u.bytes.items
 

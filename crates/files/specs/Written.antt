@@ -17,6 +17,6 @@ csv_text [] = []
 csv_text (fields ∷ rows) = record_text fields ++ csv_text rows
 
 -- records that are written: the text of those that were not sent yet, and how many they are, with those that were
-pub record Gathered : Type 0 where
+pub record WriterView : Type 0 where
   pub text : List ℕ
   pub number : ℕ

@@ -27,7 +27,7 @@ pub struct Fields<'r> {
 }
 
 impl<'r> Fields<'r> {
-    ghost use Rattle.files.specs.FieldRead.{field_read, taking, whole_read};
+    ghost use Rattle.files.specs.FieldRead.{field_read, fields_view, whole_read};
     ghost use Rattle.files.specs.KindsRead.{count_read, credit_read, moment_read, money_read, optional_read, word_read};
     ghost use Rattle.files.specs.Taken.{fields_left, fault_of, with_fault, TakesWell};
 
@@ -131,7 +131,7 @@ impl<'r> Fields<'r> {
     /// The next field as it stands. `""` where there is none, which is noted as `WrongShape`, and where
     /// its bytes are no text at all, noted as `NotOfKind`.
     pub fn word(&mut self) -> &'r str
-        ensures field { (result.now, taking self.new) ≡ field_read word_read [] (taking self.old) }
+        ensures field { (result.now, fields_view self.new) ≡ field_read word_read [] (fields_view self.old) }
         ensures taken { TakesWell self.old self.new result.now }
     {
         let bytes = self.bytes();
@@ -148,7 +148,7 @@ impl<'r> Fields<'r> {
     #[inline(always)]
     pub fn whole(&mut self, low: u32, high: u32) -> u32
         ensures range { low ≤ high → (low ≤ result) × (result ≤ high) }
-        ensures field { (result, taking self.new) ≡ field_read (whole_read low high) low (taking self.old) }
+        ensures field { (result, fields_view self.new) ≡ field_read (whole_read low high) low (fields_view self.old) }
         ensures taken { TakesWell self.old self.new (decimal result) }
     {
         match read_whole(self.bytes(), u64::from(low), u64::from(high)) {
@@ -163,7 +163,7 @@ impl<'r> Fields<'r> {
     /// The next field as a number of its column's range.
     pub fn ranged<const LOW: u32, const HIGH: u32>(&mut self) -> Ranged<LOW, HIGH>
         requires { LOW ≤ HIGH }
-        ensures field { (result, taking self.new) ≡ field_read (whole_read LOW HIGH) LOW (taking self.old) }
+        ensures field { (result, fields_view self.new) ≡ field_read (whole_read LOW HIGH) LOW (fields_view self.old) }
         ensures taken { TakesWell self.old self.new (decimal result) }
     {
         let number = read_ranged(self.bytes());
@@ -172,7 +172,7 @@ impl<'r> Fields<'r> {
 
     /// The same, and `None` where the field is empty.
     pub fn optional_ranged<const LOW: u32, const HIGH: u32>(&mut self) -> Option<Ranged<LOW, HIGH>>
-        ensures field { (result, taking self.new) ≡ field_read (optional_read (whole_read LOW HIGH)) None (taking self.old) }
+        ensures field { (result, fields_view self.new) ≡ field_read (optional_read (whole_read LOW HIGH)) None (fields_view self.old) }
         ensures taken { MatchOption result (TakesWell self.old self.new []) (λ number. TakesWell self.old self.new (decimal number)) }
     {
         let number = read_optional(self.bytes());
@@ -182,7 +182,7 @@ impl<'r> Fields<'r> {
     /// The next field as a text; the empty one after a fault.
     #[inline(always)]
     pub fn text<const WIDTH: usize>(&mut self) -> Text<WIDTH>
-        ensures field { (result, taking self.new) ≡ field_read (text_read WIDTH) [] (taking self.old) }
+        ensures field { (result, fields_view self.new) ≡ field_read (text_read WIDTH) [] (fields_view self.old) }
         ensures taken { TakesWell self.old self.new result }
     {
         let text = read_text(self.bytes());
@@ -191,7 +191,7 @@ impl<'r> Fields<'r> {
 
     /// The next field as money; 0 after a fault.
     pub fn cents(&mut self) -> Cents
-        ensures field { (result, taking self.new) ≡ field_read money_read (pos 0) (taking self.old) }
+        ensures field { (result, fields_view self.new) ≡ field_read money_read (pos 0) (fields_view self.old) }
         ensures taken { TakesWell self.old self.new (signed_decimal result) }
     {
         let cents = read_cents(self.bytes());
@@ -200,7 +200,7 @@ impl<'r> Fields<'r> {
 
     /// The next field as a rate; 0 after a fault.
     pub fn rate(&mut self) -> Rate
-        ensures field { (result, taking self.new) ≡ field_read (whole_read 0 9999) 0 (taking self.old) }
+        ensures field { (result, fields_view self.new) ≡ field_read (whole_read 0 9999) 0 (fields_view self.old) }
         ensures taken { TakesWell self.old self.new (decimal result) }
     {
         let rate = read_rate(self.bytes());
@@ -209,7 +209,7 @@ impl<'r> Fields<'r> {
 
     /// The next field as C_CREDIT; good after a fault.
     pub fn credit(&mut self) -> Credit
-        ensures field { (result, taking self.new) ≡ field_read credit_read Credit.Good (taking self.old) }
+        ensures field { (result, fields_view self.new) ≡ field_read credit_read Credit.Good (fields_view self.old) }
         ensures taken { TakesWell self.old self.new (credit_text result) }
     {
         let credit = read_credit(self.bytes());
@@ -218,7 +218,7 @@ impl<'r> Fields<'r> {
 
     /// The next field as a moment; the first one after a fault.
     pub fn moment(&mut self) -> Moment
-        ensures field { (result, taking self.new) ≡ field_read moment_read 0 (taking self.old) }
+        ensures field { (result, fields_view self.new) ≡ field_read moment_read 0 (fields_view self.old) }
         ensures taken { fault_of self.new ≡ None → (fault_of self.old ≡ None) × ((text : List ℕ) × IsMomentText text result × (fields_left self.old ≡ text ∷ fields_left self.new)) }
     {
         let moment = read_moment(self.bytes());
@@ -227,7 +227,7 @@ impl<'r> Fields<'r> {
 
     /// The same, and `None` where the field is empty.
     pub fn optional_moment(&mut self) -> Option<Moment>
-        ensures field { (result, taking self.new) ≡ field_read (optional_read moment_read) None (taking self.old) }
+        ensures field { (result, fields_view self.new) ≡ field_read (optional_read moment_read) None (fields_view self.old) }
         ensures null { IfNone result (TakesWell self.old self.new []) }
         ensures moment { IfSome result (λ seconds. fault_of self.new ≡ None → (fault_of self.old ≡ None) × ((text : List ℕ) × IsMomentText text seconds × (fields_left self.old ≡ text ∷ fields_left self.new))) }
     {
@@ -237,7 +237,7 @@ impl<'r> Fields<'r> {
 
     /// Notes `WrongCount` where the next field is another number than `count`.
     pub fn expect_count(&mut self, count: u64)
-        ensures field { taking self.new ≡ (field_read (count_read count) count (taking self.old)).1 }
+        ensures field { fields_view self.new ≡ (field_read (count_read count) count (fields_view self.old)).1 }
         ensures taken { TakesWell self.old self.new (decimal count) }
     {
         let counted = read_count(self.bytes(), count);

@@ -1,6 +1,6 @@
 //! Where the bytes of a line are that may be more than one of its field.
 ghost use Rattle.std.specs.Prelude.{◌≡◌, ◌+◌, ◌≤◌, ℕ, List, length, MatchOption, IfSome};
-ghost use Rattle.files.specs.Marks.{ArePlain, IsNextMark, Tells};
+ghost use Rattle.files.specs.Marks.{ArePlain, IsNextMark, Reports};
 
 use std::simd::prelude::*;
 
@@ -19,7 +19,7 @@ pub struct Marks {
 impl Marks {
     /// Those of any bytes, before the first.
     pub fn new() -> Marks
-        ensures { (bytes : List ℕ) → Tells bytes 0 result }
+        ensures { (bytes : List ℕ) → Reports bytes 0 result }
     {
         Marks { mask: 0, end: 0 }
     }
@@ -27,9 +27,9 @@ impl Marks {
     /// The place of the next mark from `at` on, which is 0 at first, and then the place behind the
     /// mark before.
     pub fn next(&mut self, bytes: &[u8], at: usize) -> Option<usize>
-        requires { Tells bytes.now at self.old }
+        requires { Reports bytes.now at self.old }
         ensures next { MatchOption result (ArePlain bytes.now at (length bytes.now)) (IsNextMark bytes.now at) }
-        ensures tells { IfSome result (λ place. Tells bytes.now (place + 1) self.new) }
+        ensures reports { IfSome result (λ place. Reports bytes.now (place + 1) self.new) }
     {
         let mut place = at;
         while self.mask == 0 {
@@ -49,7 +49,7 @@ impl Marks {
     // Those of the bytes from `at` on, as many as are looked at at once.
     fn of_lanes(bytes: &[u8], at: usize) -> Marks
         requires { at + 32 ≤ length bytes.now }
-        ensures tells { Tells bytes.now at result }
+        ensures reports { Reports bytes.now at result }
         ensures end { result.end ≡ at + 32 }
     {
         let mask = u8x32::from_slice(&bytes[at..])

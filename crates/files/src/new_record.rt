@@ -9,7 +9,7 @@ use std::fmt::Display;
 use std::marker::Model;
 
 /// A record that is put together, one field after the other. It is cleared and used again for the
-/// next one, so that its memory is taken once. After want of memory it has no field.
+/// next one, so that its memory is taken once. After lack of memory it has no field.
 #[derive(Drop)]
 pub struct NewRecord {
     row: ByteRecord,

@@ -23,14 +23,14 @@ pub struct RecordWriter {
     alloc: Global,
     // The text that was not sent yet.
     text: Vec<u8>,
-    // How many records there are, with the one under way.
+    // How many records there are, with the one in flight.
     number: u64,
 }
 
 impl Model for RecordWriter {
-    ghost use Rattle.files.specs.Written.{Gathered};
+    ghost use Rattle.files.specs.Written.{WriterView};
 
-    ghost Value = { Gathered };
+    ghost Value = { WriterView };
 
     ghost view = { λ w. record { text = w.text.items; number = w.number } };
 }
@@ -98,7 +98,7 @@ impl RecordWriter {
         }
     }
 
-    // Gathers the record. After want of memory nothing is gathered any more.
+    // Gathers the record. After lack of memory nothing is gathered any more.
     fn add(&mut self, row: &ByteRecord) -> Result<(), AllocError>
         ensures added { OnOk result (self.new.text ≡ self.old.text ++ record_text (fields_of row.now)) }
         ensures none { OnErr result (self.new.text ≡ []) }

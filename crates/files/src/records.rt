@@ -23,7 +23,7 @@ use std::alloc::Global;
 #[derive(Drop)]
 pub struct Records<R> {
     source: Source<R>,
-    // How many of the bytes at hand are those of the record under way and its end. Its fields are among
+    // How many of the bytes at hand are those of the record in flight and its end. Its fields are among
     // them, or among those of `unquoted` where it has quotation marks; then none are.
     taken: usize,
     spans: Vec<Span>,
@@ -53,7 +53,7 @@ impl<R: Input> Records<R> {
     }
 
     /// Goes on to the next record, and says whether there is one. Where a read of the source fails, that is
-    /// `Failed` at the record under way. A record of more than 65,536 bytes is the fault `WrongShape`, and is
+    /// `Failed` at the record in flight. A record of more than 65,536 bytes is the fault `WrongShape`, and is
     /// not kept: its fields count with a byte for the end of each, and without the quotation marks around
     /// them. After an error nothing is said of the records to come.
     pub fn advance(&mut self) -> Result<bool, FileError>
@@ -109,7 +109,7 @@ impl<R: Input> Records<R> {
         }
     }
 
-    // Takes the bytes of the record under way.
+    // Takes the bytes of the record in flight.
     fn leave(&mut self)
         ensures left { text_left R.remaining self.new ≡ text_left R.remaining self.old }
         ensures none_taken { self.new.taken ≡ 0 }
@@ -220,14 +220,14 @@ impl<R: Input> Records<R> {
         Ok(true)
     }
 
-    /// The number of the record under way; after the last one, the number past it.
+    /// The number of the record in flight; after the last one, the number past it.
     pub fn number(&self) -> u64
         ensures { result ≡ record_number self.now }
     {
         self.number
     }
 
-    /// The fields of the record under way.
+    /// The fields of the record in flight.
     pub fn fields(&self) -> Fields<'_>
         ensures left { fields_left result ≡ record_fields self.now }
         ensures fault { fault_of result ≡ None }
@@ -239,7 +239,7 @@ impl<R: Input> Records<R> {
         }
     }
 
-    /// The fault at the record under way.
+    /// The fault at the record in flight.
     pub fn fault(&self, kind: FaultKind) -> FileError
         ensures { result ≡ file_fault kind (record_number self.now) }
     {

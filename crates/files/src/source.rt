@@ -108,7 +108,7 @@ impl<R: Input> Source<R> {
     }
 
     /// Takes the ends of lines up to the next record; says whether there is one, whose first byte is in
-    /// memory then. More line ends than can be counted are as want of memory.
+    /// memory then. More line ends than can be counted are as lack of memory.
     pub fn skip_line_ends(&mut self) -> Result<bool, Stop>
         ensures tracks { OnOk result (Tracks default_config state.StartRecord (ahead R.remaining self.old) state.StartRecord [] [] (ahead R.remaining self.new)) }
         ensures first { IfOk result (λ found. found ≡ true → BeginsRecord (at_hand self.new)) }

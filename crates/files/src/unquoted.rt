@@ -86,7 +86,7 @@ pub struct Unquoted {
     pub state: State,
     /// The bytes of its fields, one after the other.
     pub bytes: Vec<u8>,
-    /// Where the field under way begins.
+    /// Where the field in flight begins.
     pub from: usize,
 }
 
@@ -172,7 +172,7 @@ impl Unquoted {
         }
     }
 
-    /// Ends the field under way.
+    /// Ends the field in flight.
     pub fn end_field(&mut self, spans: &mut Vec<Span>) -> Result<(), AllocError>
         ensures ended { OnOk result (spans.new.items ≡ spans.old.items ++ (record { from = self.old.from; to = length self.old.bytes.items } ∷ [])) }
         ensures same { OnOk result (self.new ≡ record self.old { from = length self.old.bytes.items }) }

@@ -1,4 +1,4 @@
--- The groups of an order, and what a line more adds to the wishes.
+-- The groups of an order, and what a line more adds to the wants.
 use Rattle.std.proofs.Common.{◌≡◌, ℕ, ◌+◌, ◌<◌, ◌≤◌, Bool, true, false, cond, ◌||◌, List, [], ◌∷◌, ◌++◌, map, length, get_or, take, count_by, refl, sym, ap, ◌∙◌, arith}
 use Rattle.std.specs.List.{list_any}
 use Rattle.std.proofs.lemmas.List.{map_more, map-append}
@@ -6,7 +6,7 @@ use Rattle.requests.specs.declared.group.Group.{Group}
 use Rattle.requests.specs.declared.group.Group.TheVariants.{Warehouse, District, Customers, Orders, History, Stock}
 use Rattle.requests.specs.declared.new_order.NewOrder.{NewOrder}
 use Rattle.requests.specs.declared.new_order.OrderedLine.{OrderedLine}
-use Rattle.groups.specs.declared.wishes.Wish.{Wish}
+use Rattle.groups.specs.declared.group_wants.GroupWant.{GroupWant}
 use Rattle.groups.specs.Modes.{exclusively, shared}
 use Rattle.groups.specs.Groups.{is_same}
 use Rattle.groups.specs.Footprint.{groups_of}
@@ -14,20 +14,20 @@ use Rattle.groups.specs.NewOrder.{group_of_supply, supplies_of, firsts, new_orde
 use Rattle.groups.proofs.Counts.{one, one-le, count-cons, count-append}
 use Rattle.groups.proofs.Firsts.{firsts_more, firsts_once, none_of_firsts}
 
--- ---- the wishes as lines are gone through
+-- ---- the wants as lines are gone through
 
--- whether one of the wishes is for the group
-abbrev pub is_wished : Group → List Wish → Bool
-is_wished group wishes = list_any (λ wish. is_same wish.group group) wishes
+-- whether one of the wants is for the group
+abbrev pub is_wanted_group : Group → List GroupWant → Bool
+is_wanted_group group group_wants = list_any (λ group_want. is_same group_want.group group) group_wants
 
-wished-map : (group : Group) (groups : List Group) → is_wished group (map exclusively groups) ≡ list_any (λ own. is_same own group) groups
-wished-map group [] = refl
-wished-map group (own ∷ groups) = ap (λ b. is_same own group || b) (wished-map group groups)
+group_wanted-map : (group : Group) (groups : List Group) → is_wanted_group group (map exclusively groups) ≡ list_any (λ own. is_same own group) groups
+group_wanted-map group [] = refl
+group_wanted-map group (own ∷ groups) = ap (λ b. is_same own group || b) (group_wanted-map group groups)
 
 module _ (w_id d_id : ℕ) where
-  -- the wishes once these lines are gone through
-  abbrev pub wishes_after : List OrderedLine → List Wish
-  wishes_after lines =
+  -- the wants once these lines are gone through
+  abbrev pub group_wants_after : List OrderedLine → List GroupWant
+  group_wants_after lines =
       shared (Warehouse w_id) ∷ exclusively (District w_id d_id) ∷ shared (Customers w_id d_id) ∷ map exclusively (supplies_of lines)
 
   module _ (lines : List OrderedLine) (i : ℕ) (default : OrderedLine) (within : i < length lines) where
@@ -40,18 +40,18 @@ module _ (w_id d_id : ℕ) where
     supplies_more : supplies_of (take (i + 1) lines) ≡ cond (list_any (λ own. is_same own group) before) before (before ++ group ∷ [])
     supplies_more = ap firsts (map_more group_of_supply lines i default within) ∙ firsts_more (map group_of_supply (take i lines)) group
 
-    after : (b : Bool) → is_wished group (wishes_after (take i lines)) ≡ b → supplies_of (take (i + 1) lines) ≡ cond b before (before ++ group ∷ [])
-    after b e = supplies_more ∙ ap (λ there. cond there before (before ++ group ∷ [])) (sym (wished-map group before) ∙ e)
+    after : (b : Bool) → is_wanted_group group (group_wants_after (take i lines)) ≡ b → supplies_of (take (i + 1) lines) ≡ cond b before (before ++ group ∷ [])
+    after b e = supplies_more ∙ ap (λ there. cond there before (before ++ group ∷ [])) (sym (group_wanted-map group before) ∙ e)
 
-    -- a line whose group is wished for adds no wish
-    pub no_wish_more : is_wished group (wishes_after (take i lines)) ≡ true → wishes_after (take (i + 1) lines) ≡ wishes_after (take i lines)
-    no_wish_more e =
+    -- a line whose group is wanted for adds no want
+    pub no_group_want_more : is_wanted_group group (group_wants_after (take i lines)) ≡ true → group_wants_after (take (i + 1) lines) ≡ group_wants_after (take i lines)
+    no_group_want_more e =
         ap (λ supplies. shared (Warehouse w_id) ∷ exclusively (District w_id d_id) ∷ shared (Customers w_id d_id) ∷ map exclusively supplies) (after true e)
 
     -- and another adds one
-    pub one_wish_more : is_wished group (wishes_after (take i lines)) ≡ false
-        → wishes_after (take (i + 1) lines) ≡ wishes_after (take i lines) ++ exclusively group ∷ []
-    one_wish_more e =
+    pub one_group_want_more : is_wanted_group group (group_wants_after (take i lines)) ≡ false
+        → group_wants_after (take (i + 1) lines) ≡ group_wants_after (take i lines) ++ exclusively group ∷ []
+    one_group_want_more e =
         ap (λ supplies. shared (Warehouse w_id) ∷ exclusively (District w_id d_id) ∷ shared (Customers w_id d_id) ∷ supplies)
         (ap (map exclusively) (after false e) ∙ map-append exclusively before (group ∷ []))
 
@@ -78,8 +78,8 @@ module _ (order : NewOrder) where
   parts : (p : Group → Bool) → count_by p (groups_of (new_order_footprint order))
       ≡ one (p (Warehouse w_id)) + (one (p (District w_id d_id)) + (one (p (Customers w_id d_id)) + (count_by p (supplies_of order.lines) + one (p (Orders w_id d_id)))))
   parts p =
-      let supplies : List Wish = map exclusively (supplies_of order.lines) in
-      let last : List Wish = exclusively (Orders w_id d_id) ∷ [] in
+      let supplies : List GroupWant = map exclusively (supplies_of order.lines) in
+      let last : List GroupWant = exclusively (Orders w_id d_id) ∷ [] in
       let rest : List Group = groups_of (supplies ++ last) in
       let warehouse = count-cons p (Warehouse w_id) (District w_id d_id ∷ Customers w_id d_id ∷ rest) in
       let district = count-cons p (District w_id d_id) (Customers w_id d_id ∷ rest) in

@@ -6,26 +6,26 @@ use Rattle.std.proofs.lemmas.List.FromFn.{map-range_with_len_more}
 use Rattle.requests.specs.declared.group.Group.{Group}
 use Rattle.requests.specs.declared.group.Group.TheVariants.{Warehouse, District, Customers, Orders, History, Stock}
 use Rattle.requests.specs.declared.stock_level.StockLevel.{StockLevel}
-use Rattle.groups.specs.declared.wishes.Wish.{Wish}
+use Rattle.groups.specs.declared.group_wants.GroupWant.{GroupWant}
 use Rattle.groups.specs.Modes.{shared}
 use Rattle.groups.specs.Groups.{is_same}
 use Rattle.groups.specs.Footprint.{groups_of, stock_level_footprint}
 use Rattle.groups.proofs.Counts.{one, one-le, one-neither, count-cons, none_passes, once_at_most}
 
 module _ (w_id : ℕ) where
-  abbrev stock_wish : ℕ → Wish
-  stock_wish residue = shared (Stock w_id residue)
+  abbrev stock_group_want : ℕ → GroupWant
+  stock_group_want residue = shared (Stock w_id residue)
 
-  -- the wishes for so many groups of stock, from that residue on
-  abbrev pub wishes_from : ℕ → ℕ → List Wish
-  wishes_from from count = map stock_wish (range_with_len from count)
+  -- the wants for so many groups of stock, from that residue on
+  abbrev pub group_wants_from : ℕ → ℕ → List GroupWant
+  group_wants_from from count = map stock_group_want (range_with_len from count)
 
-  -- one wish more, from residue 0 on
-  pub one_more_wish : (count : ℕ) → wishes_from 0 (count + 1) ≡ wishes_from 0 count ++ shared (Stock w_id count) ∷ []
-  one_more_wish count = map-range_with_len_more stock_wish 0 count count (omega arith)
+  -- one want more, from residue 0 on
+  pub one_more_group_want : (count : ℕ) → group_wants_from 0 (count + 1) ≡ group_wants_from 0 count ++ shared (Stock w_id count) ∷ []
+  one_more_group_want count = map-range_with_len_more stock_group_want 0 count count (omega arith)
 
   -- what holds of each of these groups holds of one
-  pub at_residue : (P : Group → Type 0) (from count : ℕ) → AllByRecursion P (groups_of (wishes_from from count)) → (residue : ℕ) → from ≤ residue → residue < from + count
+  pub at_residue : (P : Group → Type 0) (from count : ℕ) → AllByRecursion P (groups_of (group_wants_from from count)) → (residue : ℕ) → from ≤ residue → residue < from + count
       → P (Stock w_id residue)
   at_residue P from zero each residue low high = absurd (omega arith)
   at_residue P from (suc count) each residue low high =
@@ -36,12 +36,12 @@ module _ (w_id : ℕ) where
             at_residue P (from + 1) count each.1 residue above (omega arith)
       ] refl
 
-  none_of_stock : (p : Group → Bool) → ((residue : ℕ) → p (Stock w_id residue) ≡ false) → count_by p (groups_of (wishes_from 0 64)) ≡ 0
-  none_of_stock p none = none_passes stock_wish p none 0 64
+  none_of_stock : (p : Group → Bool) → ((residue : ℕ) → p (Stock w_id residue) ≡ false) → count_by p (groups_of (group_wants_from 0 64)) ≡ 0
+  none_of_stock p none = none_passes stock_group_want p none 0 64
 
-  once : (other residue : ℕ) → count_by (is_same (Stock other residue)) (groups_of (wishes_from 0 64)) ≤ 1
+  once : (other residue : ℕ) → count_by (is_same (Stock other residue)) (groups_of (group_wants_from 0 64)) ≤ 1
   once other residue =
-      once_at_most stock_wish (is_same (Stock other residue)) residue
+      once_at_most stock_group_want (is_same (Stock other residue)) residue
       (λ r apart. ap (λ b. one ((other == w_id) && b)) apart ∙ one-neither (other == w_id)) 0 64
 
 module _ (asked : StockLevel) where
@@ -52,7 +52,7 @@ module _ (asked : StockLevel) where
   own_orders = Orders asked.home.w_id asked.home.d_id
 
   abbrev stock : List Group
-  stock = groups_of (wishes_from asked.home.w_id 0 64)
+  stock = groups_of (group_wants_from asked.home.w_id 0 64)
 
   parts : (p : Group → Bool) → count_by p (own_district ∷ own_orders ∷ stock) ≡ one (p own_district) + (one (p own_orders) + count_by p stock)
   parts p = count-cons p own_district (own_orders ∷ stock) ∙ ap (λ n. one (p own_district) + n) (count-cons p own_orders stock)

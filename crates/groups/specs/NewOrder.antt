@@ -6,7 +6,7 @@ use Rattle.requests.specs.declared.group.Group.TheVariants.{Warehouse, District,
 use Rattle.requests.specs.declared.new_order.NewOrder.{NewOrder}
 use Rattle.requests.specs.declared.new_order.OrderedLine.{OrderedLine}
 use Rattle.groups.specs.Groups.{group_of_stock, is_same}
-use Rattle.groups.specs.declared.wishes.Wish.{Wish}
+use Rattle.groups.specs.declared.group_wants.GroupWant.{GroupWant}
 use Rattle.groups.specs.Modes.{exclusively, shared}
 
 -- the group of the row of STOCK that supplies a line
@@ -24,7 +24,7 @@ supplies_of lines = firsts (map group_of_supply lines)
 
 -- New-Order reads the home warehouse's row and the customer's, and changes the home district's, the stock that supplies its
 -- lines, and the orders of the district (clause 2.4.2.2).
-abbrev pub new_order_footprint : NewOrder → List Wish
+abbrev pub new_order_footprint : NewOrder → List GroupWant
 new_order_footprint n =
     shared (Warehouse n.home.w_id)
     ∷ exclusively (District n.home.w_id n.home.d_id)

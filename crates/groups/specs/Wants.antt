@@ -3,7 +3,7 @@
 use Rattle.std.specs.Prelude.{◌≡◌, ◌⊎◌, ℕ}
 use Rattle.requests.specs.declared.group.Group.{Group}
 use Rattle.groups.specs.Groups.{kind_of, warehouse_of}
-use Rattle.groups.specs.declared.wishes.Mode.TheVariants.{Exclusive}
+use Rattle.groups.specs.declared.group_wants.Mode.TheVariants.{Exclusive}
 use Rattle.groups.specs.declared.wants.Kind.{Kind}
 use Rattle.groups.specs.declared.wants.Kind.TheVariants.{Warehouse, District, Customers, Orders, History, Stock}
 use Rattle.groups.specs.declared.wants.Prefix.{Prefix}

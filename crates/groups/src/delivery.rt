@@ -2,7 +2,7 @@
 ghost use Rattle.std.specs.Prelude.{◌≡◌, IfOk};
 ghost use Rattle.groups.specs.Delivery.{delivery_footprint};
 
-use crate::Wish;
+use crate::GroupWant;
 use requests::{Delivery, Group};
 use schema::NoMemory;
 use std::alloc::Global;
@@ -11,16 +11,16 @@ use std::alloc::Global;
 const DISTRICTS: u32 = 10;
 
 /// The rows that Delivery changes, all of them alone. Want of memory leaves nothing behind.
-pub(crate) fn wishes(alloc: Global, delivery: &Delivery) -> Result<Vec<Wish>, NoMemory>
-    ensures { IfOk result (λ wishes. wishes.items ≡ delivery_footprint delivery.now) }
+pub(crate) fn group_wants(alloc: Global, delivery: &Delivery) -> Result<Vec<GroupWant>, NoMemory>
+    ensures { IfOk result (λ group_wants. group_wants.items ≡ delivery_footprint delivery.now) }
 {
     let w_id = delivery.w_id;
-    let mut wishes = Vec::with_capacity(alloc, 20)?;
+    let mut group_wants = Vec::with_capacity(alloc, 20)?;
     for d_id in 1..DISTRICTS + 1 {
-        wishes.push(Wish::exclusively(Group::Orders { w_id, d_id }))?;
+        group_wants.push(GroupWant::exclusively(Group::Orders { w_id, d_id }))?;
     }
     for d_id in 1..DISTRICTS + 1 {
-        wishes.push(Wish::exclusively(Group::Customers { w_id, d_id }))?;
+        group_wants.push(GroupWant::exclusively(Group::Customers { w_id, d_id }))?;
     }
-    Ok(wishes)
+    Ok(group_wants)
 }

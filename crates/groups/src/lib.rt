@@ -11,7 +11,7 @@ mod order_status;
 mod payment;
 mod stock_level;
 mod wants;
-mod wishes;
+mod group_wants;
 
 pub use content::Content;
 pub use grouping::group_of_stock;
@@ -20,4 +20,4 @@ pub use laws::{
     footprints_name_each_group_once, groups_are_ordered, items_stand_in_no_group,
 };
 pub use wants::{Extent, Kind, Prefix, Want, kind_of, warehouse_of};
-pub use wishes::{Mode, Wish, footprint};
+pub use group_wants::{Mode, GroupWant, footprint};

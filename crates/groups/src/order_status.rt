@@ -2,12 +2,12 @@
 ghost use Rattle.std.specs.Prelude.{◌≡◌};
 ghost use Rattle.groups.specs.OrderStatus.{order_status_footprint};
 
-use crate::Wish;
+use crate::GroupWant;
 use requests::{Group, OrderStatus};
 use schema::DistrictKey;
 
 /// The rows that Order-Status reads, while others may read them too.
-pub(crate) fn wishes(asked: &OrderStatus) -> [Wish; 2]
+pub(crate) fn group_wants(asked: &OrderStatus) -> [GroupWant; 2]
     ensures { result ≡ order_status_footprint asked.now }
 {
     let DistrictKey { w_id, d_id } = asked.home;
@@ -15,5 +15,5 @@ pub(crate) fn wishes(asked: &OrderStatus) -> [Wish; 2]
         Group::Customers { w_id, d_id },
         Group::Orders { w_id, d_id },
     ]
-    .map(Wish::shared)
+    .map(GroupWant::shared)
 }

@@ -2,11 +2,11 @@
 ghost use Rattle.std.specs.Prelude.{◌≡◌};
 ghost use Rattle.groups.specs.Payment.{payment_footprint};
 
-use crate::Wish;
+use crate::GroupWant;
 use requests::{Group, Payment};
 
 /// The rows that a payment changes, all of them alone.
-pub(crate) fn wishes(payment: &Payment) -> [Wish; 4]
+pub(crate) fn group_wants(payment: &Payment) -> [GroupWant; 4]
     ensures { result ≡ payment_footprint payment.now }
 {
     let home = payment.home;
@@ -26,5 +26,5 @@ pub(crate) fn wishes(payment: &Payment) -> [Wish; 4]
             d_id: home.d_id,
         },
     ]
-    .map(Wish::exclusively)
+    .map(GroupWant::exclusively)
 }

@@ -13,7 +13,7 @@ use Rattle.history.specs.declared.event.Event.{Event}
 use Rattle.history.specs.declared.event.Event.TheVariants.{Submit, Order, Take, Send}
 use Rattle.history.specs.declared.event.EventAnswer.{EventAnswer}
 use Rattle.history.specs.declared.event.EventAnswer.TheVariants.{Accepted, Ordered, Took, Sent, Full, Logged, Moved, Answered, Nothing}
-use Rattle.history.specs.History.{Step, step, Transaction, Unanswered, noted, noted_all, noted_entry, transactions, with_entry, with_answer, opened}
+use Rattle.history.specs.History.{Step, step, Transaction, UnansweredTransaction, noted, noted_all, noted_entry, transactions, with_entry, with_answer, opened}
 use Rattle.history.specs.Fits.{Fits, Recorded, IsLoggedBelow, NamesEntries}
 use Rattle.history.specs.Laws.{EmptyHistoryFits, UnansweredInAnyOrder, IsQuiet, QuietEventFits, AdmissionFits, EntryFits, AnswerFits, with_place}
 use Rattle.history.proofs.Recorded.{Recorded-quiet, Recorded-order, Recorded-admit, Recorded-entry, Recorded-answer, answer_below, slice_get-last}
@@ -70,7 +70,7 @@ empty_history_fits opening consistent = record {
   legal = record { replied = refl; left = refl };
   consistent = λ n. subst (λ (l : List Entry). Consistent (tables_after opening (requests_of l))) (sym (take_nil n)) consistent;
   recorded = record {
-    whole = record { entries = λ k d below. absurd (omega (arith, below)); told = λ k d below. absurd (omega (arith, below)); once = λ place below. absurd (omega (arith, below)) };
+    whole = record { entries = λ k d below. absurd (omega (arith, below)); recorded = λ k d below. absurd (omega (arith, below)); once = λ place below. absurd (omega (arith, below)) };
     order = λ k d below. absurd (omega (arith, below));
     ages = tt;
     count = refl;
@@ -97,7 +97,7 @@ unanswered_in_any_order opening history log tables admitted pending other moved 
 }
 
 -- an event after which this is noted, and that names no new entry
-one_more : (opening : Database) (history : List Step) (log : List Entry) (tables : Database) (admitted admitted' : ℕ) (pending pending' : List Unanswered) (s : Step) (ts : List Transaction)
+one_more : (opening : Database) (history : List Step) (log : List Entry) (tables : Database) (admitted admitted' : ℕ) (pending pending' : List UnansweredTransaction) (s : Step) (ts : List Transaction)
     → noted log (length history) s.event s.answer (transactions log history) ≡ ts → IsLoggedBelow (length log) s.answer
     → Recorded log (length history + 1) ts admitted' pending' → Fits opening history log tables admitted pending
     → Fits opening (history ++ s ∷ []) log tables admitted' pending'

@@ -14,7 +14,7 @@ use Rattle.requests.specs.declared.request.Request.{Request}
 use Rattle.requests.specs.declared.refusal.Refusal.{Refusal}
 use Rattle.commit_log.specs.declared.entry.Entry.{Entry}
 use Rattle.history.specs.declared.event.EventAnswer.TheVariants.{Answered}
-use Rattle.history.specs.History.{Transaction, Acknowledged, Unanswered, InOrder, Precedes, AgesFrom, AreUnanswered, AreOfDifferentSessions, HasEntries, IsAnswerOf, IsTold, holds, is_open, is_of, first_of, unanswered, unanswered_of, with_entry, with_answer, opened}
+use Rattle.history.specs.History.{Transaction, Acknowledgement, UnansweredTransaction, InOrder, Precedes, AgesFrom, AreUnanswered, AreOfDifferentSessions, HasEntries, IsAnswerOf, IsRecorded, holds, is_open, is_of, first_of, unanswered, unanswered_of, with_entry, with_answer, opened}
 use Rattle.history.specs.Fits.{IsLoggedBelow, Recorded}
 use Rattle.history.specs.Laws.{new_one, with_place, IsAnswerTo}
 
@@ -80,24 +80,24 @@ All-of_map P f (x ∷ xs) h = All-cons (λ x. P (f x)) x xs (All-head P (f x) (m
 
 -- ---- open transactions
 
-open_is : (session : ℕ) (t : Transaction) → IsTrue (is_open session t) → (t.session ≡ session) × (t.told ≡ None)
-open_is session t h = let parts = and_parts (t.session == session) (is_none t.told) h in (eqb-true t.session session parts.0, none_is t.told parts.1)
+open_is : (session : ℕ) (t : Transaction) → IsTrue (is_open session t) → (t.session ≡ session) × (t.recorded ≡ None)
+open_is session t h = let parts = and_parts (t.session == session) (is_none t.recorded) h in (eqb-true t.session session parts.0, none_is t.recorded parts.1)
 
 -- the only one of its session is what the record tells of it
-the_one : (ts : List Transaction) (u : Unanswered) (rest : List Unanswered) → AreUnanswered (u ∷ rest) ts → AreOfDifferentSessions (u ∷ rest)
+the_one : (ts : List Transaction) (u : UnansweredTransaction) (rest : List UnansweredTransaction) → AreUnanswered (u ∷ rest) ts → AreOfDifferentSessions (u ∷ rest)
     → (filter (is_of u.session) rest ≡ []) × ((unanswered_of u.session ts ≡ u ∷ []) × ((count_by (is_open u.session) ts ≡ 1) × (All (λ t. IsTrue (is_open u.session t) → unanswered t ≡ u) ts)))
-the_one ts u rest told apart =
+the_one ts u rest recorded apart =
     let s = u.session in
     let here : is_of s u ≡ true = eq-eqb s s refl in
     let alone : count_by (is_of s) rest ≡ 0 = omega (arith, apart s, sum_by-cons (λ x. cond (is_of s x) 1 0) u rest, ap {B = ℕ} (λ (b : Bool). cond b 1 0) here) in
     let none = filter_none (is_of s) rest alone in
-    let is : unanswered_of s ts ≡ u ∷ [] = told s ∙ filter_yes (is_of s) u rest here ∙ ap (λ l. u ∷ l) none in
+    let is : unanswered_of s ts ≡ u ∷ [] = recorded s ∙ filter_yes (is_of s) u rest here ∙ ap (λ l. u ∷ l) none in
     let same : All (λ x. x ≡ u) (unanswered_of s ts) = subst (All (λ x. x ≡ u)) (sym is) (All-cons (λ x. x ≡ u) u [] refl (All-nil (λ x. x ≡ u))) in (
       none,
       (
         is,
         (
-          sym (length-filter (is_open s) ts) ∙ sym (length-map (filter (is_open s) ts) unanswered) ∙ ap (λ (l : List Unanswered). length l) is,
+          sym (length-filter (is_open s) ts) ∙ sym (length-map (filter (is_open s) ts) unanswered) ∙ ap (λ (l : List UnansweredTransaction). length l) is,
           All-filter (λ t. unanswered t ≡ u) (is_open s) ts (All-of_map (λ x. x ≡ u) unanswered (filter (is_open s) ts) same),
         ),
       ),
@@ -132,7 +132,7 @@ AgesFrom-map n f same (t ∷ ts) h = (same t ∙ h.0, AgesFrom-map (n + 1) f sam
 later : (n : ℕ) (ts : List Transaction) → All (λ t. t.submitted < n) ts → All (λ t. t.submitted < n + 1) ts
 later n ts h = All-weaker (λ (t : Transaction). t.submitted < n) (λ (t : Transaction). t.submitted < n + 1) (λ t before. omega (arith, before)) ts h
 
-pub Recorded-quiet : (log : List Entry) (n : ℕ) (ts : List Transaction) (admitted : ℕ) (pending : List Unanswered) → Recorded log n ts admitted pending → Recorded log (n + 1) ts admitted pending
+pub Recorded-quiet : (log : List Entry) (n : ℕ) (ts : List Transaction) (admitted : ℕ) (pending : List UnansweredTransaction) → Recorded log n ts admitted pending → Recorded log (n + 1) ts admitted pending
 Recorded-quiet log n ts admitted pending h = record {
   whole = h.whole;
   order = h.order;
@@ -167,7 +167,7 @@ same_filter q xs ys (a ∷ []) moved is few =
     (length-filter q ys ∙ sum_by-IsPermutation (λ x. cond (q x) 1 0) xs ys moved ∙ sym (length-filter q xs) ∙ ap length is)
 same_filter q xs ys (a ∷ b ∷ fs) moved is few = absurd (omega (arith, few))
 
-pub Recorded-order : (log : List Entry) (n : ℕ) (ts : List Transaction) (admitted : ℕ) (pending other : List Unanswered) → IsPermutation pending other → Recorded log n ts admitted pending → Recorded log n ts admitted other
+pub Recorded-order : (log : List Entry) (n : ℕ) (ts : List Transaction) (admitted : ℕ) (pending other : List UnansweredTransaction) → IsPermutation pending other → Recorded log n ts admitted pending → Recorded log n ts admitted other
 Recorded-order log n ts admitted pending other moved h = record {
   whole = h.whole;
   order = h.order;
@@ -180,25 +180,25 @@ Recorded-order log n ts admitted pending other moved h = record {
 
 -- ---- a transaction is admitted
 
-before_none : (told : Option Acknowledged) (entries : List ℕ) (b : Transaction) → b.entries ≡ [] → InOrder told entries b
+before_none : (recorded : Option Acknowledgement) (entries : List ℕ) (b : Transaction) → b.entries ≡ [] → InOrder recorded entries b
 before_none None entries b none = tt
-before_none (Some told) entries b none = λ later'. λ k d here. subst (λ ys. All (λ y. get_or entries k d < y) ys) (sym none) (All-nil (λ y. get_or entries k d < y))
+before_none (Some recorded) entries b none = λ later'. λ k d here. subst (λ ys. All (λ y. get_or entries k d < y) ys) (sym none) (All-nil (λ y. get_or entries k d < y))
 
-pub Recorded-admit : (log : List Entry) (n : ℕ) (ts : List Transaction) (admitted : ℕ) (pending : List Unanswered) (session number : ℕ) (request : Request)
+pub Recorded-admit : (log : List Entry) (n : ℕ) (ts : List Transaction) (admitted : ℕ) (pending : List UnansweredTransaction) (session number : ℕ) (request : Request)
     → count_by (is_of session) pending ≡ 0 → Recorded log n ts admitted pending
     → Recorded log (n + 1) (ts ++ opened admitted session number request n ∷ []) (admitted + 1) (new_one admitted session number request ∷ pending)
 Recorded-admit log n ts admitted pending session number request none h =
     let t : Transaction = opened admitted session number request n in
-    let u : Unanswered = new_one admitted session number request in
+    let u : UnansweredTransaction = new_one admitted session number request in
     let here_is : (session == session) ≡ true = eq-eqb session session refl in
     record {
       whole = record {
         entries = All-push (λ t. HasEntries log t t.entries) ts t h.whole.entries tt;
-        told = All-push (λ t. IsTold t.entries t.told) ts t h.whole.told tt;
+        recorded = All-push (λ t. IsRecorded t.entries t.recorded) ts t h.whole.recorded tt;
         once = λ place here. omega (arith, h.whole.once place here, sum_by_push (holds place) ts t);
       };
-      order = All-push (λ a. All (λ b. InOrder a.told a.entries b) (ts ++ t ∷ [])) ts t
-          (λ k d here. let a = get_or ts k d in All-push (λ b. InOrder a.told a.entries b) ts t (h.order k d here) (before_none a.told a.entries t refl))
+      order = All-push (λ a. All (λ b. InOrder a.recorded a.entries b) (ts ++ t ∷ [])) ts t
+          (λ k d here. let a = get_or ts k d in All-push (λ b. InOrder a.recorded a.entries b) ts t (h.order k d here) (before_none a.recorded a.entries t refl))
           (λ k d here. tt);
       ages = AgesFrom-push 0 ts t h.ages (h.count ∙ sym (zero-add (length ts)));
       count = omega (arith, h.count, length-append ts (t ∷ []));
@@ -207,7 +207,7 @@ Recorded-admit log n ts admitted pending session number request none h =
           let R : ℕ → Type 0 = λ x. unanswered_of x (ts ++ t ∷ []) ≡ filter (is_of x) (u ∷ pending) in
           let opens : is_open session t ≡ true = and_true (session == session) ∙ here_is in
           let empty : filter (is_of session) pending ≡ [] = filter_none (is_of session) pending none in
-          let no_open : filter (is_open session) ts ≡ [] = empty_is (filter (is_open session) ts) (sym (length-map (filter (is_open session) ts) unanswered) ∙ ap (λ (l : List Unanswered). length l) (h.unanswered session ∙ empty)) in
+          let no_open : filter (is_open session) ts ≡ [] = empty_is (filter (is_open session) ts) (sym (length-map (filter (is_open session) ts) unanswered) ∙ ap (λ (l : List UnansweredTransaction). length l) (h.unanswered session ∙ empty)) in
           subst R same.1
           (ap (λ l. map unanswered l) (filter-append (is_open session) ts (t ∷ []) ∙ ap (λ l. l ++ filter (is_open session) (t ∷ [])) no_open ∙ filter_yes (is_open session) t [] opens)
           ∙ sym (filter_yes (is_of session) u pending here_is ∙ ap (λ l. u ∷ l) empty)))
@@ -284,9 +284,9 @@ holds-all session place p (t ∷ ts) =
     (λ e. omega (arith, one, more, left, right, count, ap {B = ℕ} (λ b. cond b (count_by (is_open session) ts) 0) e, ap {B = ℕ} (λ b. cond b (count_by (is_open session) (t ∷ ts)) 0) e, ap {B = ℕ} (λ b. cond (is_open session t) (cond b 1 0) 0) e))
     (λ e. omega (arith, one, more, left, right, ap {B = ℕ} (λ b. cond b (count_by (is_open session) ts) 0) e, ap {B = ℕ} (λ b. cond b (count_by (is_open session) (t ∷ ts)) 0) e, nothing (is_open session t) (p == place) e))
 
-before_more : (session p : ℕ) (told : Option Acknowledged) (es : List ℕ) (b : Transaction) → All (λ x. x < p) es → InOrder told es b → InOrder told es (with_entry session p b)
+before_more : (session p : ℕ) (recorded : Option Acknowledgement) (es : List ℕ) (b : Transaction) → All (λ x. x < p) es → InOrder recorded es b → InOrder recorded es (with_entry session p b)
 before_more session p None es b below h = tt
-before_more session p (Some told) es b below h = λ later'. λ k d here. by_bool (is_open session b)
+before_more session p (Some recorded) es b below h = λ later'. λ k d here. by_bool (is_open session b)
     (λ open'. subst (λ ys. All (λ y. get_or es k d < y) ys) (sym (ap (λ (v : Bool). if v then b.entries ++ p ∷ [] else b.entries) open')) (All-push (λ y. get_or es k d < y) b.entries p (h later' k d here) (below k d here)))
     (λ closed. subst (λ ys. All (λ y. get_or es k d < y) ys) (sym (ap (λ (v : Bool). if v then b.entries ++ p ∷ [] else b.entries) closed)) (h later' k d here))
 
@@ -321,7 +321,7 @@ own_entry session p (t ∷ ts) h =
     (λ closed. ap (map unanswered) (filter_no (is_open session) (f t) (map f ts) closed) ∙ rest
     ∙ sym (ap (λ l. map (with_place p) (map unanswered l)) (filter_no (is_open session) t ts closed)))
 
-pub Recorded-entry : (log : List Entry) (n : ℕ) (ts : List Transaction) (admitted : ℕ) (u : Unanswered) (pending : List Unanswered) (entry : Entry)
+pub Recorded-entry : (log : List Entry) (n : ℕ) (ts : List Transaction) (admitted : ℕ) (u : UnansweredTransaction) (pending : List UnansweredTransaction) (entry : Entry)
     → entry.session ≡ u.session → entry.number ≡ u.number → entry.request ≡ u.request → u.entry ≡ None → Recorded log n ts admitted (u ∷ pending)
     → Recorded (log ++ entry ∷ []) (n + 1) (map (with_entry u.session (length log)) ts) admitted (with_place (length log) u ∷ pending)
 Recorded-entry log n ts admitted u pending entry session_is number_is request_is none h =
@@ -333,7 +333,7 @@ Recorded-entry log n ts admitted u pending entry session_is number_is request_is
     let one = the_one ts u pending h.unanswered h.apart in
     let is_u = one.1.1.1 in
     let here : is_of s u ≡ true = eq-eqb s s refl in
-    let empty : All (λ t. IsTrue (is_open s t) → t.entries ≡ []) ts = λ k d in' open'. first_none (get_or ts k d).entries (ap (λ (x : Unanswered). x.entry) (is_u k d in' open') ∙ none) in
+    let empty : All (λ t. IsTrue (is_open s t) → t.entries ≡ []) ts = λ k d in' open'. first_none (get_or ts k d).entries (ap (λ (x : UnansweredTransaction). x.entry) (is_u k d in' open') ∙ none) in
     let given : (t : Transaction) → is_open s t ≡ true → t.entries ≡ [] → (f t).entries ≡ p ∷ [] = λ t open' no_entry. ap (λ (v : Bool). if v then t.entries ++ p ∷ [] else t.entries) open' ∙ ap (λ es. es ++ p ∷ []) no_entry in
     let kept : (t : Transaction) → is_open s t ≡ false → (f t).entries ≡ t.entries = λ t closed. ap (λ (v : Bool). if v then t.entries ++ p ∷ [] else t.entries) closed in
     let last = slice_get-last log entry in
@@ -342,11 +342,11 @@ Recorded-entry log n ts admitted u pending entry session_is number_is request_is
         entries = All-map (λ t. HasEntries more t t.entries) f ts (λ k d in'. let t = get_or ts k d in by_bool (is_open s t)
             (λ open'. let is = is_u k d in' open' in
             subst (λ es. HasEntries more t es) (sym (given t open' (empty k d in' open')))
-            (entry, (last, (session_is ∙ sym (open_is s t open').0, (number_is ∙ sym (ap (λ (x : Unanswered). x.number) is), request_is ∙ sym (ap (λ (x : Unanswered). x.request) is))))))
+            (entry, (last, (session_is ∙ sym (open_is s t open').0, (number_is ∙ sym (ap (λ (x : UnansweredTransaction). x.number) is), request_is ∙ sym (ap (λ (x : UnansweredTransaction). x.request) is))))))
             (λ closed. subst (λ es. HasEntries more t es) (sym (kept t closed)) (HasEntries-more log (entry ∷ []) t t.entries (h.whole.entries k d in'))));
-        told = All-map (λ t. IsTold t.entries t.told) f ts (λ k d in'. let t = get_or ts k d in by_bool (is_open s t)
-            (λ open'. subst (λ told. IsTold (f t).entries told) (sym (open_is s t open').1) tt)
-            (λ closed. subst (λ es. IsTold es t.told) (sym (kept t closed)) (h.whole.told k d in')));
+        recorded = All-map (λ t. IsRecorded t.entries t.recorded) f ts (λ k d in'. let t = get_or ts k d in by_bool (is_open s t)
+            (λ open'. subst (λ recorded. IsRecorded (f t).entries recorded) (sym (open_is s t open').1) tt)
+            (λ closed. subst (λ es. IsRecorded es t.recorded) (sym (kept t closed)) (h.whole.recorded k d in')));
         once = λ place below. ⊎_elim
             (λ (same : ((p == place) ≡ true) × (p ≡ place)).
             let nowhere : sum_by (holds p) ts ≡ 0 = sum_none (holds p) ts (λ k d in'. count_none p (get_or ts k d).entries (entries_below log (get_or ts k d) (get_or ts k d).entries (h.whole.entries k d in'))) in
@@ -356,9 +356,9 @@ Recorded-entry log n ts admitted u pending entry session_is number_is request_is
             holds-all s place p ts ∙ ap {B = ℕ} (λ b. sum_by (holds place) ts + cond b (count_by (is_open s) ts) 0) other.0 ∙ add-zero _ ∙ h.whole.once place (omega (arith, below, other.1, length-append log (entry ∷ []))))
             (eqb_tells p place);
       };
-      order = All-map (λ a. All (λ b. InOrder a.told a.entries b) (map f ts)) f ts (λ k d in'. let a = get_or ts k d in by_bool (is_open s a)
-          (λ open'. subst (λ told. All (λ b. InOrder told (f a).entries b) (map f ts)) (sym (open_is s a open').1) (λ j e at. tt))
-          (λ closed. subst (λ es. All (λ b. InOrder a.told es b) (map f ts)) (sym (kept a closed)) (All-map (λ b. InOrder a.told a.entries b) f ts (λ j e at. before_more s p a.told a.entries (get_or ts j e) (entries_below log a a.entries (h.whole.entries k d in')) (h.order k d in' j e at)))));
+      order = All-map (λ a. All (λ b. InOrder a.recorded a.entries b) (map f ts)) f ts (λ k d in'. let a = get_or ts k d in by_bool (is_open s a)
+          (λ open'. subst (λ recorded. All (λ b. InOrder recorded (f a).entries b) (map f ts)) (sym (open_is s a open').1) (λ j e at. tt))
+          (λ closed. subst (λ es. All (λ b. InOrder a.recorded es b) (map f ts)) (sym (kept a closed)) (All-map (λ b. InOrder a.recorded a.entries b) f ts (λ j e at. before_more s p a.recorded a.entries (get_or ts j e) (entries_below log a a.entries (h.whole.entries k d in')) (h.order k d in' j e at)))));
       ages = AgesFrom-map 0 f (λ t. refl) ts h.ages;
       count = h.count ∙ sym (length-map ts f);
       unanswered = λ x. ⊎_elim
@@ -378,27 +378,27 @@ sum_by-map_same : {X : Type 0} (q : X → ℕ) (f : X → X) → ((x : X) → q 
 sum_by-map_same q f same [] = refl
 sum_by-map_same q f same (x ∷ xs) = sum_by-cons q (f x) (map f xs) ∙ (λ i. same x i + sum_by-map_same q f same xs i) ∙ sym (sum_by-cons q x xs)
 
-same_order : (told : Option Acknowledged) (es : List ℕ) (b c : Transaction) → c.submitted ≡ b.submitted → c.entries ≡ b.entries → InOrder told es b → InOrder told es c
+same_order : (recorded : Option Acknowledgement) (es : List ℕ) (b c : Transaction) → c.submitted ≡ b.submitted → c.entries ≡ b.entries → InOrder recorded es b → InOrder recorded es c
 same_order None es b c s e h = tt
-same_order (Some told) es b c s e h = λ later'. subst (λ ys. Precedes es ys) (sym e) (h (subst (λ n. told.at < n) s later'))
+same_order (Some recorded) es b c s e h = λ later'. subst (λ ys. Precedes es ys) (sym e) (h (subst (λ n. recorded.at < n) s later'))
 
 -- what was told is what was told before, or now
-told_now : ℕ → Result ℕ Refusal → Option Acknowledged
-told_now at answer = Some (record { at = at; answer = answer })
+recorded_now : ℕ → Result ℕ Refusal → Option Acknowledgement
+recorded_now at answer = Some (record { at = at; answer = answer })
 
 -- an answer leaves the open transactions of other sessions
 other_open : (session x n : ℕ) (answer : Result ℕ Refusal) → session ≢ x → (t : Transaction) → is_open x (with_answer session n answer t) ≡ is_open x t
-unfolding told_now
+unfolding recorded_now
 other_open session x n answer apart t = by_bool (is_open session t)
-    (λ open'. let not_x : (t.session == x) ≡ false = ne_eqb t.session x (λ e. apart (sym (open_is session t open').0 ∙ e)) in ap (λ (b : Bool). b && is_none (if is_open session t then told_now n answer else t.told)) not_x ∙ sym (ap (λ (b : Bool). b && is_none t.told) not_x))
-    (λ closed. ap (λ (b : Bool). (t.session == x) && is_none (if b then told_now n answer else t.told)) closed)
+    (λ open'. let not_x : (t.session == x) ≡ false = ne_eqb t.session x (λ e. apart (sym (open_is session t open').0 ∙ e)) in ap (λ (b : Bool). b && is_none (if is_open session t then recorded_now n answer else t.recorded)) not_x ∙ sym (ap (λ (b : Bool). b && is_none t.recorded) not_x))
+    (λ closed. ap (λ (b : Bool). (t.session == x) && is_none (if b then recorded_now n answer else t.recorded)) closed)
 
 -- and closes the session's own
 closed_one : (session n : ℕ) (answer : Result ℕ Refusal) (t : Transaction) → is_open session (with_answer session n answer t) ≡ false
-unfolding told_now
+unfolding recorded_now
 closed_one session n answer t = by_bool (is_open session t)
-    (λ open'. ap (λ (b : Bool). (t.session == session) && is_none (if b then told_now n answer else t.told)) open' ∙ and_false (t.session == session))
-    (λ closed. ap (λ (b : Bool). (t.session == session) && is_none (if b then told_now n answer else t.told)) closed ∙ closed)
+    (λ open'. ap (λ (b : Bool). (t.session == session) && is_none (if b then recorded_now n answer else t.recorded)) open' ∙ and_false (t.session == session))
+    (λ closed. ap (λ (b : Bool). (t.session == session) && is_none (if b then recorded_now n answer else t.recorded)) closed ∙ closed)
 
 other_answer : (session x n : ℕ) (answer : Result ℕ Refusal) → session ≢ x → (ts : List Transaction) → unanswered_of x (map (with_answer session n answer) ts) ≡ unanswered_of x ts
 other_answer session x n answer apart [] = refl
@@ -416,12 +416,12 @@ own_answer session n answer (t ∷ ts) =
     let g = with_answer session n answer in
     ap (map unanswered) (filter_no (is_open session) (g t) (map g ts) (closed_one session n answer t)) ∙ own_answer session n answer ts
 
-answered_so : (log : List Entry) (t : Transaction) (u : Unanswered) (answer : Result ℕ Refusal) → HasEntries log t t.entries → first_of t.entries ≡ u.entry → IsAnswerTo u answer → IsAnswerOf t.entries answer
+answered_so : (log : List Entry) (t : Transaction) (u : UnansweredTransaction) (answer : Result ℕ Refusal) → HasEntries log t t.entries → first_of t.entries ≡ u.entry → IsAnswerTo u answer → IsAnswerOf t.entries answer
 answered_so log t u (Ok place) has is h = first_some log t t.entries place has (is ∙ h)
 answered_so log t u (Err refusal) has is h = first_none t.entries (is ∙ h)
 
 -- where the only open transaction of a session has an entry, that is in the log
-open_entry : (log : List Entry) (u : Unanswered) (place : ℕ) (ts : List Transaction) → All (λ t. HasEntries log t t.entries) ts → unanswered_of u.session ts ≡ u ∷ []
+open_entry : (log : List Entry) (u : UnansweredTransaction) (place : ℕ) (ts : List Transaction) → All (λ t. HasEntries log t t.entries) ts → unanswered_of u.session ts ≡ u ∷ []
     → u.entry ≡ Some place → place < length log
 open_entry log u place [] has is at = absurd cc
 open_entry log u place (t ∷ ts) has is at =
@@ -431,21 +431,21 @@ open_entry log u place (t ∷ ts) has is at =
     let first : unanswered t ∷ map unanswered (filter (is_open s) ts) ≡ u ∷ [] = ap (map unanswered) (sym (filter_yes (is_open s) t ts open')) ∙ is in
     let same : unanswered t ≡ u = cc in
     let own = All-head (λ t. HasEntries log t t.entries) t ts has in
-    let only : t.entries ≡ place ∷ [] = first_some log t t.entries place own (ap (λ (x : Unanswered). x.entry) same ∙ at) in
+    let only : t.entries ≡ place ∷ [] = first_some log t t.entries place own (ap (λ (x : UnansweredTransaction). x.entry) same ∙ at) in
     All-head (λ p. p < length log) place [] (subst (All (λ p. p < length log)) only (entries_below log t t.entries own)))
     (λ closed. open_entry log u place ts (All-tail (λ t. HasEntries log t t.entries) t ts has) (ap (map unanswered) (sym (filter_no (is_open s) t ts closed)) ∙ is) at)
 
 -- an answer to an open transaction names no place that the log lacks
-pub answer_below : (log : List Entry) (n : ℕ) (ts : List Transaction) (admitted : ℕ) (u : Unanswered) (pending : List Unanswered) (session number : ℕ) (answer : Result ℕ Refusal)
+pub answer_below : (log : List Entry) (n : ℕ) (ts : List Transaction) (admitted : ℕ) (u : UnansweredTransaction) (pending : List UnansweredTransaction) (session number : ℕ) (answer : Result ℕ Refusal)
     → IsAnswerTo u answer → Recorded log n ts admitted (u ∷ pending) → IsLoggedBelow (length log) (Answered session number answer)
 answer_below log n ts admitted u pending session number (Ok place) is h =
     open_entry log u place ts h.whole.entries (the_one ts u pending h.unanswered h.apart).1.0 is
 answer_below log n ts admitted u pending session number (Err refusal) is h = tt
 
-pub Recorded-answer : (log : List Entry) (n : ℕ) (ts : List Transaction) (admitted : ℕ) (u : Unanswered) (pending : List Unanswered) (answer : Result ℕ Refusal)
+pub Recorded-answer : (log : List Entry) (n : ℕ) (ts : List Transaction) (admitted : ℕ) (u : UnansweredTransaction) (pending : List UnansweredTransaction) (answer : Result ℕ Refusal)
     → IsAnswerTo u answer → Recorded log n ts admitted (u ∷ pending)
     → Recorded log (n + 1) (map (with_answer u.session n answer) ts) admitted pending
-unfolding told_now
+unfolding recorded_now
 Recorded-answer log n ts admitted u pending answer answers h =
     let s = u.session in
     let g = with_answer s n answer in
@@ -454,14 +454,14 @@ Recorded-answer log n ts admitted u pending answer answers h =
     record {
       whole = record {
         entries = All-map (λ t. HasEntries log t t.entries) g ts h.whole.entries;
-        told = All-map (λ t. IsTold t.entries t.told) g ts (λ k d in'. let t = get_or ts k d in by_bool (is_open s t)
-            (λ open'. subst (λ told. IsTold t.entries told) (sym (ap (λ (b : Bool). if b then told_now n answer else t.told) open')) (answered_so log t u answer (h.whole.entries k d in') (ap (λ (x : Unanswered). x.entry) (is_u k d in' open')) answers))
-            (λ closed. subst (λ told. IsTold t.entries told) (sym (ap (λ (b : Bool). if b then told_now n answer else t.told) closed)) (h.whole.told k d in')));
+        recorded = All-map (λ t. IsRecorded t.entries t.recorded) g ts (λ k d in'. let t = get_or ts k d in by_bool (is_open s t)
+            (λ open'. subst (λ recorded. IsRecorded t.entries recorded) (sym (ap (λ (b : Bool). if b then recorded_now n answer else t.recorded) open')) (answered_so log t u answer (h.whole.entries k d in') (ap (λ (x : UnansweredTransaction). x.entry) (is_u k d in' open')) answers))
+            (λ closed. subst (λ recorded. IsRecorded t.entries recorded) (sym (ap (λ (b : Bool). if b then recorded_now n answer else t.recorded) closed)) (h.whole.recorded k d in')));
         once = λ place below. sum_by-map_same (holds place) g (λ t. refl) ts ∙ h.whole.once place below;
       };
-      order = All-map (λ a. All (λ b. InOrder a.told a.entries b) (map g ts)) g ts (λ k d in'. let a = get_or ts k d in by_bool (is_open s a)
-          (λ open'. subst (λ told. All (λ b. InOrder told a.entries b) (map g ts)) (sym (ap (λ (b : Bool). if b then told_now n answer else a.told) open')) (All-map (λ b. InOrder (told_now n answer) a.entries b) g ts (λ j e at later'. absurd (omega (arith, later', h.submitted j e at)))))
-          (λ closed. subst (λ told. All (λ b. InOrder told a.entries b) (map g ts)) (sym (ap (λ (b : Bool). if b then told_now n answer else a.told) closed)) (All-map (λ b. InOrder a.told a.entries b) g ts (λ j e at. same_order a.told a.entries (get_or ts j e) (g (get_or ts j e)) refl refl (h.order k d in' j e at)))));
+      order = All-map (λ a. All (λ b. InOrder a.recorded a.entries b) (map g ts)) g ts (λ k d in'. let a = get_or ts k d in by_bool (is_open s a)
+          (λ open'. subst (λ recorded. All (λ b. InOrder recorded a.entries b) (map g ts)) (sym (ap (λ (b : Bool). if b then recorded_now n answer else a.recorded) open')) (All-map (λ b. InOrder (recorded_now n answer) a.entries b) g ts (λ j e at later'. absurd (omega (arith, later', h.submitted j e at)))))
+          (λ closed. subst (λ recorded. All (λ b. InOrder recorded a.entries b) (map g ts)) (sym (ap (λ (b : Bool). if b then recorded_now n answer else a.recorded) closed)) (All-map (λ b. InOrder a.recorded a.entries b) g ts (λ j e at. same_order a.recorded a.entries (get_or ts j e) (g (get_or ts j e)) refl refl (h.order k d in' j e at)))));
       ages = AgesFrom-map 0 g (λ t. refl) ts h.ages;
       count = h.count ∙ sym (length-map ts g);
       unanswered = λ x. ⊎_elim

@@ -1,4 +1,4 @@
--- When a history fits an opening, a log, the tables that are committed, and the transactions under way.
+-- When a history fits an opening, a log, the tables that are committed, and the transactions in flight.
 use Rattle.std.specs.Prelude.{◌≡◌, ℕ, ◌<◌, List, length, take, IfOk}
 use Rattle.std.specs.List.{All}
 use Rattle.schema.specs.Database.{Database}
@@ -8,7 +8,7 @@ use Rattle.commit_log.specs.declared.entry.Entry.{Entry}
 use Rattle.commit_log.specs.Log.{requests_of, IsLegal}
 use Rattle.history.specs.declared.event.EventAnswer.{EventAnswer}
 use Rattle.history.specs.declared.event.EventAnswer.TheVariants.{Logged, Answered}
-use Rattle.history.specs.History.{Step, Transaction, Unanswered, Whole, InLogOrder, AgesFrom, AreOfDifferentSessions, AreUnanswered, transactions}
+use Rattle.history.specs.History.{Step, Transaction, UnansweredTransaction, Whole, InLogOrder, AgesFrom, AreOfDifferentSessions, AreUnanswered, transactions}
 
 -- where it tells a place of the log, it is one of these
 abbrev pub IsLoggedBelow : ℕ → EventAnswer → Type 0
@@ -21,7 +21,7 @@ abbrev pub NamesEntries : List Entry → List Step → Type 0
 NamesEntries log history = All (λ s. IsLoggedBelow (length log) s.answer) history
 
 -- What holds of the transactions that n events tell of.
-pub record Recorded (log : List Entry) (n : ℕ) (ts : List Transaction) (admitted : ℕ) (pending : List Unanswered) : Type 0 where
+pub record Recorded (log : List Entry) (n : ℕ) (ts : List Transaction) (admitted : ℕ) (pending : List UnansweredTransaction) : Type 0 where
   pub whole : Whole log ts
   pub order : InLogOrder ts
   pub ages : AgesFrom 0 ts
@@ -35,7 +35,7 @@ pub record Recorded (log : List Entry) (n : ℕ) (ts : List Transaction) (admitt
 -- the opening, and the committed tables are those that it leaves; the tables are consistent after every beginning of the
 -- log; each transaction is whole, and who was answered first stands first; so many transactions were admitted, and these
 -- are without an answer.
-pub record Fits (opening : Database) (history : List Step) (log : List Entry) (tables : Database) (admitted : ℕ) (pending : List Unanswered) : Type 0 where
+pub record Fits (opening : Database) (history : List Step) (log : List Entry) (tables : Database) (admitted : ℕ) (pending : List UnansweredTransaction) : Type 0 where
   pub legal : IsLegal opening log tables
   pub consistent : (n : ℕ) → Consistent (tables_after opening (requests_of (take n log)))
   pub recorded : Recorded log (length history) (transactions log history) admitted pending

@@ -22,7 +22,7 @@ step event answer = record { event = event; answer = answer }
 
 -- when a transaction was answered, as the place in the history of the event that answered it, and how: with the place of its
 -- entry in the log, or with why it was refused
-pub record Acknowledged : Type 0 where
+pub record Acknowledgement : Type 0 where
   pub at : ℕ
   pub answer : Result ℕ Refusal
 
@@ -35,7 +35,7 @@ pub record Transaction : Type 0 where
   pub request : Request
   pub submitted : ℕ
   pub entries : List ℕ
-  pub told : Option Acknowledged
+  pub recorded : Option Acknowledgement
 
 -- a transaction that was just admitted: it has no entry and no answer
 abbrev pub opened : ℕ → ℕ → ℕ → Request → ℕ → Transaction
@@ -46,12 +46,12 @@ opened age session number request at = record {
   request = request;
   submitted = at;
   entries = [];
-  told = None;
+  recorded = None;
 }
 
 -- it is of this session, and has no answer yet
 abbrev pub is_open : ℕ → Transaction → Bool
-is_open session t = t.session == session && is_none t.told
+is_open session t = t.session == session && is_none t.recorded
 
 -- an entry at this place is the open transaction's of the session
 abbrev pub with_entry : ℕ → ℕ → Transaction → Transaction
@@ -59,7 +59,7 @@ with_entry session place t = record t { entries = if is_open session t then t.en
 
 -- and so is this answer
 abbrev pub with_answer : ℕ → ℕ → Result ℕ Refusal → Transaction → Transaction
-with_answer session at answer t = record t { told = if is_open session t then Some (record { at = at; answer = answer }) else t.told }
+with_answer session at answer t = record t { recorded = if is_open session t then Some (record { at = at; answer = answer }) else t.recorded }
 
 -- the transactions once the log's entry at this place, where there is one, is that of its session's open transaction
 abbrev pub noted_entry : Option Entry → ℕ → List Transaction → List Transaction
@@ -103,9 +103,9 @@ IsAnswerOf entries (Ok place) = entries ≡ place ∷ []
 IsAnswerOf entries (Err refusal) = entries ≡ []
 
 -- where a transaction has an answer, its entries are those that the answer calls for
-abbrev pub IsTold : List ℕ → Option Acknowledged → Type 0
-IsTold entries None = Unit {0}
-IsTold entries (Some told) = IsAnswerOf entries told.answer
+abbrev pub IsRecorded : List ℕ → Option Acknowledgement → Type 0
+IsRecorded entries None = Unit {0}
+IsRecorded entries (Some recorded) = IsAnswerOf entries recorded.answer
 
 -- how often a transaction has the entry at this place
 abbrev pub holds : ℕ → Transaction → ℕ
@@ -114,7 +114,7 @@ holds place t = count_by (λ p. p == place) t.entries
 -- Each entry is that of exactly one transaction, each transaction has at most one, and its answer is that entry's.
 pub record Whole (log : List Entry) (ts : List Transaction) : Type 0 where
   pub entries : All (λ t. HasEntries log t t.entries) ts
-  pub told : All (λ t. IsTold t.entries t.told) ts
+  pub recorded : All (λ t. IsRecorded t.entries t.recorded) ts
   pub once : (place : ℕ) → place < length log → sum_by (holds place) ts ≡ 1
 
 -- ---- who was answered first stands first
@@ -124,13 +124,13 @@ abbrev pub Precedes : List ℕ → List ℕ → Type 0
 Precedes xs ys = All (λ x. All (λ y. x < y) ys) xs
 
 -- where this one was answered before the other was submitted, its entry is before the other's
-abbrev pub InOrder : Option Acknowledged → List ℕ → Transaction → Type 0
+abbrev pub InOrder : Option Acknowledgement → List ℕ → Transaction → Type 0
 InOrder None entries b = Unit {0}
-InOrder (Some told) entries b = told.at < b.submitted → Precedes entries b.entries
+InOrder (Some recorded) entries b = recorded.at < b.submitted → Precedes entries b.entries
 
 -- a transaction that was answered before another was submitted stands before it in the log
 abbrev pub InLogOrder : List Transaction → Type 0
-InLogOrder ts = All (λ a. All (λ b. InOrder a.told a.entries b) ts) ts
+InLogOrder ts = All (λ a. All (λ b. InOrder a.recorded a.entries b) ts) ts
 
 -- ---- ages, and who has no answer yet
 
@@ -140,7 +140,7 @@ AgesFrom age [] = Unit {0}
 AgesFrom age (t ∷ ts) = (t.age ≡ age) × AgesFrom (age + 1) ts
 
 -- a transaction without an answer: its age, whose it is, what was asked, and the place of its entry, or none
-pub record Unanswered : Type 0 where
+pub record UnansweredTransaction : Type 0 where
   pub age : ℕ
   pub session : ℕ
   pub number : ℕ
@@ -153,21 +153,21 @@ first_of [] = None
 first_of (place ∷ places) = Some place
 
 -- the transaction, as one without an answer
-abbrev pub unanswered : Transaction → Unanswered
+abbrev pub unanswered : Transaction → UnansweredTransaction
 unanswered t = record { age = t.age; session = t.session; number = t.number; request = t.request; entry = first_of t.entries }
 
 -- the session's transactions that have no answer
-abbrev pub unanswered_of : ℕ → List Transaction → List Unanswered
+abbrev pub unanswered_of : ℕ → List Transaction → List UnansweredTransaction
 unanswered_of session ts = map unanswered (filter (is_open session) ts)
 
 -- it is of this session
-abbrev pub is_of : ℕ → Unanswered → Bool
+abbrev pub is_of : ℕ → UnansweredTransaction → Bool
 is_of session u = u.session == session
 
 -- these are, session by session, the transactions that have no answer
-abbrev pub AreUnanswered : List Unanswered → List Transaction → Type 0
+abbrev pub AreUnanswered : List UnansweredTransaction → List Transaction → Type 0
 AreUnanswered pending ts = (session : ℕ) → unanswered_of session ts ≡ filter (is_of session) pending
 
 -- no session has two
-abbrev pub AreOfDifferentSessions : List Unanswered → Type 0
+abbrev pub AreOfDifferentSessions : List UnansweredTransaction → Type 0
 AreOfDifferentSessions us = (session : ℕ) → count_by (is_of session) us < 2

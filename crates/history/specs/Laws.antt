@@ -11,7 +11,7 @@ use Rattle.history.specs.declared.event.Event.{Event}
 use Rattle.history.specs.declared.event.Event.TheVariants.{Submit, Send}
 use Rattle.history.specs.declared.event.EventAnswer.{EventAnswer}
 use Rattle.history.specs.declared.event.EventAnswer.TheVariants.{Accepted, Ordered, Took, Sent, Full, Logged, Moved, Answered, Nothing}
-use Rattle.history.specs.History.{Step, step, Unanswered, is_of}
+use Rattle.history.specs.History.{Step, step, UnansweredTransaction, is_of}
 use Rattle.history.specs.Fits.{Fits}
 
 -- before any event, consistent tables and an empty log fit, with no transaction
@@ -21,7 +21,7 @@ EmptyHistoryFits = (opening : Database) → Consistent opening → Fits opening 
 -- in which order the transactions without an answer are listed doesn't matter
 abbrev pub UnansweredInAnyOrder : Type 0
 UnansweredInAnyOrder =
-    (opening : Database) (history : List Step) (log : List Entry) (tables : Database) (admitted : ℕ) (pending other : List Unanswered)
+    (opening : Database) (history : List Step) (log : List Entry) (tables : Database) (admitted : ℕ) (pending other : List UnansweredTransaction)
     → IsPermutation pending other → Fits opening history log tables admitted pending → Fits opening history log tables admitted other
 
 -- An event tells nothing of a transaction where it is answered so: moves change nothing of what is told of transactions, and
@@ -39,30 +39,30 @@ IsQuiet event answer = ⊥
 -- after an event that tells nothing of a transaction, what fitted still fits
 abbrev pub QuietEventFits : Type 0
 QuietEventFits =
-    (opening : Database) (history : List Step) (log : List Entry) (tables : Database) (admitted : ℕ) (pending : List Unanswered)
+    (opening : Database) (history : List Step) (log : List Entry) (tables : Database) (admitted : ℕ) (pending : List UnansweredTransaction)
     (event : Event) (answer : EventAnswer)
     → IsQuiet event answer → Fits opening history log tables admitted pending
     → Fits opening (history ++ step event answer ∷ []) log tables admitted pending
 
 -- a transaction that was just admitted
-abbrev pub new_one : ℕ → ℕ → ℕ → Request → Unanswered
+abbrev pub new_one : ℕ → ℕ → ℕ → Request → UnansweredTransaction
 new_one age session number request = record { age = age; session = session; number = number; request = request; entry = None }
 
 -- after an admission of a session that has no transaction without an answer, there is one transaction more
 abbrev pub AdmissionFits : Type 0
 AdmissionFits =
-    (opening : Database) (history : List Step) (log : List Entry) (tables : Database) (admitted : ℕ) (pending : List Unanswered)
+    (opening : Database) (history : List Step) (log : List Entry) (tables : Database) (admitted : ℕ) (pending : List UnansweredTransaction)
     (session number : ℕ) (request : Request)
     → count_by (is_of session) pending ≡ 0 → Fits opening history log tables admitted pending
     → Fits opening (history ++ step (Submit session number request) (Accepted admitted) ∷ []) log tables (admitted + 1)
     (new_one admitted session number request ∷ pending)
 
 -- the transaction once its entry stands at this place
-abbrev pub with_place : ℕ → Unanswered → Unanswered
+abbrev pub with_place : ℕ → UnansweredTransaction → UnansweredTransaction
 with_place place u = record { age = u.age; session = u.session; number = u.number; request = u.request; entry = Some place }
 
 -- the entry is that of the transaction, which has none yet, with the machine's reply from these tables
-pub record IsEntryOf (u : Unanswered) (tables : Database) (entry : Entry) : Type 0 where
+pub record IsEntryOf (u : UnansweredTransaction) (tables : Database) (entry : Entry) : Type 0 where
   pub session : entry.session ≡ u.session
   pub number : entry.number ≡ u.number
   pub request : entry.request ≡ u.request
@@ -73,14 +73,14 @@ pub record IsEntryOf (u : Unanswered) (tables : Database) (entry : Entry) : Type
 -- the machine's next
 abbrev pub EntryFits : Type 0
 EntryFits =
-    (opening : Database) (history : List Step) (log : List Entry) (tables : Database) (admitted : ℕ) (pending : List Unanswered)
-    (executor : ℕ) (u : Unanswered) (entry : Entry)
+    (opening : Database) (history : List Step) (log : List Entry) (tables : Database) (admitted : ℕ) (pending : List UnansweredTransaction)
+    (executor : ℕ) (u : UnansweredTransaction) (entry : Entry)
     → IsEntryOf u tables entry → Fits opening history log tables admitted (u ∷ pending)
     → Fits opening (history ++ step (Send executor) (Logged (length log)) ∷ []) (log ++ entry ∷ []) (transaction tables entry.request).tables admitted
     (with_place (length log) u ∷ pending)
 
 -- the answer is the transaction's: the place of its entry, or a refusal where it has none
-abbrev pub IsAnswerTo : Unanswered → Result ℕ Refusal → Type 0
+abbrev pub IsAnswerTo : UnansweredTransaction → Result ℕ Refusal → Type 0
 IsAnswerTo u (Ok place) = u.entry ≡ Some place
 IsAnswerTo u (Err refusal) = u.entry ≡ None
 
@@ -88,7 +88,7 @@ IsAnswerTo u (Err refusal) = u.entry ≡ None
 -- answer no more
 abbrev pub AnswerFits : Type 0
 AnswerFits =
-    (opening : Database) (history : List Step) (log : List Entry) (tables : Database) (admitted : ℕ) (pending : List Unanswered)
-    (executor : ℕ) (u : Unanswered) (answer : Result ℕ Refusal)
+    (opening : Database) (history : List Step) (log : List Entry) (tables : Database) (admitted : ℕ) (pending : List UnansweredTransaction)
+    (executor : ℕ) (u : UnansweredTransaction) (answer : Result ℕ Refusal)
     → IsAnswerTo u answer → Fits opening history log tables admitted (u ∷ pending)
     → Fits opening (history ++ step (Send executor) (Answered u.session u.number answer) ∷ []) log tables admitted pending

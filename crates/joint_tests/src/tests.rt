@@ -3,7 +3,7 @@ use requests::{Choice, Payment, Request};
 use schema::{DistrictKey, Moment, NoMemory, Tables};
 use std::test::Fail;
 
-mod by_hand;
+mod interactive;
 mod claims;
 mod footprints;
 mod lengths;

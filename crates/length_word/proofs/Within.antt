@@ -71,8 +71,8 @@ compares slots id me is_log s holds long at small =
     let word = slice_index s.words 0 in
     let w = log_view v.reached in
     let mine = holds.each id v at in
-    let told = mine.log_knows is_log in
-    let all = all_within_set holds.log word s.views id w (λ i y _ d. holds.each i y d) (record { log_knows = λ _. told; reached = mine.reached; noted = zero-le }) in (
+    let recorded = mine.log_knows is_log in
+    let all = all_within_set holds.log word s.views id w (λ i y _ d. holds.each i y d) (record { log_knows = λ _. recorded; reached = mine.reached; noted = zero-le }) in (
       w,
       keeps,
       tt,
@@ -81,7 +81,7 @@ compares slots id me is_log s holds long at small =
         log = holds.log;
         each = subst (λ n. AllWithin holds.log n (set s.views id w)) (sym (slice_index-set s.words word holds.some_word)) all;
       },
-      (refl, subst (λ n. v.noted ≤ n) (sym told.1) mine.noted),
+      (refl, subst (λ n. v.noted ≤ n) (sym recorded.1) mine.noted),
     )
 
 -- the log's own place may make the length one more
@@ -90,12 +90,12 @@ grows slots id me n is_log next s holds long at small =
     let v = me.0 in
     let word = slice_index s.words 0 in
     let w = log_view (v.reached + 1) in
-    let told = (holds.each id v at).log_knows is_log in
-    let up : word ≤ n = omega (arith, told.1) in
+    let recorded = (holds.each id v at).log_knows is_log in
+    let up : word ≤ n = omega (arith, recorded.1) in
     let all : AllWithin holds.log n (set s.views id w) =
     all_within_set holds.log n s.views id w
-    (λ j u apart e. let theirs = holds.each j u e in record { log_knows = λ h. absurd (apart ((theirs.log_knows h).0 ∙ sym told.0)); reached = omega (arith, theirs.reached); noted = omega (arith, theirs.noted) })
-    (record { log_knows = λ _. (told.0, sym next); reached = omega arith; noted = zero-le }) in (
+    (λ j u apart e. let theirs = holds.each j u e in record { log_knows = λ h. absurd (apart ((theirs.log_knows h).0 ∙ sym recorded.0)); reached = omega (arith, theirs.reached); noted = omega (arith, theirs.noted) })
+    (record { log_knows = λ _. (recorded.0, sym next); reached = omega arith; noted = zero-le }) in (
       w,
       keeps,
       tt,

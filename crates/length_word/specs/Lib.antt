@@ -1,3 +1,3 @@
-pub mod Reaching
+pub mod LengthView
 pub mod Rule
 pub mod Place

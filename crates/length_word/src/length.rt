@@ -1,5 +1,5 @@
 ghost use Rattle.std.specs.Prelude.{◌≡◌, ◌+◌, ◌≤◌, ◌<◌, ◌^◌, max, IfOk};
-ghost use Rattle.length_word.specs.Reaching.{reaching};
+ghost use Rattle.length_word.specs.LengthView.{length_view};
 
 use crate::places::{self, Board, Place};
 use std::alloc::{AllocError, Global};
@@ -19,11 +19,11 @@ impl Model for Length {
     ghost use Rattle.std.specs.Arc.{arc_value};
     ghost use Rattle.length_word.specs.Rule.{log_view};
     ghost use Rattle.length_word.specs.Place.{IsPlaceAt};
-    ghost use Rattle.length_word.specs.Reaching.{Reaching, reaching};
+    ghost use Rattle.length_word.specs.LengthView.{LengthView, length_view};
 
-    ghost Value = { Reaching };
+    ghost Value = { LengthView };
 
-    ghost view = { λ l. reaching l.place.table_id l.entries };
+    ghost view = { λ l. length_view l.place.table_id l.entries };
 
     ghost invariant = { λ l. (IsPlaceAt (arc_value l.board).shared.table_id l.place) × (l.place.me.0 ≡ log_view l.entries) };
 }
@@ -42,11 +42,11 @@ impl Model for Mark {
     ghost use Rattle.std.specs.Arc.{arc_value};
     ghost use Rattle.length_word.specs.Rule.{mark_view};
     ghost use Rattle.length_word.specs.Place.{IsPlaceAt};
-    ghost use Rattle.length_word.specs.Reaching.{Reaching, reaching};
+    ghost use Rattle.length_word.specs.LengthView.{LengthView, length_view};
 
-    ghost Value = { Reaching };
+    ghost Value = { LengthView };
 
-    ghost view = { λ m. reaching m.place.table_id m.entries };
+    ghost view = { λ m. length_view m.place.table_id m.entries };
 
     ghost invariant = { λ m. (IsPlaceAt (arc_value m.board).shared.table_id m.place) × (m.place.me.0 ≡ mark_view m.entries) };
 }
@@ -89,7 +89,7 @@ impl Length {
     /// The log has one entry more.
     pub fn grow(&mut self)
         requires { self.old.entries + 1 < 2 ^ 32 }
-        ensures { self.new ≡ reaching self.old.table (self.old.entries + 1) }
+        ensures { self.new ≡ length_view self.old.table (self.old.entries + 1) }
     {
         self.entries += 1;
         places::lengthen(&self.board, &mut self.place, self.entries);
@@ -139,8 +139,8 @@ impl Mark {
 /// Both marks know the larger of their two numbers from now on. It waits for nobody.
 pub fn meet(one: &mut Mark, other: &mut Mark)
     requires { one.old.table ≡ other.old.table }
-    ensures one { one.new ≡ reaching one.old.table (max one.old.entries other.old.entries) }
-    ensures other { other.new ≡ reaching other.old.table (max one.old.entries other.old.entries) }
+    ensures one { one.new ≡ length_view one.old.table (max one.old.entries other.old.entries) }
+    ensures other { other.new ≡ length_view other.old.table (max one.old.entries other.old.entries) }
 {
     if one.entries < other.entries {
         one.learn(other);

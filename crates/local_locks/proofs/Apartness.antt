@@ -8,13 +8,13 @@ use Rattle.std.proofs.lemmas.List.Elements.{All-append, All-cons, All-contains, 
 use Rattle.std.proofs.lemmas.Map.Keys.{IsDistinct-from_apart}
 use Rattle.std.proofs.lemmas.Map.Steps.{length-le_from_distinct_below}
 use Rattle.requests.specs.declared.group.Group.TheVariants.{Warehouse}
-use Rattle.groups.specs.declared.wishes.Mode.{Mode}
-use Rattle.groups.specs.declared.wishes.Mode.TheVariants.{Shared}
+use Rattle.groups.specs.declared.group_wants.Mode.{Mode}
+use Rattle.groups.specs.declared.group_wants.Mode.TheVariants.{Shared}
 use Rattle.tickets.specs.Boxes.{sharing}
 use Rattle.tickets.specs.Unset.{nothing}
 use Rattle.groups.specs.declared.wants.Want.{Want}
-use Rattle.local_locks.specs.Locks.{Locked, AreLocksOf}
-use Rattle.local_locks.specs.Wishes.{IsOwn, AreApart, CanAsk}
+use Rattle.local_locks.specs.Locks.{LockView, AreLocksOf}
+use Rattle.local_locks.specs.GroupWants.{IsOwn, AreApart, CanAsk}
 use Rattle.local_locks.specs.Rulings.{Spot, spot, spots, spots_of, first_place, count_in}
 use Rattle.local_locks.specs.Granting.{AreElsewhere}
 use Rattle.local_locks.proofs.Members.{joined_contains, contains_here, contains_there}
@@ -56,12 +56,12 @@ spots_apart first (suc count) mode =
     (spots_apart (suc first) count mode)
 
 -- the places of two wants that have no group in common
-wants_apart : (warehouses w_id : ℕ) (locks : List Locked) (a b : Want) (s t : Spot) → AreLocksOf warehouses w_id locks → IsOwn warehouses w_id a → IsOwn warehouses w_id b → AreApart a b → Contains (spots_of a) s → Contains (spots_of b) t → AreElsewhere s t
+wants_apart : (warehouses w_id : ℕ) (locks : List LockView) (a b : Want) (s t : Spot) → AreLocksOf warehouses w_id locks → IsOwn warehouses w_id a → IsOwn warehouses w_id b → AreApart a b → Contains (spots_of a) s → Contains (spots_of b) t → AreElsewhere s t
 wants_apart warehouses w_id locks a b s t are own_a own_b apart c e same =
     let first = spot_inside (first_place a.extent) (count_in a.extent) a.mode s c in
     let second = spot_inside (first_place b.extent) (count_in b.extent) b.mode t e in
     let small : s.number < length locks = omega (arith, first.below, extent_inside warehouses a.extent own_a.0, are.all_there) in
-    let d : Locked = record { ticket_box = sharing (Warehouse 0) nothing 0; holders = [] } in
+    let d : LockView = record { ticket_box = sharing (Warehouse 0) nothing 0; holders = [] } in
     let at = are.each s.number d small in
     let group = (get_or locks s.number d).ticket_box.group in
     apart (
@@ -70,7 +70,7 @@ wants_apart warehouses w_id locks a b s t are own_a own_b apart c e same =
       place_covered warehouses b.extent group own_b.0 at.known (own_b.1 ∙ sym at.here) (record { from = omega (arith, second.from, at.place, same); below = omega (arith, second.below, at.place, same) }),
     )
 
-pub places_apart : (warehouses w_id : ℕ) (locks : List Locked) (wants : List Want) → AreLocksOf warehouses w_id locks → All (IsOwn warehouses w_id) wants → AllPairs AreApart wants → AllPairs AreElsewhere (flat_map spots_of wants)
+pub places_apart : (warehouses w_id : ℕ) (locks : List LockView) (wants : List Want) → AreLocksOf warehouses w_id locks → All (IsOwn warehouses w_id) wants → AllPairs AreApart wants → AllPairs AreElsewhere (flat_map spots_of wants)
 places_apart warehouses w_id locks [] are own once = pairs_none AreElsewhere
 places_apart warehouses w_id locks (want ∷ wants) are own once =
     let mine = All-head (IsOwn warehouses w_id) want wants own in
@@ -115,7 +115,7 @@ few_apart wanted apart below =
     let bound = length-le_from_distinct_below numbers 105 distinct (λ q any. below_any 105 q numbers (All-map (λ x. x < 105) number_of wanted below) any) in
     omega (arith, bound, long)
 
-pub few_places : (warehouses w_id : ℕ) (locks : List Locked) (wants : List Want) → AreLocksOf warehouses w_id locks → All (IsOwn warehouses w_id) wants → AllPairs AreApart wants → length (flat_map spots_of wants) ≤ 105
+pub few_places : (warehouses w_id : ℕ) (locks : List LockView) (wants : List Want) → AreLocksOf warehouses w_id locks → All (IsOwn warehouses w_id) wants → AllPairs AreApart wants → length (flat_map spots_of wants) ≤ 105
 few_places warehouses w_id locks wants are own once =
     few_apart (flat_map spots_of wants) (places_apart warehouses w_id locks wants are own once)
     (All-weaker (Contains (flat_map spots_of wants)) (λ (s : Spot). s.number < 105) (λ s c.

@@ -8,8 +8,8 @@ use Rattle.requests.specs.declared.group.Group.{Group}
 use Rattle.requests.specs.declared.group.Group.TheVariants as g
 use Rattle.groups.specs.Groups.{kind_of, warehouse_of}
 use Rattle.groups.specs.Wants.{kind_number, IsIn}
-use Rattle.groups.specs.declared.wishes.Mode.{Mode}
-use Rattle.groups.specs.declared.wishes.Wish.{Wish}
+use Rattle.groups.specs.declared.group_wants.Mode.{Mode}
+use Rattle.groups.specs.declared.group_wants.GroupWant.{GroupWant}
 use Rattle.groups.specs.declared.wants.Kind.{Kind}
 use Rattle.groups.specs.declared.wants.Kind.TheVariants as kind
 use Rattle.groups.specs.declared.wants.Extent.{Extent}
@@ -17,7 +17,7 @@ use Rattle.groups.specs.declared.wants.Extent.TheVariants.{One, Every}
 use Rattle.groups.specs.declared.wants.Want.{Want}
 use Rattle.tickets.specs.Places.{IsGroupOf, place_in_warehouse}
 use Rattle.tickets.proofs.OnePlace.{place_injective}
-use Rattle.local_locks.specs.Wishes.{IsThere, IsOwn, home_of, numbered, groups_under, groups_in, wish_of, wishes_in, wishes}
+use Rattle.local_locks.specs.GroupWants.{IsThere, IsOwn, home_of, numbered, groups_under, groups_in, group_want_of, group_wants_in, group_wants}
 use Rattle.local_locks.specs.Rulings.{Spot, spot, spots, spots_of, first_of, count_of, first_place, count_in}
 
 -- two groups of one warehouse and of one place are one
@@ -64,7 +64,7 @@ place_covered warehouses (Every prefix) group there known home placed = (places_
 
 -- ---- what is wanted, one by one
 
--- what comes of each place comes of each wish, where it is the same for each group of the warehouse
+-- what comes of each place comes of each want, where it is the same for each group of the warehouse
 numbered_same : {A : Type 0} (F : Spot → A) (H : Group → A) (mode : Mode) (group : ℕ → Group) (offset first count : ℕ) → ((n : ℕ) → first ≤ n → n < first + count → F (spot (offset + n) mode) ≡ H (group n))
     → map F (spots (offset + first) count mode) ≡ map H (numbered group first count)
 unfolding spots numbered
@@ -96,19 +96,19 @@ map_map : {X Y A : Type 0} (f : Y → A) (h : X → Y) (xs : List X) → map f (
 map_map f h [] = refl
 map_map f h (x ∷ xs) = ap (λ rest. f (h x) ∷ rest) (map_map f h xs)
 
-pub wished_same : {A : Type 0} (warehouses w_id : ℕ) (wants : List Want) (F : Spot → A) (H : Wish → A) → (1 ≤ w_id) × (w_id ≤ warehouses) → All (IsOwn warehouses w_id) wants
+pub group_wanted_same : {A : Type 0} (warehouses w_id : ℕ) (wants : List Want) (F : Spot → A) (H : GroupWant → A) → (1 ≤ w_id) × (w_id ≤ warehouses) → All (IsOwn warehouses w_id) wants
     → ((group : Group) (mode : Mode) → IsGroupOf warehouses group → warehouse_of group ≡ w_id → F (spot (place_in_warehouse group) mode) ≡ H (record { group = group; mode = mode }))
-    → map F (flat_map spots_of wants) ≡ map H (wishes wants)
-wished_same warehouses w_id [] F H home own same = refl
-wished_same {A} warehouses w_id (want ∷ wants) F H home own same =
+    → map F (flat_map spots_of wants) ≡ map H (group_wants wants)
+group_wanted_same warehouses w_id [] F H home own same = refl
+group_wanted_same {A} warehouses w_id (want ∷ wants) F H home own same =
     let head = All-head (IsOwn warehouses w_id) want wants own in
-    let here : map F (spots_of want) ≡ map H (wishes_in want) =
-    extent_same warehouses w_id want.extent want.mode F (λ group. H (wish_of want group)) home head.0 head.1 (λ group known at. same group want.mode known at)
-    ∙ sym (map_map H (wish_of want) (groups_in want.extent)) in
-    let rest = wished_same warehouses w_id wants F H home (All-tail (IsOwn warehouses w_id) want wants own) same in
-    map-append F (spots_of want) (flat_map spots_of wants) ∙ ap (λ all. all ++ map F (flat_map spots_of wants)) here ∙ ap (λ all. map H (wishes_in want) ++ all) rest ∙ sym (map-append H (wishes_in want) (wishes wants))
+    let here : map F (spots_of want) ≡ map H (group_wants_in want) =
+    extent_same warehouses w_id want.extent want.mode F (λ group. H (group_want_of want group)) home head.0 head.1 (λ group known at. same group want.mode known at)
+    ∙ sym (map_map H (group_want_of want) (groups_in want.extent)) in
+    let rest = group_wanted_same warehouses w_id wants F H home (All-tail (IsOwn warehouses w_id) want wants own) same in
+    map-append F (spots_of want) (flat_map spots_of wants) ∙ ap (λ all. all ++ map F (flat_map spots_of wants)) here ∙ ap (λ all. map H (group_wants_in want) ++ all) rest ∙ sym (map-append H (group_wants_in want) (group_wants wants))
 
--- there are as many places as wishes
-pub wished_length : (warehouses w_id : ℕ) (wants : List Want) → (1 ≤ w_id) × (w_id ≤ warehouses) → All (IsOwn warehouses w_id) wants → length (flat_map spots_of wants) ≡ length (wishes wants)
-wished_length warehouses w_id wants home own =
-    sym (length-map {B = ℕ} (flat_map spots_of wants) (λ s. 0)) ∙ ap length (wished_same warehouses w_id wants (λ (s : Spot). 0) (λ (w : Wish). 0) home own (λ group mode known at. refl)) ∙ length-map {B = ℕ} (wishes wants) (λ w. 0)
+-- there are as many places as wants
+pub group_wanted_length : (warehouses w_id : ℕ) (wants : List Want) → (1 ≤ w_id) × (w_id ≤ warehouses) → All (IsOwn warehouses w_id) wants → length (flat_map spots_of wants) ≡ length (group_wants wants)
+group_wanted_length warehouses w_id wants home own =
+    sym (length-map {B = ℕ} (flat_map spots_of wants) (λ s. 0)) ∙ ap length (group_wanted_same warehouses w_id wants (λ (s : Spot). 0) (λ (w : GroupWant). 0) home own (λ group mode known at. refl)) ∙ length-map {B = ℕ} (group_wants wants) (λ w. 0)

@@ -7,14 +7,14 @@ use Rattle.std.proofs.lemmas.List.Sums.{sum_by-cons, sum_by-append}
 use Rattle.requests.specs.declared.group.Group.{Group}
 use Rattle.groups.specs.Content.{Content}
 use Rattle.groups.specs.Groups.{is_same}
-use Rattle.groups.specs.declared.wishes.Mode.{Mode}
-use Rattle.groups.specs.declared.wishes.Mode.TheVariants.{Shared, Exclusive}
-use Rattle.groups.specs.declared.wishes.Wish.{Wish}
+use Rattle.groups.specs.declared.group_wants.Mode.{Mode}
+use Rattle.groups.specs.declared.group_wants.Mode.TheVariants.{Shared, Exclusive}
+use Rattle.groups.specs.declared.group_wants.GroupWant.{GroupWant}
 use Rattle.groups.proofs.SameGroups.{is_same-itself}
-use Rattle.tickets.specs.Claims.{Claiming}
-use Rattle.tickets.specs.Committed.{LeavesHere, TellsHere, exclusive_held, exclusive_of, exclusive_out, tickets_held, tickets_of, tickets_out}
+use Rattle.tickets.specs.Claims.{ClaimView}
+use Rattle.tickets.specs.Committed.{LeavesHere, RecordsHere, exclusive_held, exclusive_of, exclusive_out, tickets_held, tickets_of, tickets_out}
 use Rattle.tickets.proofs.Apart.{by_bool, by_mode, is_same-equal}
-use Rattle.local_locks.specs.Locking.{Holding}
+use Rattle.local_locks.specs.LockTableView.{HeldClaim}
 use Rattle.local_locks.specs.Conflicts.{is_shared, shared_on}
 use Rattle.local_locks.specs.Asking.{claimed, held_by, AreTogether, IsSettled}
 use Rattle.local_locks.specs.Laws.{AreCompatible, NoneConflict}
@@ -22,39 +22,39 @@ use Rattle.local_locks.specs.Keeping.{tickets_by, tickets_on, IsNewOn, GrantsKee
 
 -- ---- the tickets of claims, and of their holders
 
--- the tickets of a group that a wish is for
-tickets_for : Group → Wish → ℕ
-tickets_for group wish = if is_same wish.group group then tickets_held wish.mode else 0
+-- the tickets of a group that a want is for
+tickets_for : Group → GroupWant → ℕ
+tickets_for group group_want = if is_same group_want.group group then tickets_held group_want.mode else 0
 
-on_wishes : (group : Group) (holdings : List Holding) → sum_by (tickets_for group) (map claimed holdings) ≡ tickets_on group holdings
+on_group_wants : (group : Group) (holdings : List HeldClaim) → sum_by (tickets_for group) (map claimed holdings) ≡ tickets_on group holdings
 unfolding tickets_for
-on_wishes group [] = refl
-on_wishes group (h ∷ hs) =
-    sum_by-cons (tickets_for group) (claimed h) (map claimed hs) ∙ ap (λ (n : ℕ). tickets_by group h + n) (on_wishes group hs) ∙ sym (sum_by-cons (tickets_by group) h hs)
+on_group_wants group [] = refl
+on_group_wants group (h ∷ hs) =
+    sum_by-cons (tickets_for group) (claimed h) (map claimed hs) ∙ ap (λ (n : ℕ). tickets_by group h + n) (on_group_wants group hs) ∙ sym (sum_by-cons (tickets_by group) h hs)
 
 -- who holds these claims has their tickets
-pub on_claims : (group : Group) (claims : List Claiming) → tickets_on group (map held_by claims) ≡ tickets_out group claims
+pub on_claims : (group : Group) (claims : List ClaimView) → tickets_on group (map held_by claims) ≡ tickets_out group claims
 on_claims group [] = refl
 on_claims group (c ∷ cs) =
     sum_by-cons (tickets_by group) (held_by c) (map held_by cs) ∙ ap (λ (n : ℕ). tickets_of group c + n) (on_claims group cs) ∙ sym (sum_by-cons (tickets_of group) c cs)
 
 -- all tickets that are out are those and the others
-pub tickets_together : (group : Group) (all some others : List Holding) → AreTogether all some others → tickets_on group all ≡ tickets_on group some + tickets_on group others
+pub tickets_together : (group : Group) (all some others : List HeldClaim) → AreTogether all some others → tickets_on group all ≡ tickets_on group some + tickets_on group others
 tickets_together group all some others together =
     let moved = sum_by-IsPermutation (tickets_for group) (map claimed all) (map claimed some ++ map claimed others) together in
     let parts = sum_by-append (tickets_for group) (map claimed some) (map claimed others) in
-    omega (arith, moved, parts, on_wishes group all, on_wishes group some, on_wishes group others)
+    omega (arith, moved, parts, on_group_wants group all, on_group_wants group some, on_group_wants group others)
 
-yes_by : (group : Group) (h : Holding) → is_same h.group group ≡ true → tickets_by group h ≡ tickets_held h.mode
+yes_by : (group : Group) (h : HeldClaim) → is_same h.group group ≡ true → tickets_by group h ≡ tickets_held h.mode
 yes_by group h is = ap (λ (b : Bool). if b then tickets_held h.mode else 0) is
 
-no_by : (group : Group) (h : Holding) → is_same h.group group ≡ false → tickets_by group h ≡ 0
+no_by : (group : Group) (h : HeldClaim) → is_same h.group group ≡ false → tickets_by group h ≡ 0
 no_by group h is = ap (λ (b : Bool). if b then tickets_held h.mode else 0) is
 
-yes_exclusive : (group : Group) (c : Claiming) → is_same c.group group ≡ true → exclusive_of group c ≡ exclusive_held c.mode
+yes_exclusive : (group : Group) (c : ClaimView) → is_same c.group group ≡ true → exclusive_of group c ≡ exclusive_held c.mode
 yes_exclusive group c is = ap (λ (b : Bool). if b then exclusive_held c.mode else 0) is
 
-no_exclusive : (group : Group) (c : Claiming) → is_same c.group group ≡ false → exclusive_of group c ≡ 0
+no_exclusive : (group : Group) (c : ClaimView) → is_same c.group group ≡ false → exclusive_of group c ≡ 0
 no_exclusive group c is = ap (λ (b : Bool). if b then exclusive_held c.mode else 0) is
 
 eight_each : (mode : Mode) → 8 * exclusive_held mode ≤ tickets_held mode
@@ -66,7 +66,7 @@ one_at_least Shared = omega arith
 one_at_least Exclusive = omega arith
 
 -- an exclusive claim has eight tickets
-eight_out : (group : Group) (claims : List Claiming) → 8 * exclusive_out group claims ≤ tickets_out group claims
+eight_out : (group : Group) (claims : List ClaimView) → 8 * exclusive_out group claims ≤ tickets_out group claims
 eight_out group [] = omega arith
 eight_out group (c ∷ cs) =
     let tickets = sum_by-cons (tickets_of group) c cs in
@@ -77,11 +77,11 @@ eight_out group (c ∷ cs) =
 
 -- ---- where none conflict, no group has more than eight tickets out
 
-shared_cons : (group : Group) (h : Holding) (hs : List Holding) → shared_on group (h ∷ hs) ≡ cond {A = ℕ} (is_same h.group group && is_shared h.mode) 1 0 + shared_on group hs
-shared_cons group h hs = sum_by-cons (λ (k : Holding). cond {A = ℕ} (is_same k.group group && is_shared k.mode) 1 0) h hs
+shared_cons : (group : Group) (h : HeldClaim) (hs : List HeldClaim) → shared_on group (h ∷ hs) ≡ cond {A = ℕ} (is_same h.group group && is_shared h.mode) 1 0 + shared_on group hs
+shared_cons group h hs = sum_by-cons (λ (k : HeldClaim). cond {A = ℕ} (is_same k.group group && is_shared k.mode) 1 0) h hs
 
 -- no claim beside this one is on its group
-none_beside : (group : Group) (h : Holding) (hs : List Holding) → h.group ≡ group → h.mode ≡ Exclusive → All (AreCompatible h) hs → tickets_on group hs ≡ 0
+none_beside : (group : Group) (h : HeldClaim) (hs : List HeldClaim) → h.group ≡ group → h.mode ≡ Exclusive → All (AreCompatible h) hs → tickets_on group hs ≡ 0
 none_beside group h [] here exclusive all = refl
 none_beside group h (k ∷ hs) here exclusive all =
     by_bool (is_same k.group group) refl
@@ -92,7 +92,7 @@ none_beside group h (k ∷ hs) here exclusive all =
     unlike e = cc
 
 -- all beside this one are shared
-shared_beside : (group : Group) (h : Holding) (hs : List Holding) → h.group ≡ group → All (AreCompatible h) hs → tickets_on group hs ≡ shared_on group hs
+shared_beside : (group : Group) (h : HeldClaim) (hs : List HeldClaim) → h.group ≡ group → All (AreCompatible h) hs → tickets_on group hs ≡ shared_on group hs
 shared_beside group h [] here all = refl
 shared_beside group h (k ∷ hs) here all =
     let tickets = sum_by-cons (tickets_by group) k hs in
@@ -108,13 +108,13 @@ shared_beside group h (k ∷ hs) here all =
     let counts : cond {A = ℕ} (is_same k.group group && is_shared k.mode) 1 0 ≡ 0 = ap {B = ℕ} (λ b. cond (b && is_shared k.mode) 1 0) is in
     omega (arith, tickets, shared, rest, no_by group k is, counts))
 
-first_with : (h : Holding) (hs : List Holding) → AllPairs AreCompatible (h ∷ hs) → All (AreCompatible h) hs
+first_with : (h : HeldClaim) (hs : List HeldClaim) → AllPairs AreCompatible (h ∷ hs) → All (AreCompatible h) hs
 first_with h hs pairs = λ k d small. pairs 0 (suc k) d (omega arith) (omega (arith, small))
 
-others_with : (h : Holding) (hs : List Holding) → AllPairs AreCompatible (h ∷ hs) → AllPairs AreCompatible hs
+others_with : (h : HeldClaim) (hs : List HeldClaim) → AllPairs AreCompatible (h ∷ hs) → AllPairs AreCompatible hs
 others_with h hs pairs = λ i j d before small. pairs (suc i) (suc j) d (omega (arith, before)) (omega (arith, small))
 
-at_most_eight : (group : Group) (hs : List Holding) → AllPairs AreCompatible hs → shared_on group hs ≤ 8 → tickets_on group hs ≤ 8
+at_most_eight : (group : Group) (hs : List HeldClaim) → AllPairs AreCompatible hs → shared_on group hs ≤ 8 → tickets_on group hs ≤ 8
 at_most_eight group [] pairs most = omega arith
 at_most_eight group (h ∷ hs) pairs most =
     let tickets = sum_by-cons (tickets_by group) h hs in
@@ -132,35 +132,35 @@ at_most_eight group (h ∷ hs) pairs most =
     omega (arith, tickets, shared, most, yes_by group h is, one, counts, shared_beside group h hs here (first_with h hs pairs))))
     (λ is. omega (arith, tickets, no_by group h is, at_most_eight group hs (others_with h hs pairs) (omega (arith, most, shared))))
 
-pub few_out : (group : Group) (holdings : List Holding) → NoneConflict holdings → tickets_on group holdings ≤ 8
+pub few_out : (group : Group) (holdings : List HeldClaim) → NoneConflict holdings → tickets_on group holdings ≤ 8
 few_out group holdings none = at_most_eight group holdings none.pairs (none.most group)
 
 -- ---- what is granted
 
 module _ (here : Group → Bool) (rows : Group → Content) where
-  some_of_eight : (group : Group) (claims : List Claiming) (c : Claiming) → c.group ≡ group → 1 ≤ tickets_out group (c ∷ claims)
+  some_of_eight : (group : Group) (claims : List ClaimView) (c : ClaimView) → c.group ≡ group → 1 ≤ tickets_out group (c ∷ claims)
   some_of_eight group claims c own =
       let same : is_same c.group group ≡ true = ap (λ (g : Group). is_same c.group g) (sym own) ∙ is_same-itself c.group in
       omega (arith, sum_by-cons (tickets_of group) c claims, yes_by group (held_by c) same, one_at_least c.mode)
 
   -- Each tells what is committed: where it is on a group that is here, no exclusive claim was out on it.
-  granted_told : (tables : Group → Content) (old : List Holding) (all others : List Claiming)
+  granted_recorded : (tables : Group → Content) (old : List HeldClaim) (all others : List ClaimView)
       → ((group : Group) → IsTrue (here group) → tickets_out group others + (8 - tickets_on group old) ≡ 8)
       → ((group : Group) → tickets_out group all + tickets_on group old ≤ 8)
       → ((group : Group) → IsTrue (here group) → exclusive_out group others ≡ 0 → rows group ≡ tables group)
-      → (claims : List Claiming) → All (IsNewOn rows) claims → ((group : Group) → tickets_out group claims ≤ tickets_out group all)
-      → All (TellsHere here tables) claims
-  granted_told tables old all others tickets most same [] new some = All-nil (TellsHere here tables)
-  granted_told tables old all others tickets most same (c ∷ claims) new some =
+      → (claims : List ClaimView) → All (IsNewOn rows) claims → ((group : Group) → tickets_out group claims ≤ tickets_out group all)
+      → All (RecordsHere here tables) claims
+  granted_recorded tables old all others tickets most same [] new some = All-nil (RecordsHere here tables)
+  granted_recorded tables old all others tickets most same (c ∷ claims) new some =
       let is = All-head (IsNewOn rows) c claims new in
-      All-cons (TellsHere here tables) c claims
+      All-cons (RecordsHere here tables) c claims
       (λ near.
       let mine = some_of_eight c.group claims c refl in
       let none : exclusive_out c.group others ≡ 0 = omega (arith, eight_out c.group others, tickets c.group near, most c.group, some c.group, mine) in
-      sym (same c.group near none) ∙ sym is.told)
-      (granted_told tables old all others tickets most same claims (All-tail (IsNewOn rows) c claims new) (λ group. omega (arith, some group, sum_by-cons (tickets_of group) c claims)))
+      sym (same c.group near none) ∙ sym is.recorded)
+      (granted_recorded tables old all others tickets most same claims (All-tail (IsNewOn rows) c claims new) (λ group. omega (arith, some group, sum_by-cons (tickets_of group) c claims)))
 
-  granted_left : (claims : List Claiming) → All (IsNewOn rows) claims → All (LeavesHere here rows) claims
+  granted_left : (claims : List ClaimView) → All (IsNewOn rows) claims → All (LeavesHere here rows) claims
   granted_left claims new = λ k d small near exclusive. sym (new k d small).left
 
   all_others : {X : Type 0} (P : X → Type 0) (xs ys : List X) → All P (xs ++ ys) → All P ys
@@ -170,13 +170,13 @@ module _ (here : Group → Bool) (rows : Group → Content) where
   -- ---- what comes back
 
   -- an exclusive claim that is settled tells what stands in its group
-  settled_stands : (tables : Group → Content) (group : Group) (claims others : List Claiming) → IsTrue (here group) → All IsSettled claims → All (TellsHere here tables) (claims ++ others) → All (LeavesHere here rows) (claims ++ others)
+  settled_stands : (tables : Group → Content) (group : Group) (claims others : List ClaimView) → IsTrue (here group) → All IsSettled claims → All (RecordsHere here tables) (claims ++ others) → All (LeavesHere here rows) (claims ++ others)
       → 1 ≤ exclusive_out group claims → rows group ≡ tables group
-  settled_stands tables group [] others near settled told left some = absurd (omega (arith, some))
-  settled_stands tables group (c ∷ claims) others near settled told left some =
+  settled_stands tables group [] others near settled recorded left some = absurd (omega (arith, some))
+  settled_stands tables group (c ∷ claims) others near settled recorded left some =
       let cons = sum_by-cons (exclusive_of group) c claims in
       let later = λ (none : exclusive_of group c ≡ 0).
-      settled_stands tables group claims others near (All-tail IsSettled c claims settled) (All-tail (TellsHere here tables) c (claims ++ others) told) (All-tail (LeavesHere here rows) c (claims ++ others) left) (omega (arith, some, cons, none)) in
+      settled_stands tables group claims others near (All-tail IsSettled c claims settled) (All-tail (RecordsHere here tables) c (claims ++ others) recorded) (All-tail (LeavesHere here rows) c (claims ++ others) left) (omega (arith, some, cons, none)) in
       by_bool (is_same c.group group) refl
       (λ is.
       let own = is_same-equal c.group group is in
@@ -184,8 +184,8 @@ module _ (here : Group → Bool) (rows : Group → Content) where
       (λ mode.
       let there : IsTrue (here c.group) = subst (λ (g : Group). IsTrue (here g)) (sym own) near in
       let stands = All-head (LeavesHere here rows) c (claims ++ others) left there mode in
-      let tells = All-head (TellsHere here tables) c (claims ++ others) told there in
-      subst (λ (g : Group). rows g ≡ tables g) own (stands ∙ sym (All-head IsSettled c claims settled mode) ∙ sym tells))
+      let records = All-head (RecordsHere here tables) c (claims ++ others) recorded there in
+      subst (λ (g : Group). rows g ≡ tables g) own (stands ∙ sym (All-head IsSettled c claims settled mode) ∙ sym records))
       (λ mode. let bare : exclusive_held c.mode ≡ 0 = ap {B = ℕ} exclusive_held mode in later (yes_exclusive group c is ∙ bare)))
       (λ is. later (no_exclusive group c is))
 
@@ -199,7 +199,7 @@ grants_keep here rows granted old new together none all = λ tables others h.
     let most : (group : Group) → tickets_out group granted + tickets_on group old ≤ 8 = λ group. omega (arith, parts group, mine group, few_out group new none) in
     record {
       tickets = λ group near. omega (arith, h.tickets group near, parts group, mine group, few_out group new none, sum_by-append (tickets_of group) granted others);
-      told = All-append (TellsHere here tables) granted others (granted_told here rows tables old granted others h.tickets most h.others granted all (λ group. omega arith)) h.told;
+      recorded = All-append (RecordsHere here tables) granted others (granted_recorded here rows tables old granted others h.tickets most h.others granted all (λ group. omega arith)) h.recorded;
       left = All-append (LeavesHere here rows) granted others (granted_left here rows granted all) h.left;
       others = λ group near free. h.others group near (omega (arith, free, sum_by-append (exclusive_of group) granted others));
     }
@@ -208,11 +208,11 @@ pub returns_keep : ReturnsKeepCommitted
 returns_keep here rows claims old new together none settled = λ tables others h.
     record {
       tickets = λ group near. omega (arith, h.tickets group near, tickets_together group old (map held_by claims) new together, on_claims group claims, few_out group old none, sum_by-append (tickets_of group) claims others);
-      told = all_others here rows (TellsHere here tables) claims others h.told;
+      recorded = all_others here rows (RecordsHere here tables) claims others h.recorded;
       left = all_others here rows (LeavesHere here rows) claims others h.left;
       others = λ group near free.
           ⊎_elim
           (λ (bare : exclusive_out group claims ≡ 0). h.others group near (omega (arith, free, bare, sum_by-append (exclusive_of group) claims others)))
-          (λ (some : 1 ≤ exclusive_out group claims). settled_stands here rows tables group claims others near settled h.told h.left some)
+          (λ (some : 1 ≤ exclusive_out group claims). settled_stands here rows tables group claims others near settled h.recorded h.left some)
           (none_or_some (exclusive_out group claims));
     }

@@ -8,7 +8,7 @@ pub mod Covering
 pub mod Views
 pub mod Apartness
 pub mod Rising
-pub mod Wished
+pub mod GroupWanted
 pub mod Asks
 pub mod Taken
 pub mod Returns

@@ -4,12 +4,12 @@ use Rattle.std.proofs.lemmas.List.{get_or-map, length-map}
 use Rattle.requests.specs.declared.group.Group.{Group}
 use Rattle.requests.specs.declared.group.Group.TheVariants.{Warehouse}
 use Rattle.groups.specs.Groups.{warehouse_of}
-use Rattle.tickets.specs.Boxes.{Boxed}
-use Rattle.tickets.specs.LogSeats.{Committed}
+use Rattle.tickets.specs.Boxes.{TicketBoxView}
+use Rattle.tickets.specs.LogSeats.{CommittedGroup}
 use Rattle.tickets.specs.Openings.{box_beside, boxes_beside}
 use Rattle.tickets.specs.Places.{IsGroupOf, AreInPlace, place_of, place_in_warehouse}
 use Rattle.tickets.specs.Unset.{nothing}
-use Rattle.local_locks.specs.Locking.{IsBoxAt, AreBoxesOf}
+use Rattle.local_locks.specs.LockTableView.{IsBoxAt, AreBoxesOf}
 
 only_warehouse : (group : Group) → IsGroupOf 1 group → warehouse_of group ≡ 1
 only_warehouse group known = grind arith
@@ -17,11 +17,11 @@ only_warehouse group known = grind arith
 only_place : (group : Group) → IsGroupOf 1 group → place_of group ≡ place_in_warehouse group
 only_place group known = grind arith
 
-pub boxes_of_one : (seats : List Committed) (boxes : List Boxed) → AreInPlace 1 seats → boxes ≡ boxes_beside seats → AreBoxesOf 1 1 boxes
+pub boxes_of_one : (seats : List CommittedGroup) (boxes : List TicketBoxView) → AreInPlace 1 seats → boxes ≡ boxes_beside seats → AreBoxesOf 1 1 boxes
 boxes_of_one seats boxes places same = subst (AreBoxesOf 1 1) (sym same) (record {
   all_there = length-map seats box_beside ∙ places.all_there;
   each = λ k d small.
-      let e : Committed = record { group = Warehouse 0; content = nothing } in
+      let e : CommittedGroup = record { group = Warehouse 0; content = nothing } in
       let inside : k < length seats = omega (arith, small, places.all_there) in
       let seat = get_or seats k e in
       let known : IsGroupOf 1 seat.group = places.at_places.groups k e inside in

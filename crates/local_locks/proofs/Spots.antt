@@ -6,8 +6,8 @@ use Rattle.std.proofs.lemmas.List.{append-nil, take_more, take_all}
 use Rattle.std.proofs.lemmas.List.Concat.{flat_map-append}
 use Rattle.requests.specs.declared.group.Group.TheVariants.{Warehouse}
 use Rattle.groups.specs.declared.wants.Want.{Want}
-use Rattle.groups.specs.declared.wishes.Mode.{Mode}
-use Rattle.groups.specs.declared.wishes.Mode.TheVariants.{Shared}
+use Rattle.groups.specs.declared.group_wants.Mode.{Mode}
+use Rattle.groups.specs.declared.group_wants.Mode.TheVariants.{Shared}
 use Rattle.local_locks.specs.Rulings.{Spot, spot, spots, first_of, count_of, first_place, count_in}
 use Rattle.std.proofs.lemmas.List.{take-append-drop, length-append, get_or_append_left, get_or-append_right, get_or_default}
 use Rattle.std.proofs.lemmas.List.Elements.{All-contains_itself, All-weaker}
@@ -17,7 +17,7 @@ use Rattle.groups.specs.declared.wants.Extent.{Extent}
 use Rattle.groups.specs.declared.wants.Extent.TheVariants.{One, Every}
 use Rattle.requests.specs.declared.group.Group.{Group}
 use Rattle.tickets.specs.Places.{IsGroupOf, place_in_warehouse}
-use Rattle.local_locks.specs.Wishes.{IsThere}
+use Rattle.local_locks.specs.GroupWants.{IsThere}
 use Rattle.local_locks.specs.Granting.{IsNotAt}
 use Rattle.local_locks.proofs.Members.{contains_none, contains_cases, contains_here, contains_there}
 

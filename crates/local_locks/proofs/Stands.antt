@@ -8,20 +8,20 @@ use Rattle.groups.specs.Content.{Content}
 use Rattle.groups.specs.Groups.{is_same, warehouse_of}
 use Rattle.groups.proofs.SameGroups.{is_same-itself}
 use Rattle.tickets.specs.Boxes.{sharing}
-use Rattle.tickets.specs.Claims.{Claiming}
+use Rattle.tickets.specs.Claims.{ClaimView}
 use Rattle.tickets.specs.Places.{IsGroupOf, place_in_warehouse}
 use Rattle.tickets.specs.Unset.{nothing}
 use Rattle.local_locks.specs.Asking.{all_kept_after, kept_after, left_after}
-use Rattle.local_locks.specs.Locking.{AreStandsOf, IsStandAt, Stand, left_in}
-use Rattle.local_locks.specs.Locks.{AreLocksOf, Locked, stand_in}
+use Rattle.local_locks.specs.LockTableView.{AreStandsOf, IsStandAt, Stand, left_in}
+use Rattle.local_locks.specs.Locks.{AreLocksOf, LockView, stand_in}
 use Rattle.local_locks.proofs.Covering.{one_group}
 
-pub stands_of : (warehouses w_id : ℕ) (locks : List Locked) → AreLocksOf warehouses w_id locks → AreStandsOf warehouses w_id (map stand_in locks)
+pub stands_of : (warehouses w_id : ℕ) (locks : List LockView) → AreLocksOf warehouses w_id locks → AreStandsOf warehouses w_id (map stand_in locks)
 stands_of warehouses w_id locks are = record {
   all_there = length-map locks stand_in ∙ are.all_there;
   each = λ k d small.
       let there : k < length locks = omega (arith, small, are.all_there) in
-      let e : Locked = record { ticket_box = sharing (Warehouse 0) nothing 0; holders = [] } in
+      let e : LockView = record { ticket_box = sharing (Warehouse 0) nothing 0; holders = [] } in
       let at = are.each k e there in
       let is : IsStandAt warehouses w_id k (stand_in (get_or locks k e)) = record { known = at.known; here = at.here; place = at.place } in
       subst (IsStandAt warehouses w_id k) (sym (get_or-map stand_in locks k e d there)) is;
@@ -48,7 +48,7 @@ left_there warehouses w_id stands group content are known home =
     ∙ ap (λ (t : Bool). if t then content else stand.left) test
 
 -- claims that come back leave what stands there
-pub left_kept : (claims : List Claiming) (stands : List Stand) (group : Group) → place_in_warehouse group < length stands → left_in (all_kept_after claims stands) group ≡ left_in stands group
+pub left_kept : (claims : List ClaimView) (stands : List Stand) (group : Group) → place_in_warehouse group < length stands → left_in (all_kept_after claims stands) group ≡ left_in stands group
 left_kept [] stands group small = refl
 left_kept (claim ∷ claims) stands group small =
     let d = unset group in

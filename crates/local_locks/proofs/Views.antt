@@ -10,18 +10,18 @@ use Rattle.std.proofs.lemmas.List.Elements.{All-contains, Contains-get_or}
 use Rattle.std.proofs.lemmas.List.Sums.{sum_by-cons, sum_by-append}
 use Rattle.requests.specs.declared.group.Group.{Group}
 use Rattle.groups.specs.Groups.{group_cmp, is_same, warehouse_of, kind_of, number_of}
-use Rattle.groups.specs.declared.wishes.Mode.{Mode}
-use Rattle.groups.specs.declared.wishes.Mode.TheVariants.{Shared, Exclusive}
+use Rattle.groups.specs.declared.group_wants.Mode.{Mode}
+use Rattle.groups.specs.declared.group_wants.Mode.TheVariants.{Shared, Exclusive}
 use Rattle.groups.specs.declared.wants.Want.{Want}
 use Rattle.groups.proofs.SameGroups.{is_same-itself, is_same-other}
 use Rattle.tickets.proofs.Apart.{by_mode}
 use Rattle.tickets.specs.Places.{IsGroupOf, place_in_warehouse}
 use Rattle.wait_die.specs.declared.deciding.Holder.{Holder}
 use Rattle.local_locks.specs.declared.rulings.Ruling.TheVariants.{Free, Waits, Dies}
-use Rattle.local_locks.specs.Locking.{Holding}
+use Rattle.local_locks.specs.LockTableView.{HeldClaim}
 use Rattle.local_locks.specs.Conflicts.{is_shared, shared_on, ClaimConflicts, Blocks, IsFree, MustWait, MustDie}
-use Rattle.local_locks.specs.Wishes.{IsOwn}
-use Rattle.local_locks.specs.Locks.{Locked, Agree, IsLocked, is_taken, conflicting, holding, holdings_of, IsLockAt, AreLocksOf}
+use Rattle.local_locks.specs.GroupWants.{IsOwn}
+use Rattle.local_locks.specs.Locks.{LockView, Agree, IsLocked, is_taken, conflicting, holding, holdings_of, IsLockAt, AreLocksOf}
 use Rattle.local_locks.specs.Rulings.{spot, spots_of, first_place, count_in, conflicting_at, Stops, IsRuling}
 use Rattle.local_locks.proofs.Joins.{at_place}
 use Rattle.local_locks.proofs.Members.{contains_none, contains_cases, contains_here, contains_there, contains_joined, joined_contains, contains_any}
@@ -47,11 +47,11 @@ unmapped {X} {Y} f (x ∷ xs) y c =
 -- ---- one lock after another
 
 -- the locks of these places, from the first on
-abbrev pub AreFrom : ℕ → ℕ → ℕ → List Locked → Type 0
+abbrev pub AreFrom : ℕ → ℕ → ℕ → List LockView → Type 0
 AreFrom warehouses w_id first [] = Unit {0}
 AreFrom warehouses w_id first (lock ∷ locks) = IsLockAt warehouses w_id first lock × AreFrom warehouses w_id (suc first) locks
 
-pub are_from : (warehouses w_id first : ℕ) (locks : List Locked) → ((k : ℕ) (d : Locked) → k < length locks → IsLockAt warehouses w_id (first + k) (get_or locks k d)) → AreFrom warehouses w_id first locks
+pub are_from : (warehouses w_id first : ℕ) (locks : List LockView) → ((k : ℕ) (d : LockView) → k < length locks → IsLockAt warehouses w_id (first + k) (get_or locks k d)) → AreFrom warehouses w_id first locks
 are_from warehouses w_id first [] each = tt
 are_from warehouses w_id first (lock ∷ locks) each =
     let here : first + 0 ≡ first = omega arith in
@@ -66,10 +66,10 @@ abbrev pub shared_count : Mode → List Holder → ℕ
 shared_count Shared holders = length holders
 shared_count Exclusive holders = 0
 
-count_cons : (p : Holding → Bool) (h : Holding) (hs : List Holding) → count_by p (h ∷ hs) ≡ cond (p h) 1 0 + count_by p hs
+count_cons : (p : HeldClaim → Bool) (h : HeldClaim) (hs : List HeldClaim) → count_by p (h ∷ hs) ≡ cond (p h) 1 0 + count_by p hs
 count_cons p h hs = sum_by-cons (λ x. cond (p x) 1 0) h hs
 
-pub count_append : (p : Holding → Bool) (xs ys : List Holding) → count_by p (xs ++ ys) ≡ count_by p xs + count_by p ys
+pub count_append : (p : HeldClaim → Bool) (xs ys : List HeldClaim) → count_by p (xs ++ ys) ≡ count_by p xs + count_by p ys
 count_append p xs ys = sum_by-append (λ x. cond (p x) 1 0) xs ys
 
 -- those of another group
@@ -98,7 +98,7 @@ all_there group own mode (x ∷ xs) same =
     one_more Shared rest = omega (arith, rest)
     one_more Exclusive rest = omega (arith, rest)
 
-pub shared_elsewhere : (warehouses w_id first : ℕ) (locks : List Locked) (group : Group) → AreFrom warehouses w_id first locks → place_in_warehouse group < first → shared_on group (flat_map holdings_of locks) ≡ 0
+pub shared_elsewhere : (warehouses w_id first : ℕ) (locks : List LockView) (group : Group) → AreFrom warehouses w_id first locks → place_in_warehouse group < first → shared_on group (flat_map holdings_of locks) ≡ 0
 shared_elsewhere warehouses w_id first [] group are before = refl
 shared_elsewhere warehouses w_id first (lock ∷ locks) group are before =
     let own = lock.ticket_box.group in
@@ -107,12 +107,12 @@ shared_elsewhere warehouses w_id first (lock ∷ locks) group are before =
     ∙ omega (arith, none_there group own lock.ticket_box.mode lock.holders apart, shared_elsewhere warehouses w_id (suc first) locks group are.1 (omega (arith, before)))
 
 -- the place of a lock's group
-pub lock_place : (warehouses w_id first : ℕ) (locks : List Locked) (k : ℕ) (d : Locked) → AreFrom warehouses w_id first locks → k < length locks → place_in_warehouse (get_or locks k d).ticket_box.group ≡ first + k
+pub lock_place : (warehouses w_id first : ℕ) (locks : List LockView) (k : ℕ) (d : LockView) → AreFrom warehouses w_id first locks → k < length locks → place_in_warehouse (get_or locks k d).ticket_box.group ≡ first + k
 lock_place warehouses w_id first [] k d are small = absurd (omega (arith, small))
 lock_place warehouses w_id first (lock ∷ locks) zero d are small = omega (arith, are.0.place)
 lock_place warehouses w_id first (lock ∷ locks) (suc k) d are small = omega (arith, lock_place warehouses w_id (suc first) locks k d are.1 (omega (arith, small)))
 
-shared_from : (warehouses w_id first : ℕ) (locks : List Locked) (k : ℕ) (d : Locked) → AreFrom warehouses w_id first locks → k < length locks
+shared_from : (warehouses w_id first : ℕ) (locks : List LockView) (k : ℕ) (d : LockView) → AreFrom warehouses w_id first locks → k < length locks
     → shared_on (get_or locks k d).ticket_box.group (flat_map holdings_of locks) ≡ shared_count (get_or locks k d).ticket_box.mode (get_or locks k d).holders
 shared_from warehouses w_id first [] k d are small = absurd (omega (arith, small))
 shared_from warehouses w_id first (lock ∷ locks) zero d are small =
@@ -128,7 +128,7 @@ shared_from warehouses w_id first (lock ∷ locks) (suc k) d are small =
     count_append (λ h. is_same h.group group && is_shared h.mode) (holdings_of lock) (flat_map holdings_of locks)
     ∙ omega (arith, none_there group own lock.ticket_box.mode lock.holders apart, shared_from warehouses w_id (suc first) locks k d are.1 (omega (arith, small)))
 
-pub shared_there : (warehouses w_id : ℕ) (locks : List Locked) (number : ℕ) (d : Locked) → AreLocksOf warehouses w_id locks → number < length locks
+pub shared_there : (warehouses w_id : ℕ) (locks : List LockView) (number : ℕ) (d : LockView) → AreLocksOf warehouses w_id locks → number < length locks
     → shared_on (get_or locks number d).ticket_box.group (flat_map holdings_of locks) ≡ shared_count (get_or locks number d).ticket_box.mode (get_or locks number d).holders
 shared_there warehouses w_id locks number d are small =
     shared_from warehouses w_id 0 locks number d (are_from warehouses w_id 0 locks (λ k e inside. subst (λ (n : ℕ). IsLockAt warehouses w_id n (get_or locks k e)) (omega arith) (are.each k e inside))) small
@@ -136,14 +136,14 @@ shared_there warehouses w_id locks number d are small =
 -- ---- who holds what
 
 -- a holder stands at a lock, by its group and mode
-pub record IsHeldAt (locks : List Locked) (h : Holding) (number : ℕ) (lock : Locked) : Type 0 where
+pub record IsHeldAt (locks : List LockView) (h : HeldClaim) (number : ℕ) (lock : LockView) : Type 0 where
   pub small : number < length locks
   pub is : get_or locks number lock ≡ lock
   pub by : Contains lock.holders h.by
   pub group : lock.ticket_box.group ≡ h.group
   pub mode : lock.ticket_box.mode ≡ h.mode
 
-pub held_somewhere : (locks : List Locked) (h : Holding) → Contains (flat_map holdings_of locks) h → (number : ℕ) × (lock : Locked) × IsHeldAt locks h number lock
+pub held_somewhere : (locks : List LockView) (h : HeldClaim) → Contains (flat_map holdings_of locks) h → (number : ℕ) × (lock : LockView) × IsHeldAt locks h number lock
 held_somewhere locks h c =
     let found = joined_contains holdings_of locks h c in
     let lock = found.0 in
@@ -153,13 +153,13 @@ held_somewhere locks h c =
       record {
         small = found.1.1;
         is = found.1.2;
-        by = subst (Contains lock.holders) (ap (λ (x : Holding). x.by) one.2) one.1;
-        group = ap (λ (x : Holding). x.group) one.2;
-        mode = ap (λ (x : Holding). x.mode) one.2;
+        by = subst (Contains lock.holders) (ap (λ (x : HeldClaim). x.by) one.2) one.1;
+        group = ap (λ (x : HeldClaim). x.group) one.2;
+        mode = ap (λ (x : HeldClaim). x.mode) one.2;
       },
     )
 
-pub held_here : (locks : List Locked) (number : ℕ) (d : Locked) (by : Holder) → number < length locks → Contains (get_or locks number d).holders by
+pub held_here : (locks : List LockView) (number : ℕ) (d : LockView) (by : Holder) → number < length locks → Contains (get_or locks number d).holders by
     → Contains (flat_map holdings_of locks) (holding (get_or locks number d).ticket_box.group (get_or locks number d).ticket_box.mode by)
 held_here locks number d by small c =
     let lock = get_or locks number d in
@@ -167,17 +167,17 @@ held_here locks number d by small c =
 
 -- ---- who is in the way
 
-taken : (mode : Mode) (lock : Locked) (by : Holder) → is_taken mode lock.ticket_box.mode (length lock.holders) ≡ true → Contains lock.holders by → Contains (conflicting mode lock) by
+taken : (mode : Mode) (lock : LockView) (by : Holder) → is_taken mode lock.ticket_box.mode (length lock.holders) ≡ true → Contains lock.holders by → Contains (conflicting mode lock) by
 taken mode lock by is c = subst (λ (b : Bool). Contains (if b then lock.holders else []) by) (sym is) c
 
-untaken : (mode : Mode) (lock : Locked) (by : Holder) → Contains (conflicting mode lock) by → (is_taken mode lock.ticket_box.mode (length lock.holders) ≡ true) × Contains lock.holders by
+untaken : (mode : Mode) (lock : LockView) (by : Holder) → Contains (conflicting mode lock) by → (is_taken mode lock.ticket_box.mode (length lock.holders) ≡ true) × Contains lock.holders by
 untaken mode lock by c = by_test (is_taken mode lock.ticket_box.mode (length lock.holders)) refl c
   where
     by_test : (b : Bool) → is_taken mode lock.ticket_box.mode (length lock.holders) ≡ b → Contains (if b then lock.holders else []) by → (is_taken mode lock.ticket_box.mode (length lock.holders) ≡ true) × Contains lock.holders by
     by_test true is c = (is, c)
     by_test false is c = contains_none by c
 
--- whether a wish for a lock's group conflicts with its holders
+-- whether a want for a lock's group conflicts with its holders
 taken_where : (mode held : Mode) (holders : List Holder) (shared : ℕ) → length holders ≤ 8 → shared ≡ shared_count held holders → (mode ≡ Exclusive) ⊎ ((held ≡ Exclusive) ⊎ (8 ≤ shared)) → is_taken mode held (length holders) ≡ true
 taken_where Exclusive held holders shared few is conflict = refl
 taken_where Shared Exclusive holders shared few is conflict = refl
@@ -194,19 +194,19 @@ where_taken Exclusive held holders shared is taken = inl refl
 where_taken Shared Exclusive holders shared is taken = inr (inl refl)
 where_taken Shared Shared holders shared is taken = inr (inr (omega (arith, is, eqb-true (length holders) 8 taken)))
 
-pub few_holders : (lock : Locked) → IsLocked lock → length lock.holders ≤ 8
+pub few_holders : (lock : LockView) → IsLocked lock → length lock.holders ≤ 8
 few_holders lock agree =
     by_mode lock.ticket_box.mode refl
     (λ exclusive. let one : Agree Exclusive lock.ticket_box lock.holders = subst (λ m. Agree m lock.ticket_box lock.holders) exclusive agree in omega (arith, one.1))
     (λ shared. let some : Agree Shared lock.ticket_box lock.holders = subst (λ m. Agree m lock.ticket_box lock.holders) shared agree in some.1)
 
 -- one who is in the way stands at a place that is wanted
-pub record IsInTheWay (warehouses w_id : ℕ) (locks : List Locked) (wants : List Want) (h : Holding) : Type 0 where
+pub record IsInTheWay (warehouses w_id : ℕ) (locks : List LockView) (wants : List Want) (h : HeldClaim) : Type 0 where
   pub stops : Stops locks (flat_map spots_of wants) (place_in_warehouse h.group) h.by
   pub known : IsGroupOf warehouses h.group
   pub home : warehouse_of h.group ≡ w_id
 
-pub in_the_way : (warehouses w_id : ℕ) (locks : List Locked) (wants : List Want) (h : Holding) → AreLocksOf warehouses w_id locks → Blocks (flat_map holdings_of locks) wants h → IsInTheWay warehouses w_id locks wants h
+pub in_the_way : (warehouses w_id : ℕ) (locks : List LockView) (wants : List Want) (h : HeldClaim) → AreLocksOf warehouses w_id locks → Blocks (flat_map holdings_of locks) wants h → IsInTheWay warehouses w_id locks wants h
 in_the_way warehouses w_id locks wants h are blocks =
     let found = held_somewhere locks h blocks.0 in
     let number = found.0 in
@@ -220,7 +220,7 @@ in_the_way warehouses w_id locks wants h are blocks =
     let place : place_in_warehouse h.group ≡ number = ap place_in_warehouse (sym held.group) ∙ at.place in
     let count : shared_on h.group (flat_map holdings_of locks) ≡ shared_count lock.ticket_box.mode lock.holders =
     ap (λ (g : Group). shared_on g (flat_map holdings_of locks)) (sym held.group)
-    ∙ subst (λ (l : Locked). shared_on l.ticket_box.group (flat_map holdings_of locks) ≡ shared_count l.ticket_box.mode l.holders) held.is (shared_there warehouses w_id locks number lock are held.small) in
+    ∙ subst (λ (l : LockView). shared_on l.ticket_box.group (flat_map holdings_of locks) ≡ shared_count l.ticket_box.mode l.holders) held.is (shared_there warehouses w_id locks number lock are held.small) in
     let apart = subst (λ (m : Mode). (want.mode ≡ Exclusive) ⊎ ((m ≡ Exclusive) ⊎ (8 ≤ shared_on h.group (flat_map holdings_of locks)))) (sym held.mode) conflict.apart in
     let test = taken_where want.mode lock.ticket_box.mode lock.holders (shared_on h.group (flat_map holdings_of locks)) (few_holders lock at.agree) count apart in
     let here : Contains (conflicting want.mode lock) h.by = taken want.mode lock h.by test held.by in
@@ -238,15 +238,15 @@ in_the_way warehouses w_id locks wants h are blocks =
     }
 
 -- who holds the group of a place with this age and place
-abbrev pub held_of : List Locked → ℕ → Locked → Holder → Holding
+abbrev pub held_of : List LockView → ℕ → LockView → Holder → HeldClaim
 held_of locks number d by = holding (get_or locks number d).ticket_box.group (get_or locks number d).ticket_box.mode by
 
-nothing_at : (locks : List Locked) (mode : Mode) (number : ℕ) (by : Holder) → length locks ≤ number → Contains (conflicting_at locks mode number) by → ⊥
+nothing_at : (locks : List LockView) (mode : Mode) (number : ℕ) (by : Holder) → length locks ≤ number → Contains (conflicting_at locks mode number) by → ⊥
 nothing_at locks mode number by past c =
     contains_none by (subst (λ hs. Contains hs by) (get_or_past (map (conflicting mode) locks) number [] (omega (arith, past, length-map locks (conflicting mode)))) c)
 
 -- who stands in the way at a place has a claim that conflicts
-pub stands_in_the_way : (warehouses w_id : ℕ) (locks : List Locked) (wants : List Want) (number : ℕ) (d : Locked) (by : Holder) → AreLocksOf warehouses w_id locks → All (IsOwn warehouses w_id) wants
+pub stands_in_the_way : (warehouses w_id : ℕ) (locks : List LockView) (wants : List Want) (number : ℕ) (d : LockView) (by : Holder) → AreLocksOf warehouses w_id locks → All (IsOwn warehouses w_id) wants
     → Stops locks (flat_map spots_of wants) number by → (number < length locks) × Blocks (flat_map holdings_of locks) wants (held_of locks number d by)
 stands_in_the_way warehouses w_id locks wants number d by are own stops = by_place (lt_or_le number (length locks))
   where
@@ -278,12 +278,12 @@ stands_in_the_way warehouses w_id locks wants number d by are own stops = by_pla
 
 -- ---- what is said
 
-pub tells_free : (warehouses w_id : ℕ) (locks : List Locked) (wants : List Want) (age : ℕ) → AreLocksOf warehouses w_id locks → IsRuling age locks (flat_map spots_of wants) Free → IsFree (flat_map holdings_of locks) wants
-tells_free warehouses w_id locks wants age are none = λ h blocks. none (place_in_warehouse h.group) h.by (in_the_way warehouses w_id locks wants h are blocks).stops
+pub records_free : (warehouses w_id : ℕ) (locks : List LockView) (wants : List Want) (age : ℕ) → AreLocksOf warehouses w_id locks → IsRuling age locks (flat_map spots_of wants) Free → IsFree (flat_map holdings_of locks) wants
+records_free warehouses w_id locks wants age are none = λ h blocks. none (place_in_warehouse h.group) h.by (in_the_way warehouses w_id locks wants h are blocks).stops
 
-pub tells_wait : (warehouses w_id : ℕ) (locks : List Locked) (wants : List Want) (age : ℕ) (d : Locked) → AreLocksOf warehouses w_id locks → All (IsOwn warehouses w_id) wants → IsRuling age locks (flat_map spots_of wants) Waits
+pub records_wait : (warehouses w_id : ℕ) (locks : List LockView) (wants : List Want) (age : ℕ) (d : LockView) → AreLocksOf warehouses w_id locks → All (IsOwn warehouses w_id) wants → IsRuling age locks (flat_map spots_of wants) Waits
     → MustWait (flat_map holdings_of locks) age wants
-tells_wait warehouses w_id locks wants age d are own waits = record {
+records_wait warehouses w_id locks wants age d are own waits = record {
   some = (held_of locks waits.some.0 d waits.some.1, (stands_in_the_way warehouses w_id locks wants waits.some.0 d waits.some.1 are own waits.some.2).1);
   younger = λ h blocks. waits.younger (place_in_warehouse h.group) h.by (in_the_way warehouses w_id locks wants h are blocks).stops;
 }
@@ -301,9 +301,9 @@ not_after : (warehouses : ℕ) (a b : Group) → IsGroupOf warehouses a → IsGr
 not_after warehouses a b known_a known_b home before =
     compared (kind_of a) (kind_of b) (warehouse_of a) (warehouse_of b) (number_of a) (number_of b) (kinds warehouses a b known_a known_b before) home (numbers warehouses a b known_a known_b before)
 
-pub tells_death : (warehouses w_id : ℕ) (locks : List Locked) (wants : List Want) (age number oldest : ℕ) (d : Locked) → AreLocksOf warehouses w_id locks → All (IsOwn warehouses w_id) wants
+pub records_death : (warehouses w_id : ℕ) (locks : List LockView) (wants : List Want) (age number oldest : ℕ) (d : LockView) → AreLocksOf warehouses w_id locks → All (IsOwn warehouses w_id) wants
     → IsRuling age locks (flat_map spots_of wants) (Dies number oldest) → (number < length locks) × MustDie (flat_map holdings_of locks) age wants (get_or locks number d).ticket_box.group oldest
-tells_death warehouses w_id locks wants age number oldest d are own dies =
+records_death warehouses w_id locks wants age number oldest d are own dies =
     let named = stands_in_the_way warehouses w_id locks wants number d dies.some.0 are own dies.some.1 in
     let at = are.each number d named.0 in
     let group = (get_or locks number d).ticket_box.group in (

@@ -5,70 +5,70 @@ use Rattle.std.specs.List.Sorted.{IsPermutation}
 use Rattle.requests.specs.declared.group.Group.{Group}
 use Rattle.groups.specs.Content.{Content}
 use Rattle.groups.specs.Groups.{is_same, warehouse_of}
-use Rattle.groups.specs.declared.wishes.Mode.TheVariants.{Exclusive}
-use Rattle.groups.specs.declared.wishes.Wish.{Wish}
+use Rattle.groups.specs.declared.group_wants.Mode.TheVariants.{Exclusive}
+use Rattle.groups.specs.declared.group_wants.GroupWant.{GroupWant}
 use Rattle.groups.specs.declared.wants.Want.{Want}
-use Rattle.tickets.specs.Claims.{Claiming, fresh}
+use Rattle.tickets.specs.Claims.{ClaimView, fresh}
 use Rattle.wait_die.specs.declared.deciding.Holder.{Holder}
 use Rattle.local_locks.specs.declared.table.Asked.{Asked}
 use Rattle.local_locks.specs.declared.table.Asked.TheVariants as asked
 use Rattle.local_locks.specs.declared.table.Turn.{Turn}
 use Rattle.local_locks.specs.declared.table.Turn.TheVariants as turn
-use Rattle.local_locks.specs.Locking.{Holding, Waiting, Stand, Locking, left_in}
+use Rattle.local_locks.specs.LockTableView.{HeldClaim, WaitingAction, Stand, LockTableView, left_in}
 use Rattle.local_locks.specs.Conflicts.{IsFree, MustWait, MustDie}
-use Rattle.local_locks.specs.Wishes.{wishes}
+use Rattle.local_locks.specs.GroupWants.{group_wants}
 
 -- ---- grants
 
--- the claim that is granted to this one for a wish: under it nothing was done yet, and it tells what stands in its group
-abbrev pub claim_for : Holder → List Stand → Wish → Claiming
-claim_for by stands wish = fresh by wish.group wish.mode (left_in stands wish.group)
+-- the claim that is granted to this one for a want: under it nothing was done yet, and it tells what stands in its group
+abbrev pub claim_for : Holder → List Stand → GroupWant → ClaimView
+claim_for by stands group_want = fresh by group_want.group group_want.mode (left_in stands group_want.group)
 
--- what this holder holds for a wish
-abbrev pub held_for : Holder → Wish → Holding
-held_for by wish = record { by = by; group = wish.group; mode = wish.mode }
+-- what this holder holds for a want
+abbrev pub held_for : Holder → GroupWant → HeldClaim
+held_for by group_want = record { by = by; group = group_want.group; mode = group_want.mode }
 
 -- One who is free has a claim on each group that is wanted, and holds them. What stands in the groups stays.
-pub record Grants (by : Holder) (wants : List Want) (old : Locking) (granted : List Claiming) (new : Locking) : Type 0 where
+pub record Grants (by : Holder) (wants : List Want) (old : LockTableView) (granted : List ClaimView) (new : LockTableView) : Type 0 where
   pub free : IsFree old.holdings wants
-  pub claims : granted ≡ map (claim_for by old.stands) (wishes wants)
-  pub holdings : IsPermutation new.holdings (map (held_for by) (wishes wants) ++ old.holdings)
+  pub claims : granted ≡ map (claim_for by old.stands) (group_wants wants)
+  pub holdings : IsPermutation new.holdings (map (held_for by) (group_wants wants) ++ old.holdings)
   pub stands : new.stands ≡ old.stands
   pub w_id : new.w_id ≡ old.w_id
 
 -- ---- who comes back
 
 -- who holds this claim
-abbrev pub held_by : Claiming → Holding
+abbrev pub held_by : ClaimView → HeldClaim
 held_by claim = record { by = claim.by; group = claim.group; mode = claim.mode }
 
 -- these are claims of the table that are out
-abbrev pub AreHeld : List Holding → List Claiming → Type 0
-AreHeld holdings claims = (others : List Holding) × IsPermutation holdings (map held_by claims ++ others)
+abbrev pub AreHeld : List HeldClaim → List ClaimView → Type 0
+AreHeld holdings claims = (others : List HeldClaim) × IsPermutation holdings (map held_by claims ++ others)
 
 -- what a claim is on, and how, whoever holds it
-abbrev pub claimed : Holding → Wish
+abbrev pub claimed : HeldClaim → GroupWant
 claimed holding = record { group = holding.group; mode = holding.mode }
 
 -- All these claims are those and the others: of each group as many shared ones and as many exclusive ones, whoever holds
 -- them.
-abbrev pub AreTogether : List Holding → List Holding → List Holding → Type 0
+abbrev pub AreTogether : List HeldClaim → List HeldClaim → List HeldClaim → Type 0
 AreTogether all some others = IsPermutation (map claimed all) (map claimed some ++ map claimed others)
 
 -- the claim is on a group of this warehouse
-abbrev pub IsOfHome : ℕ → Claiming → Type 0
+abbrev pub IsOfHome : ℕ → ClaimView → Type 0
 IsOfHome w_id claim = warehouse_of claim.group ≡ w_id
 
 -- what an exclusive claim left is committed
-abbrev pub IsSettled : Claiming → Type 0
-IsSettled claim = claim.mode ≡ Exclusive → claim.told ≡ claim.left
+abbrev pub IsSettled : ClaimView → Type 0
+IsSettled claim = claim.mode ≡ Exclusive → claim.recorded ≡ claim.left
 
 -- what stands in a group once a claim is back: nothing of it is taken back any more
-abbrev pub kept_after : Claiming → Stand → Stand
+abbrev pub kept_after : ClaimView → Stand → Stand
 kept_after claim stand = record { group = stand.group; left = stand.left; back = if is_same stand.group claim.group then stand.left else stand.back }
 
 -- what stands in the groups once these claims are back, one after another
-abbrev pub all_kept_after : List Claiming → List Stand → List Stand
+abbrev pub all_kept_after : List ClaimView → List Stand → List Stand
 all_kept_after [] stands = stands
 all_kept_after (claim ∷ claims) stands = all_kept_after claims (map (kept_after claim) stands)
 
@@ -79,13 +79,13 @@ abbrev pub left_after : Group → Content → Stand → Stand
 left_after group content stand = record { group = stand.group; left = if is_same stand.group group then content else stand.left; back = stand.back }
 
 -- the table once this is left in one of its groups
-abbrev pub leaving_in : Locking → Group → Content → Locking
+abbrev pub leaving_in : LockTableView → Group → Content → LockTableView
 leaving_in table group content = record table { stands = map (left_after group content) table.stands }
 
 -- ---- whose turn it is
 
 -- one who waits for these wants
-abbrev pub waiting : Holder → List Want → Waiting
+abbrev pub waiting : Holder → List Want → WaitingAction
 waiting by wants = record { by = by; wants = wants }
 
 -- it is the older, or of the same age and of the lesser place
@@ -93,18 +93,18 @@ abbrev pub IsBefore : Holder → Holder → Type 0
 IsBefore a b = (a.age < b.age) ⊎ ((a.age ≡ b.age) × (a.place < b.place))
 
 -- this one has to wait for others still
-abbrev pub StillWaits : List Holding → Waiting → Type 0
+abbrev pub StillWaits : List HeldClaim → WaitingAction → Type 0
 StillWaits holdings waiting = MustWait holdings waiting.by.age waiting.wants
 
 -- if this one's turn comes before that holder's, it has to wait still
-abbrev pub WaitsIfBefore : List Holding → Holder → Waiting → Type 0
+abbrev pub WaitsIfBefore : List HeldClaim → Holder → WaitingAction → Type 0
 WaitsIfBefore holdings by waiting = IsBefore waiting.by by → StillWaits holdings waiting
 
 -- Of those who wait it is one's turn, who stands there among them, and all before that one have to wait still. All others go
 -- on waiting, in their order.
-pub record IsTurnOf (index : ℕ) (waiting : Waiting) (old new : Locking) : Type 0 where
+pub record IsTurnOf (index : ℕ) (waiting : WaitingAction) (old new : LockTableView) : Type 0 where
   pub inside : index < length old.waiters
-  pub there : (d : Waiting) → slice_index_or old.waiters index d ≡ waiting
+  pub there : (d : WaitingAction) → slice_index_or old.waiters index d ≡ waiting
   pub rest : new.waiters ≡ remove old.waiters index
   pub waiters : IsPermutation old.waiters (waiting ∷ new.waiters)
   pub first : All (WaitsIfBefore old.holdings waiting.by) old.waiters
@@ -113,20 +113,20 @@ pub record IsTurnOf (index : ℕ) (waiting : Waiting) (old new : Locking) : Type
 
 module _ {J : Type 0} where
   -- what is answered to one who asks, and what the table is then
-  abbrev pub Answers : Holder → List Want → Locking → Asked J → Locking → Type 0
+  abbrev pub Answers : Holder → List Want → LockTableView → Asked J → LockTableView → Type 0
   Answers by wants old (asked.Granted claims) new = Grants by wants old claims.items new × (new.waiters ≡ old.waiters)
   Answers by wants old asked.Waits new =
       MustWait old.holdings by.age wants × (new ≡ record old { waiters = old.waiters ++ waiting by wants ∷ [] })
   Answers by wants old (asked.Dies group holder) new = MustDie old.holdings by.age wants group holder × (new ≡ old)
 
   -- what is answered to one who asks and would not wait, and what the table is then
-  abbrev pub AnswersAtOnce : Holder → List Want → Locking → Asked J → Locking → Type 0
+  abbrev pub AnswersAtOnce : Holder → List Want → LockTableView → Asked J → LockTableView → Type 0
   AnswersAtOnce by wants old (asked.Granted claims) new = Grants by wants old claims.items new × (new.waiters ≡ old.waiters)
   AnswersAtOnce by wants old asked.Waits new = MustWait old.holdings by.age wants × (new ≡ old)
   AnswersAtOnce by wants old (asked.Dies group holder) new = MustDie old.holdings by.age wants group holder × (new ≡ old)
 
   -- whose turn it is and what is said to that one, and what the table is then
-  abbrev pub TakesTurn : Locking → Turn J → Locking → Type 0
+  abbrev pub TakesTurn : LockTableView → Turn J → LockTableView → Type 0
   TakesTurn old (turn.Granted index by claims) new =
       (wants : List Want) × IsTurnOf index (waiting by wants) old new × Grants by wants old claims.items new
   TakesTurn old (turn.Dies index by group holder) new =

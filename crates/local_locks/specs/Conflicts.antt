@@ -4,10 +4,10 @@ use Rattle.std.specs.declared.cmp.Ordering.TheVariants.{Greater}
 use Rattle.requests.specs.declared.group.Group.{Group}
 use Rattle.groups.specs.Groups.{group_cmp, is_same}
 use Rattle.groups.specs.Wants.{Covers}
-use Rattle.groups.specs.declared.wishes.Mode.{Mode}
-use Rattle.groups.specs.declared.wishes.Mode.TheVariants.{Shared, Exclusive}
+use Rattle.groups.specs.declared.group_wants.Mode.{Mode}
+use Rattle.groups.specs.declared.group_wants.Mode.TheVariants.{Shared, Exclusive}
 use Rattle.groups.specs.declared.wants.Want.{Want}
-use Rattle.local_locks.specs.Locking.{Holding}
+use Rattle.local_locks.specs.LockTableView.{HeldClaim}
 
 -- whether it is the mode of a reader
 abbrev pub is_shared : Mode → Bool
@@ -15,35 +15,35 @@ is_shared Shared = true
 is_shared Exclusive = false
 
 -- how many shared claims on a group are out
-abbrev pub shared_on : Group → List Holding → ℕ
+abbrev pub shared_on : Group → List HeldClaim → ℕ
 shared_on group holdings = count_by (λ holding. is_same holding.group group && is_shared holding.mode) holdings
 
 -- The claim that one holds conflicts with what another wants: its group is wanted, and one of the two is exclusive, or all
 -- eight shared claims on the group are out. Of two wants, of which none is granted yet, the modes alone count: that is
 -- `Conflict` of groups.
-pub record ClaimConflicts (holdings : List Holding) (holding : Holding) (want : Want) : Type 0 where
+pub record ClaimConflicts (holdings : List HeldClaim) (holding : HeldClaim) (want : Want) : Type 0 where
   pub covered : Covers want holding.group
   pub apart : (want.mode ≡ Exclusive) ⊎ ((holding.mode ≡ Exclusive) ⊎ (8 ≤ shared_on holding.group holdings))
 
 -- this is one of those whose claims conflict with what is wanted
-abbrev pub Blocks : List Holding → List Want → Holding → Type 0
+abbrev pub Blocks : List HeldClaim → List Want → HeldClaim → Type 0
 Blocks holdings wants holding = Contains holdings holding × Any (ClaimConflicts holdings holding) wants
 
 -- ---- what is said to one of this age who wants these
 
 -- nobody is in the way
-abbrev pub IsFree : List Holding → List Want → Type 0
-IsFree holdings wants = (holding : Holding) → Blocks holdings wants holding → ⊥
+abbrev pub IsFree : List HeldClaim → List Want → Type 0
+IsFree holdings wants = (holding : HeldClaim) → Blocks holdings wants holding → ⊥
 
 -- somebody is in the way, and all who are are younger
-pub record MustWait (holdings : List Holding) (age : ℕ) (wants : List Want) : Type 0 where
-  pub some : (holding : Holding) × Blocks holdings wants holding
-  pub younger : (holding : Holding) → Blocks holdings wants holding → age < holding.by.age
+pub record MustWait (holdings : List HeldClaim) (age : ℕ) (wants : List Want) : Type 0 where
+  pub some : (holding : HeldClaim) × Blocks holdings wants holding
+  pub younger : (holding : HeldClaim) → Blocks holdings wants holding → age < holding.by.age
 
 -- Somebody is in the way who is not younger: on this group first, in the order of groups, and there the oldest is of this
 -- age.
-pub record MustDie (holdings : List Holding) (age : ℕ) (wants : List Want) (group : Group) (oldest : ℕ) : Type 0 where
-  pub some : (holding : Holding) × Blocks holdings wants holding × (holding.group ≡ group) × (holding.by.age ≡ oldest)
+pub record MustDie (holdings : List HeldClaim) (age : ℕ) (wants : List Want) (group : Group) (oldest : ℕ) : Type 0 where
+  pub some : (holding : HeldClaim) × Blocks holdings wants holding × (holding.group ≡ group) × (holding.by.age ≡ oldest)
   pub older : oldest ≤ age
-  pub first : (holding : Holding) → Blocks holdings wants holding → holding.by.age ≤ age → group_cmp group holding.group ≢ Greater
-  pub oldest_there : (holding : Holding) → Blocks holdings wants holding → holding.group ≡ group → oldest ≤ holding.by.age
+  pub first : (holding : HeldClaim) → Blocks holdings wants holding → holding.by.age ≤ age → group_cmp group holding.group ≢ Greater
+  pub oldest_there : (holding : HeldClaim) → Blocks holdings wants holding → holding.group ≡ group → oldest ≤ holding.by.age

@@ -3,56 +3,56 @@ use Rattle.std.specs.Prelude.{◌≡◌, ◌↔◌, ℕ, ◌≤◌, List, [], �
 use Rattle.requests.specs.declared.group.Group.{Group}
 use Rattle.groups.specs.Groups.{warehouse_of}
 use Rattle.groups.specs.Wants.{Covers}
-use Rattle.groups.specs.declared.wishes.Mode.TheVariants.{Shared}
+use Rattle.groups.specs.declared.group_wants.Mode.TheVariants.{Shared}
 use Rattle.groups.specs.declared.wants.Want.{Want}
 use Rattle.tickets.specs.Places.{IsGroupOf}
-use Rattle.local_locks.specs.Locking.{Holding, Waiting, Stand, Locking}
+use Rattle.local_locks.specs.LockTableView.{HeldClaim, WaitingAction, Stand, LockTableView}
 use Rattle.local_locks.specs.Conflicts.{Blocks, shared_on}
 use Rattle.local_locks.specs.Asking.{StillWaits}
-use Rattle.local_locks.specs.Wishes.{CanAsk, wish_of, wishes_in}
+use Rattle.local_locks.specs.GroupWants.{CanAsk, group_want_of, group_wants_in}
 
 -- two claims on one group are shared
-abbrev pub AreCompatible : Holding → Holding → Type 0
+abbrev pub AreCompatible : HeldClaim → HeldClaim → Type 0
 AreCompatible a b = a.group ≡ b.group → (a.mode ≡ Shared) × (b.mode ≡ Shared)
 
 -- No two claims conflict: of two on one group both are shared, and at most eight are out on each group.
-pub record NoneConflict (holdings : List Holding) : Type 0 where
+pub record NoneConflict (holdings : List HeldClaim) : Type 0 where
   pub pairs : AllPairs AreCompatible holdings
   pub most : (group : Group) → shared_on group holdings ≤ 8
 
 -- where the claim is on this group, it is shared
-abbrev pub IsNotAlone : Group → Holding → Type 0
+abbrev pub IsNotAlone : Group → HeldClaim → Type 0
 IsNotAlone group holding = holding.group ≡ group → holding.mode ≡ Shared
 
 -- where no exclusive claim on the group is out, nothing is left to be taken back in it
-abbrev pub IsUntouched : List Holding → Stand → Type 0
+abbrev pub IsUntouched : List HeldClaim → Stand → Type 0
 IsUntouched holdings stand = All (IsNotAlone stand.group) holdings → stand.back ≡ stand.left
 
 -- so it is of each group
-abbrev pub AreUntouched : List Holding → List Stand → Type 0
+abbrev pub AreUntouched : List HeldClaim → List Stand → Type 0
 AreUntouched holdings stands = All (IsUntouched holdings) stands
 
 -- the claim is on a group of the warehouse
-abbrev pub IsClaimOf : ℕ → ℕ → Holding → Type 0
+abbrev pub IsClaimOf : ℕ → ℕ → HeldClaim → Type 0
 IsClaimOf warehouses w_id holding = IsGroupOf warehouses holding.group × (warehouse_of holding.group ≡ w_id)
 
 -- it waits for what can be asked of the table
-abbrev pub CouldAsk : ℕ → ℕ → Waiting → Type 0
+abbrev pub CouldAsk : ℕ → ℕ → WaitingAction → Type 0
 CouldAsk warehouses w_id waiting = CanAsk warehouses w_id waiting.wants
 
 -- ---- who waits for whom
 
 -- one of age t waits for a group on which one of age u has a claim that conflicts with what is wanted
-pub record WaitsFor (table : Locking) (t u : ℕ) : Type 0 where
-  pub waiting : Waiting
+pub record WaitsFor (table : LockTableView) (t u : ℕ) : Type 0 where
+  pub waiting : WaitingAction
   pub waits : Contains table.waiters waiting
   pub age : waiting.by.age ≡ t
-  pub holding : Holding
+  pub holding : HeldClaim
   pub blocks : Blocks table.holdings waiting.wants holding
   pub holder : holding.by.age ≡ u
 
 -- one of age t waits for one of age u in one of these tables
-abbrev pub WaitsSomewhere : List Locking → ℕ → ℕ → Type 0
+abbrev pub WaitsSomewhere : List LockTableView → ℕ → ℕ → Type 0
 WaitsSomewhere tables t u = Any (λ table. WaitsFor table t u) tables
 
 -- each waits for the next, and the last for u
@@ -61,19 +61,19 @@ Path waits t [] u = waits t u
 Path waits t (next ∷ ages) u = waits t next × Path waits next ages u
 
 -- all who wait in the table have to wait
-abbrev pub AllHaveToWait : Locking → Type 0
+abbrev pub AllHaveToWait : LockTableView → Type 0
 AllHaveToWait table = All (StillWaits table.holdings) table.waiters
 
 -- Where all who wait have to, in some tables, none waits for itself, through any others, from table to table.
 abbrev pub NobodyWaitsForItself : Type 0
 NobodyWaitsForItself =
-    (tables : List Locking) → All AllHaveToWait tables → (t : ℕ) (ages : List ℕ) → Path (WaitsSomewhere tables) t ages t → ⊥
+    (tables : List LockTableView) → All AllHaveToWait tables → (t : ℕ) (ages : List ℕ) → Path (WaitsSomewhere tables) t ages t → ⊥
 
 -- ---- what is wanted
 
--- Of the groups that there are, a wish stands for each that a want covers, and for no other: for a prefix one for each
+-- Of the groups that there are, a want stands for each that a want covers, and for no other: for a prefix one for each
 -- group of its kind and warehouse.
-abbrev pub EachCoveredGroupIsWished : Type 0
-EachCoveredGroupIsWished =
+abbrev pub EachCoveredGroupIsWanted : Type 0
+EachCoveredGroupIsWanted =
     (warehouses : ℕ) (want : Want) (group : Group)
-    → IsGroupOf warehouses group → Covers want group ↔ Contains (wishes_in want) (wish_of want group)
+    → IsGroupOf warehouses group → Covers want group ↔ Contains (group_wants_in want) (group_want_of want group)

@@ -1,6 +1,6 @@
-pub mod Locking
+pub mod LockTableView
 pub mod Conflicts
-pub mod Wishes
+pub mod GroupWants
 pub mod Asking
 pub mod Locks
 pub mod Rulings

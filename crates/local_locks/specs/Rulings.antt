@@ -1,6 +1,6 @@
 -- What is said to one who wants some groups, by their places among the groups of the warehouse.
 use Rattle.std.specs.Prelude.{◌≡◌, ℕ, zero, suc, ◌<◌, ◌≤◌, List, [], ◌∷◌, Contains, map, slice_index_or, nat_lt, if◌then◌else◌}
-use Rattle.groups.specs.declared.wishes.Mode.{Mode}
+use Rattle.groups.specs.declared.group_wants.Mode.{Mode}
 use Rattle.groups.specs.declared.wants.Kind.{Kind}
 use Rattle.groups.specs.declared.wants.Kind.TheVariants.{Warehouse, District, Customers, Orders, History, Stock}
 use Rattle.groups.specs.declared.wants.Extent.{Extent}
@@ -10,7 +10,7 @@ use Rattle.tickets.specs.Places.{place_in_warehouse}
 use Rattle.wait_die.specs.declared.deciding.Holder.{Holder}
 use Rattle.local_locks.specs.declared.rulings.Ruling.{Ruling}
 use Rattle.local_locks.specs.declared.rulings.Ruling.TheVariants.{Free, Waits, Dies}
-use Rattle.local_locks.specs.Locks.{Locked, conflicting}
+use Rattle.local_locks.specs.Locks.{LockView, conflicting}
 
 -- ---- places
 
@@ -62,30 +62,30 @@ spots_of want = spots (first_place want.extent) (count_in want.extent) want.mode
 
 -- ---- what is said
 
--- the holders at a place that conflict with a wish of this mode
-abbrev pub conflicting_at : List Locked → Mode → ℕ → List Holder
+-- the holders at a place that conflict with a want of this mode
+abbrev pub conflicting_at : List LockView → Mode → ℕ → List Holder
 conflicting_at locks mode number = slice_index_or (map (conflicting mode) locks) number []
 
--- one of those at this place with whom a wish for one of these spots conflicts
-pub record Stops (locks : List Locked) (wanted : List Spot) (number : ℕ) (holder : Holder) : Type 0 where
+-- one of those at this place with whom a want for one of these spots conflicts
+pub record Stops (locks : List LockView) (wanted : List Spot) (number : ℕ) (holder : Holder) : Type 0 where
   pub mode : Mode
   pub wants : Contains wanted (spot number mode)
   pub holds : Contains (conflicting_at locks mode number) holder
 
 -- somebody is in the way, and all who are are younger than this age
-pub record AllYounger (age : ℕ) (locks : List Locked) (wanted : List Spot) : Type 0 where
+pub record AllYounger (age : ℕ) (locks : List LockView) (wanted : List Spot) : Type 0 where
   pub some : (number : ℕ) × (holder : Holder) × Stops locks wanted number holder
   pub younger : (number : ℕ) (holder : Holder) → Stops locks wanted number holder → age < holder.age
 
 -- Somebody is in the way who is not younger than this age: at this place first, and there the oldest is of that age.
-pub record FirstNotYounger (age : ℕ) (locks : List Locked) (wanted : List Spot) (number oldest : ℕ) : Type 0 where
+pub record FirstNotYounger (age : ℕ) (locks : List LockView) (wanted : List Spot) (number oldest : ℕ) : Type 0 where
   pub some : (holder : Holder) × Stops locks wanted number holder × (holder.age ≡ oldest)
   pub older : oldest ≤ age
   pub first : (other : ℕ) (holder : Holder) → Stops locks wanted other holder → holder.age ≤ age → number ≤ other
   pub oldest_there : (holder : Holder) → Stops locks wanted number holder → oldest ≤ holder.age
 
 -- what is said to one of this age who wants the groups at these places
-abbrev pub IsRuling : ℕ → List Locked → List Spot → Ruling → Type 0
+abbrev pub IsRuling : ℕ → List LockView → List Spot → Ruling → Type 0
 IsRuling age locks wanted Free = (number : ℕ) (holder : Holder) → Stops locks wanted number holder → ⊥
 IsRuling age locks wanted Waits = AllYounger age locks wanted
 IsRuling age locks wanted (Dies number oldest) = FirstNotYounger age locks wanted number oldest

@@ -6,27 +6,27 @@ use Rattle.local_locks.specs.declared.rulings.Ruling.{Ruling}
 use Rattle.local_locks.specs.declared.rulings.Ruling.TheVariants.{Waits}
 use Rattle.local_locks.specs.declared.waiting.Next.{Next}
 use Rattle.local_locks.specs.Asking.{IsBefore}
-use Rattle.local_locks.specs.Locks.{Locked, Parked}
+use Rattle.local_locks.specs.Locks.{LockView, WaiterView}
 use Rattle.local_locks.specs.Rulings.{IsRuling, spots_of}
-use Rattle.local_locks.specs.Wishes.{IsWanted}
+use Rattle.local_locks.specs.GroupWants.{IsWanted}
 
 -- the groups that it waits for are there
-abbrev pub IsParkedThere : ℕ → Parked → Type 0
+abbrev pub IsParkedThere : ℕ → WaiterView → Type 0
 IsParkedThere warehouses p = All (IsWanted warehouses) p.wants
 
 -- it has to wait still
-abbrev pub StaysParked : List Locked → Parked → Type 0
+abbrev pub StaysParked : List LockView → WaiterView → Type 0
 StaysParked locks p = IsRuling p.by.age locks (flat_map spots_of p.wants) Waits
 
 -- if this one's turn comes before that holder's, it has to wait still
-abbrev pub StaysIfBefore : List Locked → Holder → Parked → Type 0
+abbrev pub StaysIfBefore : List LockView → Holder → WaiterView → Type 0
 StaysIfBefore locks by p = IsBefore p.by by → StaysParked locks p
 
 -- It stands there among those who wait, this is said to it, which is not to wait, and all before it have to wait.
-pub record IsNext (locks : List Locked) (waiters : List Parked) (next : Next) : Type 0 where
+pub record IsNext (locks : List LockView) (waiters : List WaiterView) (next : Next) : Type 0 where
   pub inside : next.index < length waiters
-  pub by : (d : Parked) → (slice_index_or waiters next.index d).by ≡ next.by
-  pub said : (d : Parked) → IsRuling next.by.age locks (flat_map spots_of (slice_index_or waiters next.index d).wants) next.ruling
+  pub by : (d : WaiterView) → (slice_index_or waiters next.index d).by ≡ next.by
+  pub said : (d : WaiterView) → IsRuling next.by.age locks (flat_map spots_of (slice_index_or waiters next.index d).wants) next.ruling
   pub over : next.ruling ≢ Waits
   pub first : All (StaysIfBefore locks next.by) waiters
 

@@ -4,7 +4,7 @@ ghost use Rattle.std.specs.List.{flat_map};
 ghost use Rattle.local_locks.specs.Granting.{AreElsewhere, AreGranted, IsOpen, claim_at};
 ghost use Rattle.local_locks.specs.Locks.{stand_in};
 ghost use Rattle.local_locks.specs.Rulings.{spot, spots_of};
-ghost use Rattle.local_locks.specs.Wishes.{IsWanted};
+ghost use Rattle.local_locks.specs.GroupWants.{IsWanted};
 
 use crate::lock::Lock;
 use crate::places::places_of;

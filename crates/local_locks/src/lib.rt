@@ -18,7 +18,7 @@ mod table;
 mod waiting;
 
 pub use laws::{
-    each_covered_group_is_wished, grants_and_returns_keep_committed, nobody_waits_for_itself,
+    each_covered_group_is_wanted, grants_and_returns_keep_committed, nobody_waits_for_itself,
 };
 pub use table::{Asked, LockTable, Turn};
 

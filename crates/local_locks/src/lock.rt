@@ -1,10 +1,10 @@
 //! The lock of a group: its ticket box, and who holds the claims on it that are out.
 ghost use Rattle.std.specs.Prelude.{◌≡◌, [], ◌∷◌, ◌++◌, Contains, IfNone, IfSome, slice_index_or, length, ◌<◌, ◌+◌};
 ghost use Rattle.std.specs.List.Sorted.{IsPermutation};
-ghost use Rattle.groups.specs.declared.wishes.Mode.TheVariants.{Shared, Exclusive};
+ghost use Rattle.groups.specs.declared.group_wants.Mode.TheVariants.{Shared, Exclusive};
 ghost use Rattle.tickets.specs.Boxes.{sharing, taken_back, with_left};
 ghost use Rattle.tickets.specs.Claims.{fresh, leaving};
-ghost use Rattle.local_locks.specs.Locks.{conflicting, given_out, locked, IsLocked};
+ghost use Rattle.local_locks.specs.Locks.{conflicting, given_out, lock_view, IsLocked};
 
 use agreement::Change;
 use arrayvec::ArrayVec;
@@ -25,22 +25,22 @@ pub(crate) struct Lock<J: GroupNames> {
 impl<J: GroupNames> Model for Lock<J> {
     ghost use Rattle.std.specs.Coded.{codes};
     ghost use Rattle.groups.specs.contracts.content.Content as content;
-    ghost use Rattle.local_locks.specs.Locks.{Locked, locked, IsLocked};
+    ghost use Rattle.local_locks.specs.Locks.{LockView, lock_view, IsLocked};
 
-    ghost Value = { Locked };
+    ghost Value = { LockView };
 
     ghost coded = { Prim.hlevel (codes, content.the_row.coded) };
 
-    ghost view = { λ l. locked l.ticket_box l.holders.items };
+    ghost view = { λ l. lock_view l.ticket_box l.holders.items };
 
-    ghost invariant = { λ l. IsLocked (locked l.ticket_box l.holders.items) };
+    ghost invariant = { λ l. IsLocked (lock_view l.ticket_box l.holders.items) };
 }
 
 impl<J: GroupNames> Lock<J> {
     /// The lock of a group of which no claim is out.
     pub(crate) fn new(ticket_box: TicketBox<J>) -> Lock<J>
         requires { ticket_box ≡ sharing ticket_box.group ticket_box.left 0 }
-        ensures { result ≡ locked ticket_box [] }
+        ensures { result ≡ lock_view ticket_box [] }
     {
         Lock {
             ticket_box,
@@ -55,7 +55,7 @@ impl<J: GroupNames> Lock<J> {
         self.ticket_box.group()
     }
 
-    /// The holders that conflict with a wish of this mode.
+    /// The holders that conflict with a want of this mode.
     pub(crate) fn conflicting(&self, mode: Mode) -> &[Holder]
         ensures { result.now ≡ conflicting mode self.now }
     {
@@ -74,7 +74,7 @@ impl<J: GroupNames> Lock<J> {
     pub(crate) fn grant(&mut self, mode: Mode, by: Holder) -> Claim<J>
         requires { conflicting mode self.old ≡ [] }
         ensures claim { result ≡ fresh by self.old.ticket_box.group mode self.old.ticket_box.left }
-        ensures lock { self.new ≡ locked (given_out mode self.old.ticket_box) (self.old.holders ++ by ∷ []) }
+        ensures lock { self.new ≡ lock_view (given_out mode self.old.ticket_box) (self.old.holders ++ by ∷ []) }
         ensures agree { IsLocked self.old × IsLocked self.new }
     {
         let granted = match mode {
@@ -90,7 +90,7 @@ impl<J: GroupNames> Lock<J> {
     /// goes, so that there are as many holders as claims.
     pub(crate) fn take_back(&mut self, claim: Claim<J>)
         requires group { claim.group ≡ self.old.ticket_box.group }
-        requires committed { claim.mode ≡ Exclusive → claim.told ≡ claim.left }
+        requires committed { claim.mode ≡ Exclusive → claim.recorded ≡ claim.left }
         ensures mode { claim.mode ≡ self.old.ticket_box.mode }
         ensures ticket_box { self.new.ticket_box ≡ taken_back self.old.ticket_box }
         ensures fewer { length self.new.holders + 1 ≡ length self.old.holders }
@@ -120,7 +120,7 @@ impl<J: GroupNames> Lock<J> {
         requires exclusive { claim.old.mode ≡ Exclusive }
         ensures left { claim.old.left ≡ self.old.ticket_box.left }
         ensures claim { claim.new ≡ leaving claim.old (C.changed change.now claim.old.left) }
-        ensures lock { self.new ≡ locked (with_left self.old.ticket_box (C.changed change.now self.old.ticket_box.left)) self.old.holders }
+        ensures lock { self.new ≡ lock_view (with_left self.old.ticket_box (C.changed change.now self.old.ticket_box.left)) self.old.holders }
         ensures agree { IsLocked self.new }
     {
         self.ticket_box.leave(claim, change);
@@ -132,7 +132,7 @@ impl<J: GroupNames> Lock<J> {
         requires exclusive { claim.old.mode ≡ Exclusive }
         ensures back { claim.old.back ≡ self.old.ticket_box.back }
         ensures claim { claim.new ≡ leaving claim.old claim.old.back }
-        ensures lock { self.new ≡ locked (with_left self.old.ticket_box self.old.ticket_box.back) self.old.holders }
+        ensures lock { self.new ≡ lock_view (with_left self.old.ticket_box self.old.ticket_box.back) self.old.holders }
         ensures agree { IsLocked self.new }
     {
         self.ticket_box.undo(claim);

@@ -3,7 +3,7 @@ ghost use Rattle.std.specs.Prelude.{◌≡◌, ◌+◌, ◌<◌, ◌≤◌};
 ghost use Rattle.tickets.specs.Places as spec;
 ghost use Rattle.tickets.specs.Places.{IsGroupOf};
 ghost use Rattle.local_locks.specs.Rulings.{count_in, count_of, first_of, first_place};
-ghost use Rattle.local_locks.specs.Wishes.{IsThere};
+ghost use Rattle.local_locks.specs.GroupWants.{IsThere};
 
 use groups::{Extent, Kind};
 use requests::Group;

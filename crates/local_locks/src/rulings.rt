@@ -2,7 +2,7 @@
 ghost use Rattle.std.specs.Prelude.{◌≡◌, ◌<◌, ◌≤◌, ◌+◌, ◌∷◌, [], All, length};
 ghost use Rattle.std.specs.List.{flat_map};
 ghost use Rattle.local_locks.specs.Rulings.{IsRuling, joined, spot, spots_of};
-ghost use Rattle.local_locks.specs.Wishes.{IsWanted};
+ghost use Rattle.local_locks.specs.GroupWants.{IsWanted};
 
 use crate::lock::Lock;
 use crate::places::places_of;
@@ -35,7 +35,7 @@ impl Ruling {
     }
 }
 
-// What is said to a wish for the group at a place.
+// What is said to a want for the group at a place.
 fn ruling_at<J: GroupNames>(locks: &[Lock<J>], age: Age, number: usize, mode: Mode) -> Ruling
     requires { number < length locks.now }
     ensures { IsRuling age locks.now (spot number mode ∷ []) result }
@@ -47,7 +47,7 @@ fn ruling_at<J: GroupNames>(locks: &[Lock<J>], age: Age, number: usize, mode: Mo
     }
 }
 
-// What is said to a wish for each of these groups.
+// What is said to a want for each of these groups.
 fn ruling_on_want<J: GroupNames>(locks: &[Lock<J>], age: Age, want: Want) -> Ruling
     requires there { IsWanted J.warehouses want }
     requires places { 105 ≤ length locks.now }

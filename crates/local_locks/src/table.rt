@@ -2,14 +2,14 @@ ghost use Rattle.std.specs.Prelude.{◌≡◌, ◌++◌, ◌∷◌, [], All, Con
 ghost use Rattle.std.specs.List.Sorted.{IsPermutation};
 ghost use Rattle.requests.specs.declared.group.Group.{Group as AnyGroup};
 ghost use Rattle.groups.specs.Groups.{warehouse_of};
-ghost use Rattle.groups.specs.declared.wishes.Mode.TheVariants.{Exclusive};
+ghost use Rattle.groups.specs.declared.group_wants.Mode.TheVariants.{Exclusive};
 ghost use Rattle.tickets.specs.Claims.{leaving};
 ghost use Rattle.tickets.specs.Places.{IsGroupOf};
 ghost use Rattle.local_locks.specs.Asking.{all_kept_after, held_by, kept_after, AreHeld, AreTogether, Answers, AnswersAtOnce, IsOfHome, IsSettled, StillWaits, TakesTurn, leaving_in};
 ghost use Rattle.local_locks.specs.Conflicts.{MustDie};
 ghost use Rattle.local_locks.specs.Laws.{AreUntouched, CouldAsk, IsClaimOf, NoneConflict};
-ghost use Rattle.local_locks.specs.Locking.{back_in, left_in, opened, AreBoxesOf, AreStandsOf};
-ghost use Rattle.local_locks.specs.Wishes.{CanAsk};
+ghost use Rattle.local_locks.specs.LockTableView.{back_in, left_in, opened, AreBoxesOf, AreStandsOf};
+ghost use Rattle.local_locks.specs.GroupWants.{CanAsk};
 
 use crate::granting::{count_of, grant_all};
 use crate::lock::Lock;
@@ -69,10 +69,10 @@ impl<J: GroupNames> Model for LockTable<J> {
     ghost use Rattle.std.specs.Prelude.{All};
     ghost use Rattle.std.specs.Coded.{codes};
     ghost use Rattle.groups.specs.contracts.content.Content as content;
-    ghost use Rattle.local_locks.specs.Locking.{Locking};
+    ghost use Rattle.local_locks.specs.LockTableView.{LockTableView};
     ghost use Rattle.local_locks.specs.Locks.{locking, AreLocksOf, IsParked};
 
-    ghost Value = { Locking };
+    ghost Value = { LockTableView };
 
     ghost coded = { Prim.hlevel (codes, content.the_row.coded) };
 

@@ -1,6 +1,6 @@
 ghost use Rattle.std.specs.Prelude.{◌≡◌, ◌<◌, ◌≤◌, IfOk, vec_len};
 ghost use Rattle.tickets.specs.Openings.{AreNamed};
-ghost use Rattle.local_locks.specs.Wishes.{AreApart, CanAsk, IsOwn};
+ghost use Rattle.local_locks.specs.GroupWants.{AreApart, CanAsk, IsOwn};
 
 mod contents;
 
@@ -37,10 +37,10 @@ impl<J: GroupNames> Model for Grant<J> {
     ghost use Rattle.std.specs.Prelude.{List};
     ghost use Rattle.std.specs.Coded.{codes};
     ghost use Rattle.groups.specs.contracts.content.Content as content;
-    ghost use Rattle.tickets.specs.Claims.{Claiming};
+    ghost use Rattle.tickets.specs.Claims.{ClaimView};
     ghost use Rattle.wait_die.specs.declared.deciding.Holder.{Holder as AnyHolder};
 
-    ghost Value = { AnyHolder × List Claiming };
+    ghost Value = { AnyHolder × List ClaimView };
 
     ghost coded = { Prim.hlevel (codes, content.the_row.coded) };
 

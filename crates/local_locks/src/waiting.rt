@@ -1,6 +1,6 @@
 //! Who waits, and whose turn it is.
 ghost use Rattle.std.specs.Prelude.{◌≡◌, ◌≤◌, All, IfOk, IfSome, IfNone, length};
-ghost use Rattle.local_locks.specs.Locks.{parked};
+ghost use Rattle.local_locks.specs.Locks.{waiter_view};
 ghost use Rattle.local_locks.specs.Turns as spec;
 ghost use Rattle.local_locks.specs.Turns.{IsNext, IsParkedThere, StaysParked};
 
@@ -24,11 +24,11 @@ pub(crate) struct Waiter<J: GroupNames> {
 impl<J: GroupNames> Model for Waiter<J> {
     ghost use Rattle.std.specs.Prelude.{◌≡◌, [], vec_capacity};
     ghost use Rattle.std.specs.Coded.{codes};
-    ghost use Rattle.local_locks.specs.Locks.{Parked, parked};
+    ghost use Rattle.local_locks.specs.Locks.{WaiterView, waiter_view};
 
-    ghost Value = { Parked };
+    ghost Value = { WaiterView };
 
-    ghost view = { λ w. parked w.by w.wants.items (vec_capacity w.room) };
+    ghost view = { λ w. waiter_view w.by w.wants.items (vec_capacity w.room) };
 
     ghost invariant = { λ w. w.room.items ≡ [] };
 }
@@ -41,7 +41,7 @@ impl<J: GroupNames> Waiter<J> {
         wants: &[Want],
         count: usize,
     ) -> Result<Waiter<J>, NoMemory>
-        ensures { IfOk result (λ waiter. waiter ≡ parked by wants.now count) }
+        ensures { IfOk result (λ waiter. waiter ≡ waiter_view by wants.now count) }
     {
         let wants = Vec::from_slice(alloc.clone()?, wants)?;
         let room = Vec::with_capacity(alloc, count)?;

@@ -14,7 +14,7 @@ use Rattle.schema.specs.Database.{Database, customer_of_order}
 use Rattle.schema.specs.OrderRows.{oldest_new_order}
 use Rattle.requests.specs.declared.delivery.Delivery.{Delivery}
 use Rattle.machine.specs.NewOrder.{order_key}
-use Rattle.machine.specs.Delivery.{with_delivered, customer_delivered, amount_of, receiver, handed_over, delivered_order, Turn, turn_of, delivered_oldest, Round, no_turns, after_turn, delivered_in, told, delivery}
+use Rattle.machine.specs.Delivery.{with_delivered, customer_delivered, amount_of, receiver, handed_over, delivered_order, Turn, turn_of, delivered_oldest, Round, no_turns, after_turn, delivered_in, recorded, delivery}
 use Rattle.machine.proofs.RowsChanged.{all_of}
 
 -- a value that is there after a step was there before it
@@ -99,13 +99,13 @@ module _ (P : Database → Type 0) where
 
   -- ---- all ten
 
-  told-kept : (t : Database) (d : Delivery) (r : Option Round) → ((round : Round) → r ≡ Some round → P round.tables) → P t → P (told t d r).tables
-  told-kept t d None kept h = h
-  told-kept t d (Some round) kept h = kept round refl
+  recorded-kept : (t : Database) (d : Delivery) (r : Option Round) → ((round : Round) → r ≡ Some round → P round.tables) → P t → P (recorded t d r).tables
+  recorded-kept t d None kept h = h
+  recorded-kept t d (Some round) kept h = kept round refl
 
   pub delivery-kept : (t : Database) (d : Delivery) → AllByRecursion (λ district. TurnKeeps P d.carrier_id d.moment (district_key d.w_id district)) (range_with_len 1 10) → P t → P (delivery t d).tables
   delivery-kept t d kept h =
-      told-kept t d (delivered_in t d (range_with_len 1 10)) (λ round made. round-kept t d (range_with_len 1 10) round kept made h) h
+      recorded-kept t d (delivered_in t d (range_with_len 1 10)) (λ round made. round-kept t d (range_with_len 1 10) round kept made h) h
 
   -- what the turn of any district keeps
   pub delivery-kept_by_any : (t : Database) (d : Delivery) → ((home : DistrictKey) → TurnKeeps P d.carrier_id d.moment home) → P t → P (delivery t d).tables

@@ -32,7 +32,7 @@ use Rattle.groups.proofs.RowsInGroups.{each_row_stands_in_one_group, same_row}
 use Rattle.groups.proofs.RowsPut.{each_put_changes_one_group}
 use Rattle.machine.specs.declared.delivery.Handover.{Handover}
 use Rattle.machine.specs.NewOrder.{order_key}
-use Rattle.machine.specs.Delivery.{Turn, delivered_oldest, Round, after_turn, delivered_in, delivery_reply, told}
+use Rattle.machine.specs.Delivery.{Turn, delivered_oldest, Round, after_turn, delivered_in, delivery_reply, recorded}
 use Rattle.machine.specs.DeliverySteps.{due, turn_with}
 use Rattle.machine.specs.DeliveryLaws.{DeliveryReadsItsGroups, DeliveryKeepsOtherGroups}
 use Rattle.machine.proofs.GroupChanges.{changed_alike}
@@ -207,7 +207,7 @@ module _ (IsIn : Group → Type 0) where
         subst (λ x. SameTurns x (delivered_oldest t home carrier moment)) (sym (s_turn ∙ ap (turn_due s carrier moment) same))
         (subst (SameTurns (turn_due s carrier moment (due t home))) (sym t_turn) (turns_by_due carrier moment (due t home)))
 
-    same_ends : (d : Delivery) (x y : Option Round) → SameRounds x y → ((told s d x).reply ≡ (told t d y).reply) × Alike (told s d x).tables (told t d y).tables
+    same_ends : (d : Delivery) (x y : Option Round) → SameRounds x y → ((recorded s d x).reply ≡ (recorded t d y).reply) × Alike (recorded s d x).tables (recorded t d y).tables
     same_ends d None None same = (refl, alike)
     same_ends d (Some a) (Some b) same = (ap (λ orders. Done (DeliveryShown (delivery_reply d orders))) same.0, same.1)
     same_ends d None (Some b) same = absurd same
@@ -244,5 +244,5 @@ delivery_reads_its_groups s t d alike =
     let rounds = same_rounds (Contains groups) d ks (of_districts (Contains groups) d (All-contains_itself groups)) s t start in
     let ends = same_ends (Contains groups) s t start d (delivered_in s d ks) (delivered_in t d ks) rounds in (
       ends.0,
-      All-weaker (Contains groups) (λ x. content (told s d (delivered_in s d ks)).tables x ≡ content (told t d (delivered_in t d ks)).tables x) ends.1 groups (All-contains_itself groups),
+      All-weaker (Contains groups) (λ x. content (recorded s d (delivered_in s d ks)).tables x ≡ content (recorded t d (delivered_in t d ks)).tables x) ends.1 groups (All-contains_itself groups),
     )

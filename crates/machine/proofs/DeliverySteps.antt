@@ -17,7 +17,7 @@ use Rattle.requests.specs.declared.reply.Fault.TheVariants.{Range}
 use Rattle.machine.specs.declared.delivery.Handover.{Handover}
 use Rattle.machine.specs.Outcome.{Outcome, done, rolled_back}
 use Rattle.machine.specs.NewOrder.{order_key}
-use Rattle.machine.specs.Delivery.{customer_delivered, amount_of, receiver, Round, delivered_in, delivery_reply, told}
+use Rattle.machine.specs.Delivery.{customer_delivered, amount_of, receiver, Round, delivered_in, delivery_reply, recorded}
 use Rattle.machine.specs.DeliverySteps.{handover_of, found_due, due_by, due, turn_with, first_delivered}
 use Rattle.machine.proofs.DeliveryCases.{mapped_there, then_there}
 use Rattle.machine.proofs.DeliveryTurns.{IsSameFor, round-same, turn_due, then_turn, delivered_up_to}
@@ -25,7 +25,7 @@ use Rattle.machine.proofs.DeliveryTurns.{IsSameFor, round-same, turn_due, then_t
 -- no district
 pub none_delivered : (t : Database) (d : Delivery) (count : ℕ) → count ≡ 0 → first_delivered t d count ≡ done t (DeliveryShown (delivery_reply d []))
 unfolding delivered_in
-none_delivered t d count e = ap (λ n. told t d (delivered_in t d (range_with_len 1 n))) e
+none_delivered t d count e = ap (λ n. recorded t d (delivered_in t d (range_with_len 1 n))) e
 
 -- ---- one that can't be delivered
 
@@ -48,7 +48,7 @@ pub not_due : (t : Database) (d : Delivery) (n count : ℕ) (fault : Fault) → 
 not_due t d n count fault e is =
     let home = district_key d.w_id count in
     let range = faults_are_range t home fault is in
-    ap (told t d) (delivered_up_to t d n count e
+    ap (recorded t d) (delivered_up_to t d n count e
     ∙ ap (λ u. option_and_then (λ (round : Round). option_map (then_turn round) (turn_due round.tables d.carrier_id d.moment u)) (delivered_in t d (range_with_len 1 n))) (is ∙ ap Err range)
     ∙ none_after t d (delivered_in t d (range_with_len 1 n)))
     ∙ ap (rolled_back t) (sym range)
@@ -56,9 +56,9 @@ not_due t d n count fault e is =
 -- one of those before it
 pub not_before : (t : Database) (d : Delivery) (n count : ℕ) (fault : Fault) → count ≡ n + 1 → RolledBack fault ≡ (first_delivered t d n).reply → first_delivered t d count ≡ first_delivered t d n
 not_before t d n count fault e is =
-    ap (told t d) (delivered_up_to t d n count e)
-    ∙ elim (delivered_in t d (range_with_len 1 n)) as (λ r. RolledBack fault ≡ (told t d r).reply
-    → told t d (option_and_then (λ round. option_map (then_turn round) (turn_due round.tables d.carrier_id d.moment (due t (district_key d.w_id count)))) r) ≡ told t d r) [
+    ap (recorded t d) (delivered_up_to t d n count e)
+    ∙ elim (delivered_in t d (range_with_len 1 n)) as (λ r. RolledBack fault ≡ (recorded t d r).reply
+    → recorded t d (option_and_then (λ round. option_map (then_turn round) (turn_due round.tables d.carrier_id d.moment (due t (district_key d.w_id count)))) r) ≡ recorded t d r) [
       | None ↦ λ f. refl
       | Some round ↦ λ f. absurd cc
     ] is
@@ -76,10 +76,10 @@ pub delivered_too : (t left : Database) (d : Delivery) (n count : ℕ) (shown : 
     → first_delivered t d count ≡ handed_over_too d left shown handover
 delivered_too t left d n count shown handover e is reply tables =
     let home = district_key d.w_id count in
-    ap (told t d) (delivered_up_to t d n count e
+    ap (recorded t d) (delivered_up_to t d n count e
     ∙ ap (λ u. option_and_then (λ (round : Round). option_map (then_turn round) (turn_due round.tables d.carrier_id d.moment u)) (delivered_in t d (range_with_len 1 n))) is)
-    ∙ elim (delivered_in t d (range_with_len 1 n)) as (λ r. Done (DeliveryShown shown) ≡ (told t d r).reply → left ≡ (told t d r).tables
-    → told t d (option_and_then (λ (round : Round). option_map (then_turn round) (turn_due round.tables d.carrier_id d.moment (Ok handover))) r) ≡ handed_over_too d left shown handover) [
+    ∙ elim (delivered_in t d (range_with_len 1 n)) as (λ r. Done (DeliveryShown shown) ≡ (recorded t d r).reply → left ≡ (recorded t d r).tables
+    → recorded t d (option_and_then (λ (round : Round). option_map (then_turn round) (turn_due round.tables d.carrier_id d.moment (Ok handover))) r) ≡ handed_over_too d left shown handover) [
       | None ↦ λ f g. absurd cc
       | Some round ↦ λ f g.
           let same : shown ≡ delivery_reply d round.orders = cc in
@@ -97,7 +97,7 @@ shown_too d left count shown orders o_id handover carrier number all =
 -- the reply shows the carrier
 pub shows_carrier : (t : Database) (d : Delivery) (n : ℕ) (shown : DeliveryReply) → Done (DeliveryShown shown) ≡ (first_delivered t d n).reply → shown.carrier_id ≡ d.carrier_id
 shows_carrier t d n shown =
-    elim (delivered_in t d (range_with_len 1 n)) as (λ r. Done (DeliveryShown shown) ≡ (told t d r).reply → shown.carrier_id ≡ d.carrier_id) [
+    elim (delivered_in t d (range_with_len 1 n)) as (λ r. Done (DeliveryShown shown) ≡ (recorded t d r).reply → shown.carrier_id ≡ d.carrier_id) [
       | None ↦ λ f. absurd cc
       | Some round ↦ λ f. let same : shown ≡ delivery_reply d round.orders = cc in ap (λ (x : DeliveryReply). x.carrier_id) same
     ]
@@ -129,7 +129,7 @@ pub customer_is_there : (t left : Database) (d : Delivery) (n count : ℕ) (show
     → IfSome handover (λ h. IsTrue (table.contains_key left.customers h.customer))
 customer_is_there t left d n count shown None e is reply tables = tt
 customer_is_there t left d n count shown (Some handover) e is reply tables =
-    elim (delivered_in t d (range_with_len 1 n)) as (λ r. delivered_in t d (range_with_len 1 n) ≡ r → Done (DeliveryShown shown) ≡ (told t d r).reply → left ≡ (told t d r).tables → IsTrue (table.contains_key left.customers handover.customer)) [
+    elim (delivered_in t d (range_with_len 1 n)) as (λ r. delivered_in t d (range_with_len 1 n) ≡ r → Done (DeliveryShown shown) ≡ (recorded t d r).reply → left ≡ (recorded t d r).tables → IsTrue (table.contains_key left.customers handover.customer)) [
       | None ↦ λ made f g. absurd cc
       | Some round ↦ λ made f g.
           subst (λ (x : Database). IsTrue (table.contains_key x.customers handover.customer)) (sym g)

@@ -15,7 +15,7 @@ use Rattle.requests.specs.declared.group.Group.{Group}
 use Rattle.requests.specs.declared.group.Group.TheVariants as g
 use Rattle.requests.specs.declared.new_order.NewOrder.{NewOrder}
 use Rattle.requests.specs.declared.new_order.OrderedLine.{OrderedLine}
-use Rattle.groups.specs.declared.wishes.Wish.{Wish}
+use Rattle.groups.specs.declared.group_wants.GroupWant.{GroupWant}
 use Rattle.groups.specs.Groups.{group_of_warehouse, group_of_district, group_of_customer, group_of_stock, is_same}
 use Rattle.groups.specs.Content.{content}
 use Rattle.groups.specs.Modes.{exclusively}
@@ -52,9 +52,9 @@ module _ (P : Group → Type 0) where
   of_firsts [] each = tt
   of_firsts (group ∷ groups) each = (each.0, of_firsts groups (of_others group (firsts groups) each.0 each.1))
 
-  of_wishes : (groups : List Group) (wishes : List Wish) → AllByRecursion P (groups_of (map exclusively groups ++ wishes)) → AllByRecursion P groups × AllByRecursion P (groups_of wishes)
-  of_wishes [] wishes each = (tt, each)
-  of_wishes (group ∷ groups) wishes each = let rest = of_wishes groups wishes each.1 in ((each.0, rest.0), rest.1)
+  of_group_wants : (groups : List Group) (group_wants : List GroupWant) → AllByRecursion P (groups_of (map exclusively groups ++ group_wants)) → AllByRecursion P groups × AllByRecursion P (groups_of group_wants)
+  of_group_wants [] group_wants each = (tt, each)
+  of_group_wants (group ∷ groups) group_wants each = let rest = of_group_wants groups group_wants each.1 in ((each.0, rest.0), rest.1)
 
   record OfClaims (n : NewOrder) : Type 0 where
     warehouse : P (group_of_warehouse n.home.w_id)
@@ -66,7 +66,7 @@ module _ (P : Group → Type 0) where
   of_claims : (n : NewOrder) → All P (groups_of (new_order_footprint n)) → OfClaims n
   of_claims n all =
       let each = recursion_from_All P (groups_of (new_order_footprint n)) all in
-      let others = of_wishes (supplies_of n.lines) (exclusively (g.Orders n.home.w_id n.home.d_id) ∷ []) each.1.1.1 in
+      let others = of_group_wants (supplies_of n.lines) (exclusively (g.Orders n.home.w_id n.home.d_id) ∷ []) each.1.1.1 in
       record {
         warehouse = each.0;
         district = each.1.0;

@@ -28,19 +28,19 @@ use Rattle.groups.proofs.RowsInGroups.{each_row_stands_in_one_group, same_row}
 use Rattle.indexes.specs.Namesakes.{Keyed}
 use Rattle.indexes.specs.LatestOrder.{Orders, is_order_by, largest, latest, order_numbers}
 use Rattle.machine.specs.Chosen.{chosen}
-use Rattle.machine.specs.OrderStatus.{key_of_order, latest_shown, lines_shown, order_shown, status_line, status_order, status_reply, status_told}
+use Rattle.machine.specs.OrderStatus.{key_of_order, latest_shown, lines_shown, order_shown, status_line, status_order, status_reply, status_recorded}
 use Rattle.machine.specs.OrderStatusLaws.{StatusKeepsTables, StatusReadsItsGroups}
 use Rattle.machine.proofs.ChosenRows.{chosen_there}
 use Rattle.machine.proofs.SameChosen.{same_chosen}
 
 -- ---- no table changes
 
-told_keeps : (t : Database) (c : Option Keyed) → (status_told t c).tables ≡ t
-told_keeps t (Some c) = refl
-told_keeps t None = refl
+recorded_keeps : (t : Database) (c : Option Keyed) → (status_recorded t c).tables ≡ t
+recorded_keeps t (Some c) = refl
+recorded_keeps t None = refl
 
 pub status_keeps_tables : StatusKeepsTables
-status_keeps_tables t o = told_keeps t (chosen t.customers o.home o.customer)
+status_keeps_tables t o = recorded_keeps t (chosen t.customers o.home o.customer)
 
 -- ---- what a filter leaves of a part that has all that passes
 
@@ -122,9 +122,9 @@ module _ (home : DistrictKey) where
             ∙ ap (option_map (λ row. status_order o_id row (lines_shown t key)))
             (same_row s t s.orders t.orders group_of_order order_in (each_row_stands_in_one_group s).orders (each_row_stands_in_one_group t).orders key alike)
 
-    same_told : (c : Option Keyed) → ((found : Keyed) → c ≡ Some found → found.0 ≡ customer_key home found.0.c_id) → (status_told s c).reply ≡ (status_told t c).reply
-    same_told None of_home = refl
-    same_told (Some c) of_home =
+    same_recorded : (c : Option Keyed) → ((found : Keyed) → c ≡ Some found → found.0 ≡ customer_key home found.0.c_id) → (status_recorded s c).reply ≡ (status_recorded t c).reply
+    same_recorded None of_home = refl
+    same_recorded (Some c) of_home =
         let is = of_home c refl in
         let shown : latest_shown s c.0 ≡ latest_shown t c.0 = ap (latest_shown s) is ∙ same_shown c.0.c_id ∙ ap (latest_shown t) (sym is) in
         ap (λ order. Done (StatusShown (status_reply c.0 c.1 order))) shown
@@ -132,5 +132,5 @@ module _ (home : DistrictKey) where
 pub status_reads_its_groups : StatusReadsItsGroups
 status_reads_its_groups s t o alike =
     let each = recursion_from_All (λ group. content s group ≡ content t group) (groups_of (order_status_footprint o)) alike in
-    ap (λ c. (status_told s c).reply) (same_chosen s t o.home each.0 o.customer)
-    ∙ same_told o.home s t each.1.0 (chosen t.customers o.home o.customer) (λ found is. (chosen_there t.customers o.home o.customer found is).1)
+    ap (λ c. (status_recorded s c).reply) (same_chosen s t o.home each.0 o.customer)
+    ∙ same_recorded o.home s t each.1.0 (chosen t.customers o.home o.customer) (λ found is. (chosen_there t.customers o.home o.customer found is).1)

@@ -97,13 +97,13 @@ abbrev pub delivery_reply : Delivery → List (Option ℕ) → DeliveryReply
 delivery_reply d orders = record { carrier_id = d.carrier_id; orders = orders }
 
 -- by the ten turns, which are one transaction: where one can't be delivered, nothing changes
-abbrev pub told : Database → Delivery → Option Round → Outcome
-told t d (Some round) = done round.tables (DeliveryShown (delivery_reply d round.orders))
-told t d None = rolled_back t Range
+abbrev pub recorded : Database → Delivery → Option Round → Outcome
+recorded t d (Some round) = done round.tables (DeliveryShown (delivery_reply d round.orders))
+recorded t d None = rolled_back t Range
 
 -- what a Delivery leaves and answers
 abbrev pub delivery : Database → Delivery → Outcome
-delivery t d = told t d (delivered_in t d (range_with_len 1 10))
+delivery t d = recorded t d (delivered_in t d (range_with_len 1 10))
 
 -- ---- what is asked of a Delivery that is carried out
 

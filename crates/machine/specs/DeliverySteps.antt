@@ -17,7 +17,7 @@ use Rattle.requests.specs.declared.reply.Fault.TheVariants.{Range}
 use Rattle.machine.specs.declared.delivery.Handover.{Handover}
 use Rattle.machine.specs.Outcome.{Outcome}
 use Rattle.machine.specs.NewOrder.{order_key}
-use Rattle.machine.specs.Delivery.{Turn, delivered_in, receiver, told}
+use Rattle.machine.specs.Delivery.{Turn, delivered_in, receiver, recorded}
 
 -- the order, its customer, and the customer's row once the order was delivered; None where there is no such row
 abbrev pub handover_of : Database → OrderKey → Option Handover
@@ -52,7 +52,7 @@ turn_with t carrier moment (Some handover) = record {
 
 -- what the first districts leave and answer
 abbrev pub first_delivered : Database → Delivery → ℕ → Outcome
-first_delivered t d count = told t d (delivered_in t d (range_with_len 1 count))
+first_delivered t d count = recorded t d (delivered_in t d (range_with_len 1 count))
 
 -- the answer by what is shown, of which the first districts count, or by why nothing is
 abbrev pub first_answer : ℕ → Result DeliveryReply Fault → Reply

@@ -64,10 +64,10 @@ status_reply key row order = record {
 }
 
 -- by the customer that was chosen
-abbrev pub status_told : Database → Option Keyed → Outcome
-status_told t (Some c) = done t (StatusShown (status_reply c.0 c.1 (latest_shown t c.0)))
-status_told t None = rolled_back t NoCustomer
+abbrev pub status_recorded : Database → Option Keyed → Outcome
+status_recorded t (Some c) = done t (StatusShown (status_reply c.0 c.1 (latest_shown t c.0)))
+status_recorded t None = rolled_back t NoCustomer
 
 -- what Order-Status leaves and answers: it changes nothing
 abbrev pub order_status : Database → OrderStatus → Outcome
-order_status t o = status_told t (chosen t.customers o.home o.customer)
+order_status t o = status_recorded t (chosen t.customers o.home o.customer)

@@ -89,7 +89,7 @@ fn status_line(row: &OrderLine) -> StatusLine
 }
 
 /// Shows a customer's last order. No table changes.
-pub(crate) fn tell(
+pub(crate) fn show(
     alloc: Global,
     tables: &Tables,
     names: &NameIndex,

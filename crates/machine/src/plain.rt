@@ -35,7 +35,7 @@ impl Model for Plain {
 }
 
 impl Plain {
-    /// An engine over these tables. It sorts the customers by last name; want of memory leaves nothing
+    /// An engine over these tables. It sorts the customers by last name; lack of memory leaves nothing
     /// behind.
     pub fn open(alloc: Global, tables: Tables) -> Result<Self, NoMemory>
         ensures { IfOk result (λ plain. plain ≡ tables) }
@@ -78,7 +78,7 @@ impl Plain {
             }
             Request::Payment(asked) => payment::pay(self.alloc, tables, &self.names, asked),
             Request::OrderStatus(asked) => {
-                order_status::tell(self.alloc, tables, &self.names, &self.latest, asked)
+                order_status::show(self.alloc, tables, &self.names, &self.latest, asked)
             }
             Request::Delivery(asked) => Ok(delivery::deliver(tables, asked)),
             Request::StockLevel(asked) => {

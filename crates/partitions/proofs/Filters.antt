@@ -39,10 +39,10 @@ module _ {K X : Type 0} (own : K → ℕ) where
   pub last_split : (w : ℕ) (rows : List (K × X)) → 1 ≤ w → filter (λ e. nat_le w (own e.0)) (filter (λ e. nat_le (own e.0) w) rows) ≡ entries_at own (w - 1) rows
   last_split w rows low =
       filter_twice (λ e. nat_le w (own e.0)) (λ e. nat_le (own e.0) w) (λ e. is_of (w - 1 + 1) (own e.0)) rows (λ e.
-      let tells : (nat_le (own e.0) w && nat_le w (own e.0)) ≡ is_of (w - 1 + 1) (own e.0) = grind (arith, nat_tests) in tells)
+      let records : (nat_le (own e.0) w && nat_le w (own e.0)) ≡ is_of (w - 1 + 1) (own e.0) = grind (arith, nat_tests) in records)
 
   -- and before it: those of the others
   pub others_left : (w : ℕ) (rows : List (K × X)) → 1 ≤ w → filter (λ e. nat_lt (own e.0) w) (filter (λ e. nat_le (own e.0) w) rows) ≡ filter (λ e. nat_le (own e.0) (w - 1)) rows
   others_left w rows low =
       filter_twice (λ e. nat_lt (own e.0) w) (λ e. nat_le (own e.0) w) (λ e. nat_le (own e.0) (w - 1)) rows (λ e.
-      let tells : (nat_le (own e.0) w && nat_lt (own e.0) w) ≡ nat_le (own e.0) (w - 1) = grind (arith, nat_tests) in tells)
+      let records : (nat_le (own e.0) w && nat_lt (own e.0) w) ≡ nat_le (own e.0) (w - 1) = grind (arith, nat_tests) in records)

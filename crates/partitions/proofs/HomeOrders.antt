@@ -21,7 +21,7 @@ use Rattle.schema.proofs.KeyOrders.{orders_total, orders_exact, lines_total, lin
 use Rattle.schema.proofs.ScaleKept.{EachRow-insert}
 use Rattle.schema.proofs.TableWrites.{now_there, still_there}
 use Rattle.partitions.specs.declared.home_rows.HomeRows.{HomeRows}
-use Rattle.partitions.specs.Parts.{Shared, Part, IsPart, is_of}
+use Rattle.partitions.specs.Parts.{SharedTables, Part, IsPart, is_of}
 use Rattle.partitions.specs.Partitions.{part, FitsPart}
 
 -- ---- an order more
@@ -85,7 +85,7 @@ part_with_order p key order lines h home number customer few known =
 
 -- ---- other orders
 
-module _ (shared : Shared) (home : ℕ) (rows : HomeRows) (orders : BTreeMap OrderKey Order) (new_orders : List (OrderKey × NewOrder)) (lines : List (OrderLineKey × OrderLine)) where
+module _ (shared : SharedTables) (home : ℕ) (rows : HomeRows) (orders : BTreeMap OrderKey Order) (new_orders : List (OrderKey × NewOrder)) (lines : List (OrderLineKey × OrderLine)) where
   -- the part of rows whose orders are others
   pub other_orders : (x : FinMap order_cmp Order) (y : FinMap order_cmp NewOrder) (z : LineTable) → table_of order_cmp orders ≡ x → table.from_entries new_orders ≡ y → line_table lines ≡ z
       → part shared home (record rows { orders = orders; new_orders = new_orders; lines = lines })

@@ -14,7 +14,7 @@ use Rattle.schema.proofs.Places.{get-dense}
 use Rattle.schema.proofs.KeyOrders.{customers_total, customers_exact}
 use Rattle.schema.proofs.DistrictRows.{slice_get-drop, slice_get-take}
 use Rattle.partitions.specs.declared.home_rows.HomeRows.{HomeRows}
-use Rattle.partitions.specs.Parts.{Shared}
+use Rattle.partitions.specs.Parts.{SharedTables}
 use Rattle.partitions.specs.Partitions.{customer_keys_of, part}
 use Rattle.partitions.specs.Slots.{home_slot}
 use Rattle.partitions.proofs.HomePlaces.{warehouse_first, customer_place}
@@ -26,7 +26,7 @@ warehouse_read home row q same =
     get-dense nat_cmp_total nat_cmp-IsAntisymmetric (home ∷ []) (row ∷ []) q
     ∙ ap (option_and_then (slice_get (row ∷ []))) (warehouse_first home q same)
 
-module _ (shared : Shared) (home : ℕ) (rows : HomeRows) (key : DistrictKey) (slot : ℕ) (is : home_slot home key ≡ Some slot) where
+module _ (shared : SharedTables) (home : ℕ) (rows : HomeRows) (key : DistrictKey) (slot : ℕ) (is : home_slot home key ≡ Some slot) where
   -- the district's customers are those that the table has there
   customers_read : (customers : ℕ) → customers ≡ shared.scale.customers
       → (cut : List Customer) → cut ≡ take ((slot + 1) * customers - slot * customers) (drop (slot * customers) rows.customers.items) → (c : ℕ)

@@ -16,7 +16,7 @@ use Rattle.schema.specs.Rows.{database, FitsScale}
 use Rattle.schema.proofs.KeyOrders.{districts_total, districts_exact, stocks_total, stocks_exact, customers_total, customers_exact, orders_total, orders_exact, lines_total, lines_exact}
 use Rattle.partitions.specs.declared.home_rows.HomeRows.{HomeRows}
 use Rattle.partitions.specs.declared.homes.Homes.{Homes}
-use Rattle.partitions.specs.Parts.{Shared, shared_of, IsPart, part_of}
+use Rattle.partitions.specs.Parts.{SharedTables, shared_of, IsPart, part_of}
 use Rattle.partitions.specs.Partitions.{district_keys_of, stock_keys_of, customer_keys_of, part, HasCountsOf, FitsPart}
 use Rattle.partitions.specs.Splits.{chunk, AreOfWarehouses, AreRowsOfWarehouses, AreHomesFrom, IsHomeAt, HasHome}
 use Rattle.partitions.proofs.LastFirst.{some_left}
@@ -82,7 +82,7 @@ single place rows d below =
     ap (λ n. take 1 (drop n rows)) e ∙ ap (take 1) (drop-cons rows place d below)
 
 module _ (scale : Scale) (rows : TableRows) (fits : FitsScale scale rows) (place : ℕ) (below : place < scale.warehouses) (home : HomeRows) (at : IsHomeAt scale rows place home) where
-  pub home_part : (shared : Shared) → shared ≡ shared_of (database scale rows) → part shared (place + 1) home ≡ part_of (database scale rows) (place + 1)
+  pub home_part : (shared : SharedTables) → shared ≡ shared_of (database scale rows) → part shared (place + 1) home ≡ part_of (database scale rows) (place + 1)
   home_part shared same =
       let one : chunk 1 place rows.warehouses.items ≡ home.warehouse ∷ [] =
       single place rows.warehouses.items home.warehouse (omega (arith, fits.counts.warehouses)) ∙ ap (λ x. x ∷ []) (at.warehouse home.warehouse) in
@@ -90,9 +90,9 @@ module _ (scale : Scale) (rows : TableRows) (fits : FitsScale scale rows) (place
       ∙ chunk_part nat_cmp_total nat_cmp-IsAntisymmetric (λ key. key) warehouse_id_of 1 (λ w. refl) warehouse_ids_owned (warehouse_ids scale) scale.warehouses (warehouse_ids_in_turn scale) rows.warehouses.items place below in
       let districts = ap (λ xs. from_entries (zip (district_keys_of (place + 1)) xs)) at.districts
       ∙ chunk_part districts_total districts_exact (λ key. key.w_id) district_keys_of 10 length-district_keys_of district_keys_owned (district_keys scale) scale.warehouses (district_keys_in_turn scale) rows.districts.items place below in
-      let stocks = ap (λ (s : Shared). from_entries (zip (stock_keys_of s.scale (place + 1)) home.stocks.items)) same ∙ ap (λ xs. from_entries (zip (stock_keys_of scale (place + 1)) xs)) at.stocks
+      let stocks = ap (λ (s : SharedTables). from_entries (zip (stock_keys_of s.scale (place + 1)) home.stocks.items)) same ∙ ap (λ xs. from_entries (zip (stock_keys_of scale (place + 1)) xs)) at.stocks
       ∙ chunk_part stocks_total stocks_exact (λ key. key.w_id) (stock_keys_of scale) scale.items (length-stock_keys_of scale) (stock_keys_owned scale) (stock_keys scale) scale.warehouses (stock_keys_in_turn scale) rows.stocks.items place below in
-      let customers = ap (λ (s : Shared). from_entries (zip (customer_keys_of s.scale (place + 1)) home.customers.items)) same ∙ ap (λ xs. from_entries (zip (customer_keys_of scale (place + 1)) xs)) at.customers
+      let customers = ap (λ (s : SharedTables). from_entries (zip (customer_keys_of s.scale (place + 1)) home.customers.items)) same ∙ ap (λ xs. from_entries (zip (customer_keys_of scale (place + 1)) xs)) at.customers
       ∙ chunk_part customers_total customers_exact (λ key. key.w_id) (customer_keys_of scale) (10 * scale.customers) (length-customer_keys_of scale) (customer_keys_owned scale) (customer_keys scale) scale.warehouses (customer_keys_in_turn scale) rows.customers.items place below in
       let histories = ap (λ xs. from_entries (zip (district_keys_of (place + 1)) xs)) at.histories
       ∙ chunk_part districts_total districts_exact (λ key. key.w_id) district_keys_of 10 length-district_keys_of district_keys_owned (district_keys scale) scale.warehouses (district_keys_in_turn scale) rows.histories.items place below in
@@ -115,7 +115,7 @@ module _ (scale : Scale) (rows : TableRows) (fits : FitsScale scale rows) (place
         };
       }
 
-  pub home_fits : (shared : Shared) → shared ≡ shared_of (database scale rows) → FitsPart shared (place + 1) home
+  pub home_fits : (shared : SharedTables) → shared ≡ shared_of (database scale rows) → FitsPart shared (place + 1) home
   home_fits shared same =
       let has : IsTrue (has_warehouse scale (place + 1)) = grind (arith, nat_tests) in
       let scale_is : shared.scale ≡ scale = ap (λ s. s.scale) same in

@@ -27,13 +27,13 @@ use Rattle.schema.proofs.ScaleRules.{some_if}
 use Rattle.schema.proofs.Places.{contains-dense, insert-dense, get-dense, place-within}
 use Rattle.schema.proofs.KeyOrders.{districts_total, districts_exact, stocks_total, stocks_exact, customers_total, customers_exact}
 use Rattle.partitions.specs.declared.home_rows.HomeRows.{HomeRows}
-use Rattle.partitions.specs.Parts.{Shared, Part, is_of, has_district_of, has_stock_of}
+use Rattle.partitions.specs.Parts.{SharedTables, Part, is_of, has_district_of, has_stock_of}
 use Rattle.partitions.specs.Partitions.{district_keys_of, stock_keys_of, customer_keys_of, part, FitsPart}
 use Rattle.partitions.specs.Slots.{customer_slot_by, home_slot, home_stock_slot}
 use Rattle.partitions.proofs.HomePlaces.{warehouse_place, warehouse_first, district_place, stock_place, customer_place, length-district_keys_of, length-stock_keys_of, length-customer_keys_of}
 use Rattle.partitions.proofs.HomeSlots.{slot_within, customer_there}
 
-module _ (shared : Shared) (home : ℕ) (rows : HomeRows) (h : FitsPart shared home rows) where
+module _ (shared : SharedTables) (home : ℕ) (rows : HomeRows) (h : FitsPart shared home rows) where
   -- as many rows in five tables, with payers that are known, make a part again
   refilled : (warehouse : Warehouse) (districts : Vec District Global) (stocks : Vec Stock Global) (customers : Vec Customer Global) (histories : Vec (List History) Global)
       → length districts.items ≡ 10 → length stocks.items ≡ shared.scale.items → length customers.items ≡ 10 * shared.scale.customers → length histories.items ≡ 10

@@ -18,7 +18,7 @@ use Rattle.schema.specs.Database.{Database, IsWithinScale}
 use Rattle.schema.specs.Rows.{database, AreNoRows, FitsScale}
 use Rattle.schema.proofs.KeyOrders.{districts_total, districts_exact, stocks_total, stocks_exact, customers_total, customers_exact, orders_total, orders_exact, lines_total, lines_exact}
 use Rattle.partitions.specs.declared.home_rows.HomeRows.{HomeRows}
-use Rattle.partitions.specs.Parts.{Shared, Part, IsPart, is_of, rows_of_all, whole_of, ArePartsOf}
+use Rattle.partitions.specs.Parts.{SharedTables, Part, IsPart, is_of, rows_of_all, whole_of, ArePartsOf}
 use Rattle.partitions.specs.Partitions.{district_keys_of, stock_keys_of, customer_keys_of, part, HasCountsOf, FitsPart}
 use Rattle.partitions.specs.Appends.{AddsRows, AppendsHome}
 use Rattle.partitions.proofs.Wholes.{nothing_last, get-whole_more, get-whole_nowhere}
@@ -121,7 +121,7 @@ module _ {K X : Type 0} {R : K → K → Ordering} (o : IsTotalOrder R) (a : IsA
       ] refl
       ∙ sym (get-whole_more o a own table before p q))
 
-pub whole_more : (scale : Scale) (before : List Part) (rows new : TableRows) (s : Shared) (home : ℕ) (hr : HomeRows) → s.scale ≡ scale → home ≡ length before + 1 → FitsPart s home hr
+pub whole_more : (scale : Scale) (before : List Part) (rows new : TableRows) (s : SharedTables) (home : ℕ) (hr : HomeRows) → s.scale ≡ scale → home ≡ length before + 1 → FitsPart s home hr
     → IsWholeTo scale before rows → AppendsHome rows hr new → IsWholeTo scale (before ++ part s home hr ∷ []) new
 whole_more scale before rows new s home hr same next fits h adds =
     let p = part s home hr in
@@ -154,11 +154,11 @@ all_made : {K X : Type 0} {R : K → K → Ordering} (own : K → ℕ) (keys_of 
 all_made own keys_of each table parts rows keys many long same h =
     ap (λ ks. from_entries (zip ks rows)) (same ∙ ap (keys_from keys_of 1) (sym long)) ∙ h.made
 
-module _ (shared : Shared) (parts : List Part) (rows : TableRows) (scale : Scale) (items : Vec Item) (are : ArePartsOf shared parts)
+module _ (shared : SharedTables) (parts : List Part) (rows : TableRows) (scale : Scale) (items : Vec Item) (are : ArePartsOf shared parts)
     (is : (record { scale = scale; items = from_entries (zip (item_ids scale) items.items) }) ≡ shared) (h : IsWholeTo scale parts rows) where
   pub whole_made : database scale (record rows { items = items }) ≡ whole_of shared parts
   whole_made =
-      let many : length parts ≡ scale.warehouses = are.many ∙ ap (λ (s : Shared). s.scale.warehouses) (sym is) in
+      let many : length parts ≡ scale.warehouses = are.many ∙ ap (λ (s : SharedTables). s.scale.warehouses) (sym is) in
       let warehouses = all_made (λ key. key) warehouse_id_of 1 (λ t. t.warehouses) parts rows.warehouses.items (warehouse_ids scale) scale.warehouses many (warehouse_ids_in_turn scale) h.warehouses in
       let districts = all_made (λ key. key.w_id) district_keys_of 10 (λ t. t.districts) parts rows.districts.items (district_keys scale) scale.warehouses many (district_keys_in_turn scale) h.districts in
       let stocks = all_made (λ key. key.w_id) (stock_keys_of scale) scale.items (λ t. t.stocks) parts rows.stocks.items (stock_keys scale) scale.warehouses many (stock_keys_in_turn scale) h.stocks in
@@ -179,7 +179,7 @@ module _ (shared : Shared) (parts : List Part) (rows : TableRows) (scale : Scale
 
   pub whole_fits : length items.items ≡ scale.items → FitsScale scale (record rows { items = items })
   whole_fits long =
-      let many : length parts ≡ scale.warehouses = are.many ∙ ap (λ (s : Shared). s.scale.warehouses) (sym is) in
+      let many : length parts ≡ scale.warehouses = are.many ∙ ap (λ (s : SharedTables). s.scale.warehouses) (sym is) in
       let once : length parts * 1 ≡ scale.warehouses = omega (arith, many) in
       let customers : scale.warehouses * (10 * scale.customers) ≡ scale.warehouses * 10 * scale.customers = grind arith in
       record {

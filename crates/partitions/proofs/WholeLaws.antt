@@ -13,11 +13,11 @@ use Rattle.schema.specs.EachRow.{EachRow}
 use Rattle.schema.specs.Scale.{has_item, has_warehouse, has_customer}
 use Rattle.schema.specs.Database.{Database, IsWithinScale, are_payers_known, is_order_id, is_line_number, customer_of_order}
 use Rattle.schema.proofs.KeyOrders.{districts_total, districts_exact, stocks_total, stocks_exact, customers_total, customers_exact, orders_total, orders_exact, lines_total, lines_exact}
-use Rattle.partitions.specs.Parts.{Shared, Part, IsPart, is_of, part_of, rows_of_all, whole_of, ArePartsOf}
+use Rattle.partitions.specs.Parts.{SharedTables, Part, IsPart, is_of, part_of, rows_of_all, whole_of, ArePartsOf}
 use Rattle.partitions.proofs.Wholes.{get-whole_of_parts}
 use Rattle.partitions.proofs.PartLaws.{get-part, same_home, own_home, absent, and_assoc, and_true}
 
-module _ (shared : Shared) (parts : List Part) (d : Part) (are : ArePartsOf shared parts) (each : All IsPart parts) where
+module _ (shared : SharedTables) (parts : List Part) (d : Part) (are : ArePartsOf shared parts) (each : All IsPart parts) where
   -- the part of a warehouse of the scale
   abbrev of_warehouse : ℕ → Part
   of_warehouse w = slice_index_or parts (w - 1) d

@@ -11,7 +11,7 @@ use Rattle.std.proofs.lemmas.Bool.Decides.{nat_tests}
 use Rattle.std.proofs.lemmas.Grind.{flat_map-append}
 use Rattle.schema.specs.Scale.{has_warehouse}
 use Rattle.schema.specs.Database.{Database}
-use Rattle.partitions.specs.Parts.{Shared, Part, is_of, rows_of_all, ArePartsOf}
+use Rattle.partitions.specs.Parts.{SharedTables, Part, is_of, rows_of_all, ArePartsOf}
 
 pub nothing_last : {X : Type 0} (r : Option X) → option_or r None ≡ r
 nothing_last None = refl
@@ -80,7 +80,7 @@ module _ {K X : Type 0} {R : K → K → Ordering} (o : IsTotalOrder R) (a : IsA
   get-whole_there parts q place d l is alone = get-from_entries o (flat_map rows_of_one parts) q ∙ found_there parts q place d l is alone
 
   -- The parts of all warehouses: the row is that of the part of the key's warehouse.
-  pub get-whole_of_parts : (shared : Shared) (parts : List Part) (d : Part) → ArePartsOf shared parts → (q : K)
+  pub get-whole_of_parts : (shared : SharedTables) (parts : List Part) (d : Part) → ArePartsOf shared parts → (q : K)
       → get (rows_of_all own rows parts) q ≡ cond (has_warehouse shared.scale (own q)) (get (rows (slice_index_or parts (own q - 1) d).tables) q) None
   get-whole_of_parts shared parts d are q =
       elim (has_warehouse shared.scale (own q)) as (λ b. has_warehouse shared.scale (own q) ≡ b → get (rows_of_all own rows parts) q ≡ cond b (get (rows (slice_index_or parts (own q - 1) d).tables) q) None) [

@@ -9,7 +9,7 @@ use Rattle.schema.specs.declared.scale.Scale.{Scale}
 use Rattle.schema.specs.Dense.{grid}
 use Rattle.schema.specs.Scale.{district_key, stock_key, customer_key}
 use Rattle.partitions.specs.declared.home_rows.HomeRows.{HomeRows}
-use Rattle.partitions.specs.Parts.{Shared, Part, IsPart}
+use Rattle.partitions.specs.Parts.{SharedTables, Part, IsPart}
 
 -- ---- a warehouse's keys in order
 
@@ -28,7 +28,7 @@ customer_keys_of scale home = grid customer_key scale.customers (district_keys_o
 -- ---- the part
 
 -- the part of the tables that these rows make: those of four tables belong to the warehouse's keys in order
-abbrev pub part : Shared → ℕ → HomeRows → Part
+abbrev pub part : SharedTables → ℕ → HomeRows → Part
 part shared home rows = record {
   home = home;
   tables = record {
@@ -53,7 +53,7 @@ pub record HasCountsOf (scale : Scale) (rows : HomeRows) : Type 0 where
   pub histories : length rows.histories.items ≡ 10
 
 -- the rows make a part
-pub record FitsPart (shared : Shared) (home : ℕ) (rows : HomeRows) : Type 0 where
+pub record FitsPart (shared : SharedTables) (home : ℕ) (rows : HomeRows) : Type 0 where
   pub counts : HasCountsOf shared.scale rows
   pub is_part : IsPart (part shared home rows)
 

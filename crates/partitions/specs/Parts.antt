@@ -18,12 +18,12 @@ use Rattle.schema.specs.Scale.{has_item, has_warehouse, warehouse_ids}
 use Rattle.schema.specs.Database.{Database, PayersKnown, OrdersNumbered, OrdersHaveCustomers, NewOrdersHaveOrders, LinesHaveOrders, LinesNumbered, LinesHaveItems, LinesHaveSuppliers}
 
 -- what all parts share: the scale of the tables, and ITEM
-pub record Shared : Type 0 where
+pub record SharedTables : Type 0 where
   pub scale : Scale
   pub items : table.FinMap nat_cmp Item
 
 -- what all parts of these tables share
-abbrev pub shared_of : Database → Shared
+abbrev pub shared_of : Database → SharedTables
 shared_of t = record { scale = t.scale; items = t.items }
 
 -- the rows of one warehouse, as tables that have no others, and what all parts share
@@ -102,7 +102,7 @@ abbrev pub rows_of_all : {K X : Type 0} {R : K → K → Ordering} → (K → �
 rows_of_all own rows parts = table.from_entries (flat_map (λ p. table.entries (table.retain_keys (rows p.tables) (λ key. is_of p.home (own key)))) parts)
 
 -- tables of what the parts have, and of what they share
-abbrev pub whole_of : Shared → List Part → Database
+abbrev pub whole_of : SharedTables → List Part → Database
 whole_of shared parts = record {
   scale = shared.scale;
   items = shared.items;
@@ -117,12 +117,12 @@ whole_of shared parts = record {
 }
 
 -- a part of the warehouse whose place this is, from 0, with this scale and these items
-pub record IsPartAt (shared : Shared) (place : ℕ) (p : Part) : Type 0 where
+pub record IsPartAt (shared : SharedTables) (place : ℕ) (p : Part) : Type 0 where
   pub home : p.home ≡ place + 1
   pub scale : p.tables.scale ≡ shared.scale
   pub items : p.tables.items ≡ shared.items
 
 -- the parts of all warehouses of the scale, in order
-pub record ArePartsOf (shared : Shared) (parts : List Part) : Type 0 where
+pub record ArePartsOf (shared : SharedTables) (parts : List Part) : Type 0 where
   pub many : length parts ≡ shared.scale.warehouses
   pub each : (place : ℕ) (d : Part) → place < length parts → IsPartAt shared place (slice_index_or parts place d)

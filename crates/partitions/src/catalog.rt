@@ -23,9 +23,9 @@ impl Model for Catalog {
     ghost use Rattle.rows.specs.contracts.records.Item as item;
     ghost use Rattle.schema.specs.contracts.scale.Scale as scale_kind;
     ghost use Rattle.schema.specs.Scale.{item_ids};
-    ghost use Rattle.partitions.specs.Parts.{Shared};
+    ghost use Rattle.partitions.specs.Parts.{SharedTables};
 
-    ghost Value = { Shared };
+    ghost Value = { SharedTables };
 
     ghost coded = { code_by _
         (coded× scale_kind.the_row.coded (map.code coded_ℕ item.the_row.coded))

@@ -63,8 +63,8 @@ abbrev pub named_x : ℕ → ℕ → ℕ
 named_x sessions executors = executor_x sessions executors + 96
 
 -- the left edge of what is told
-abbrev pub told_x : ℕ → ℕ → ℕ
-told_x sessions executors = executor_x sessions executors + 240
+abbrev pub reported_x : ℕ → ℕ → ℕ
+reported_x sessions executors = executor_x sessions executors + 240
 
 -- the upper edge of the row at this place, from 0, its middle, the line of its words, and its lower edge
 abbrev pub row_top : ℕ → ℕ

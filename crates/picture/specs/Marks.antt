@@ -8,30 +8,30 @@ use Rattle.picture.specs.declared.marks.Mark.TheVariants.{Words, Spot, Square, A
 use Rattle.picture.specs.declared.phrase.Phrase.TheVariants as phrase
 use Rattle.picture.specs.declared.row.Deed.{Deed}
 use Rattle.picture.specs.declared.row.Deed.TheVariants.{Submit, Order, Take, Send}
-use Rattle.picture.specs.declared.row.Told.{Told}
-use Rattle.picture.specs.declared.row.Told.TheVariants.{Accepted, Ordered, Logged, Done, Refused, Nothing}
+use Rattle.picture.specs.declared.row.RowAnswer.{RowAnswer}
+use Rattle.picture.specs.declared.row.RowAnswer.TheVariants.{Accepted, Ordered, Logged, Done, Refused, Nothing}
 use Rattle.picture.specs.declared.row.Row.{Row}
 use Rattle.picture.specs.declared.row.Row.TheVariants.{Event, Rounds, InRounds}
-use Rattle.picture.specs.Lanes.{outside_x, session_x, takes_x, sends_x, log_left, log_x, log_right, told_x, row_top, row_middle, row_words, row_bottom}
+use Rattle.picture.specs.Lanes.{outside_x, session_x, takes_x, sends_x, log_left, log_x, log_right, reported_x, row_top, row_middle, row_words, row_bottom}
 use Rattle.picture.specs.Phrases.{phrase_text}
 
 -- ---- the marks of a row
 
 -- a submission has a spot on its session's line, round where it is admitted
-abbrev pub submission : ℕ → ℕ → Told → Mark
+abbrev pub submission : ℕ → ℕ → RowAnswer → Mark
 submission x at (Accepted age) = Spot style.Take x at
 submission x at (Refused session number refusal) = Spot style.Refused x at
-submission x at told = Spot style.Nothing x at
+submission x at reported = Spot style.Nothing x at
 
 -- an order has a spot at the left of all lanes, full where the move is outstanding from then on
-abbrev pub ordering : ℕ → Told → Mark
+abbrev pub ordering : ℕ → RowAnswer → Mark
 ordering at Ordered = Spot style.Take outside_x at
-ordering at told = Spot style.Nothing outside_x at
+ordering at reported = Spot style.Nothing outside_x at
 
 -- a take or a send has a spot on its executor's line
-abbrev pub step_spot : Style → ℕ → ℕ → Told → Mark
+abbrev pub step_spot : Style → ℕ → ℕ → RowAnswer → Mark
 step_spot s x at Nothing = Spot style.Nothing x at
-step_spot s x at told = Spot s x at
+step_spot s x at reported = Spot s x at
 
 -- a place of the log stands in a green square on the log's line
 abbrev pub logged : ℕ → ℕ → ℕ → ℕ → List Mark
@@ -40,41 +40,41 @@ logged sessions executors at place =
     ∷ Words style.Middle (log_x sessions executors) at (phrase.Place place) ∷ []
 
 -- What is logged or answered has a sign on the line of the log or of the session.
-abbrev pub told_signs : List ℕ → ℕ → ℕ → Told → List Mark
-told_signs sessions executors at (Logged place) = logged (length sessions) executors at place
-told_signs sessions executors at (Done session number place rolled_back) = Spot style.Done (session_x sessions session) at ∷ []
-told_signs sessions executors at (Refused session number refusal) = Spot style.Refused (session_x sessions session) at ∷ []
-told_signs sessions executors at told = []
+abbrev pub reported_signs : List ℕ → ℕ → ℕ → RowAnswer → List Mark
+reported_signs sessions executors at (Logged place) = logged (length sessions) executors at place
+reported_signs sessions executors at (Done session number place rolled_back) = Spot style.Done (session_x sessions session) at ∷ []
+reported_signs sessions executors at (Refused session number refusal) = Spot style.Refused (session_x sessions session) at ∷ []
+reported_signs sessions executors at reported = []
 
 -- and an arrow to it, from the line of what was sent
-abbrev pub told_arrow : List ℕ → ℕ → ℕ → ℕ → Told → List Mark
-told_arrow sessions executors from at (Logged place) = Across style.Done from (log_left (length sessions) executors) at ∷ []
-told_arrow sessions executors from at (Done session number place rolled_back) = Across style.Done from (session_x sessions session) at ∷ []
-told_arrow sessions executors from at (Refused session number refusal) = Across style.Refused from (session_x sessions session) at ∷ []
-told_arrow sessions executors from at told = []
+abbrev pub reported_arrow : List ℕ → ℕ → ℕ → ℕ → RowAnswer → List Mark
+reported_arrow sessions executors from at (Logged place) = Across style.Done from (log_left (length sessions) executors) at ∷ []
+reported_arrow sessions executors from at (Done session number place rolled_back) = Across style.Done from (session_x sessions session) at ∷ []
+reported_arrow sessions executors from at (Refused session number refusal) = Across style.Refused from (session_x sessions session) at ∷ []
+reported_arrow sessions executors from at reported = []
 
 -- What an event has in its row beside its words: a spot, and what is logged or answered by it.
-abbrev pub event_signs : List ℕ → ℕ → ℕ → Deed → Told → List Mark
-event_signs sessions executors at (Submit session number kind) told = submission (session_x sessions session) at told ∷ []
-event_signs sessions executors at (Order order) told = ordering at told ∷ []
-event_signs sessions executors at (Take executor) told = step_spot style.Take (takes_x (length sessions) executor) at told ∷ []
-event_signs sessions executors at (Send executor) told =
-    told_arrow sessions executors (sends_x (length sessions) executor) at told
-    ++ (told_signs sessions executors at told ++ step_spot style.Send (sends_x (length sessions) executor) at told ∷ [])
+abbrev pub event_signs : List ℕ → ℕ → ℕ → Deed → RowAnswer → List Mark
+event_signs sessions executors at (Submit session number kind) reported = submission (session_x sessions session) at reported ∷ []
+event_signs sessions executors at (Order order) reported = ordering at reported ∷ []
+event_signs sessions executors at (Take executor) reported = step_spot style.Take (takes_x (length sessions) executor) at reported ∷ []
+event_signs sessions executors at (Send executor) reported =
+    reported_arrow sessions executors (sends_x (length sessions) executor) at reported
+    ++ (reported_signs sessions executors at reported ++ step_spot style.Send (sends_x (length sessions) executor) at reported ∷ [])
 
 -- what is told, in words
-abbrev pub told_words : List ℕ → ℕ → ℕ → Told → Mark
-told_words sessions executors at told = Words style.Plain (told_x (length sessions) executors) at (phrase.Told told)
+abbrev pub reported_words : List ℕ → ℕ → ℕ → RowAnswer → Mark
+reported_words sessions executors at reported = Words style.Plain (reported_x (length sessions) executors) at (phrase.RowAnswer reported)
 
 -- The marks of the row at this place: its number, what was scheduled, and what is told of it, in words and in signs.
 abbrev pub row_marks : List ℕ → ℕ → ℕ → Row → List Mark
-row_marks sessions executors at (Event number deed told) =
-    Words style.Number 40 at (phrase.Number number) ∷ Words style.Plain 52 at (phrase.Deed deed) ∷ told_words sessions executors at told
-    ∷ event_signs sessions executors at deed told
+row_marks sessions executors at (Event number deed reported) =
+    Words style.Number 40 at (phrase.Number number) ∷ Words style.Plain 52 at (phrase.Deed deed) ∷ reported_words sessions executors at reported
+    ∷ event_signs sessions executors at deed reported
 row_marks sessions executors at (Rounds number) =
     Words style.Number 40 at (phrase.Number number) ∷ Words style.Plain 52 at phrase.Rounds
-    ∷ Words style.Dim (told_x (length sessions) executors) at phrase.NotShown ∷ []
-row_marks sessions executors at (InRounds told) = told_words sessions executors at told ∷ told_signs sessions executors at told
+    ∷ Words style.Dim (reported_x (length sessions) executors) at phrase.NotShown ∷ []
+row_marks sessions executors at (InRounds reported) = reported_words sessions executors at reported ∷ reported_signs sessions executors at reported
 
 -- the marks of rows, of which the first stands at this place
 abbrev pub all_marks : List ℕ → ℕ → ℕ → List Row → List Mark

@@ -9,12 +9,12 @@ use Rattle.picture.specs.declared.row.Kind.{Kind}
 use Rattle.picture.specs.declared.row.Kind.TheVariants.{NewOrder, Payment, OrderStatus, Delivery, StockLevel}
 use Rattle.picture.specs.declared.row.Deed.{Deed as AnyDeed}
 use Rattle.picture.specs.declared.row.Deed.TheVariants.{Submit, Order, Take, Send}
-use Rattle.picture.specs.declared.row.Told.{Told as AnyTold}
-use Rattle.picture.specs.declared.row.Told.TheVariants as told
+use Rattle.picture.specs.declared.row.RowAnswer.{RowAnswer as AnyReported}
+use Rattle.picture.specs.declared.row.RowAnswer.TheVariants as reported
 use Rattle.picture.specs.declared.phrase.Heading.{Heading as AnyHeading}
 use Rattle.picture.specs.declared.phrase.Heading.TheVariants as heading
 use Rattle.picture.specs.declared.phrase.Phrase.{Phrase}
-use Rattle.picture.specs.declared.phrase.Phrase.TheVariants.{Heading, Number, Deed, Rounds, Told, Place, One, Two, All, Start, Act, Report, Commit, Reply, Settle, Undo, Ended, Move, Fetch, Parcel, Arrival, Parked, Unknown, NotShown}
+use Rattle.picture.specs.declared.phrase.Phrase.TheVariants.{Heading, Number, Deed, Rounds, RowAnswer, Place, One, Two, All, Start, Act, Report, Commit, Reply, Settle, Undo, Ended, Move, Fetch, Parcel, Arrival, Parked, Unknown, NotShown}
 
 -- what stands over a lane or a column
 abbrev pub heading_text : AnyHeading → List ℕ
@@ -26,7 +26,7 @@ heading_text heading.Claims = codes "claims"
 heading_text heading.Takes = codes "takes"
 heading_text heading.Sends = codes "sends"
 heading_text heading.Log = codes "log"
-heading_text heading.Told = codes "told"
+heading_text heading.RowAnswer = codes "told"
 heading_text heading.TakenOrSent = codes "taken or sent"
 
 -- the letter of a kind
@@ -54,20 +54,20 @@ refusal_text (Died group holder) = codes "11," ++ (group_text group ++ (codes ",
 refusal_text refusal = decimal (refusal_number refusal)
 
 -- what is told, as it is printed, but of what was done only its place, and X where it was rolled back
-abbrev pub told_text : AnyTold → List ℕ
-told_text (told.Accepted age) = codes "accepted," ++ decimal age
-told_text told.Ordered = codes "ordered"
-told_text told.Took = codes "took"
-told_text told.Sent = codes "sent"
-told_text told.Full = codes "full"
-told_text (told.Logged place) = codes "logged," ++ decimal place
-told_text told.Moved = codes "moved"
-told_text (told.Done session number place false) = answered_text session number (codes ",done," ++ decimal place)
-told_text (told.Done session number place true) = answered_text session number (codes ",done," ++ (decimal place ++ codes ",X"))
-told_text (told.Refused session number refusal) = answered_text session number (codes ",refused," ++ refusal_text refusal)
-told_text told.Nothing = codes "nothing"
-told_text told.Quiet = codes "quiet"
-told_text told.Limit = codes "limit"
+abbrev pub reported_text : AnyReported → List ℕ
+reported_text (reported.Accepted age) = codes "accepted," ++ decimal age
+reported_text reported.Ordered = codes "ordered"
+reported_text reported.Took = codes "took"
+reported_text reported.Sent = codes "sent"
+reported_text reported.Full = codes "full"
+reported_text (reported.Logged place) = codes "logged," ++ decimal place
+reported_text reported.Moved = codes "moved"
+reported_text (reported.Done session number place false) = answered_text session number (codes ",done," ++ decimal place)
+reported_text (reported.Done session number place true) = answered_text session number (codes ",done," ++ (decimal place ++ codes ",X"))
+reported_text (reported.Refused session number refusal) = answered_text session number (codes ",refused," ++ refusal_text refusal)
+reported_text reported.Nothing = codes "nothing"
+reported_text reported.Quiet = codes "quiet"
+reported_text reported.Limit = codes "limit"
 
 -- the action in this place of the transaction of this age, after a word
 abbrev pub action_text : List ℕ → ℕ → ℕ → List ℕ
@@ -79,7 +79,7 @@ phrase_text (Heading h) = heading_text h
 phrase_text (Number number) = decimal number
 phrase_text (Deed deed) = deed_text deed
 phrase_text Rounds = codes "R"
-phrase_text (Told t) = told_text t
+phrase_text (RowAnswer t) = reported_text t
 phrase_text (Place place) = decimal place
 phrase_text (One group) = group_text group
 phrase_text (Two first second) = group_text first ++ (codes " " ++ group_text second)

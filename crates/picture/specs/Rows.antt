@@ -18,8 +18,8 @@ use Rattle.picture.specs.declared.row.Kind.{Kind}
 use Rattle.picture.specs.declared.row.Kind.TheVariants as kind
 use Rattle.picture.specs.declared.row.Deed.{Deed}
 use Rattle.picture.specs.declared.row.Deed.TheVariants as deed
-use Rattle.picture.specs.declared.row.Told.{Told}
-use Rattle.picture.specs.declared.row.Told.TheVariants as told
+use Rattle.picture.specs.declared.row.RowAnswer.{RowAnswer}
+use Rattle.picture.specs.declared.row.RowAnswer.TheVariants as reported
 use Rattle.picture.specs.declared.row.Row.{Row}
 use Rattle.picture.specs.declared.row.Row.TheVariants as row
 
@@ -49,38 +49,38 @@ entry_is_rolled_back (Some entry) = is_rolled_back entry.reply
 entry_is_rolled_back None = false
 
 -- an answer, as it is told: its session, its number, and its place in the log, with how that transaction ended, or its refusal
-abbrev pub told_of_answer : List Entry → ℕ → ℕ → Result ℕ Refusal → Told
-told_of_answer log session number (Ok place) = told.Done session number place (entry_is_rolled_back (slice_get log place))
-told_of_answer log session number (Err refusal) = told.Refused session number refusal
+abbrev pub reported_of_answer : List Entry → ℕ → ℕ → Result ℕ Refusal → RowAnswer
+reported_of_answer log session number (Ok place) = reported.Done session number place (entry_is_rolled_back (slice_get log place))
+reported_of_answer log session number (Err refusal) = reported.Refused session number refusal
 
 -- what is told of an event
-abbrev pub told_of_event : List Entry → EventAnswer → Told
-told_of_event log (came.Accepted age) = told.Accepted age
-told_of_event log came.Ordered = told.Ordered
-told_of_event log came.Took = told.Took
-told_of_event log came.Sent = told.Sent
-told_of_event log came.Full = told.Full
-told_of_event log (came.Logged place) = told.Logged place
-told_of_event log came.Moved = told.Moved
-told_of_event log (came.Answered session number answer) = told_of_answer log session number answer
-told_of_event log came.Nothing = told.Nothing
+abbrev pub reported_of_event : List Entry → EventAnswer → RowAnswer
+reported_of_event log (came.Accepted age) = reported.Accepted age
+reported_of_event log came.Ordered = reported.Ordered
+reported_of_event log came.Took = reported.Took
+reported_of_event log came.Sent = reported.Sent
+reported_of_event log came.Full = reported.Full
+reported_of_event log (came.Logged place) = reported.Logged place
+reported_of_event log came.Moved = reported.Moved
+reported_of_event log (came.Answered session number answer) = reported_of_answer log session number answer
+reported_of_event log came.Nothing = reported.Nothing
 
 -- what is told of an event, or how rounds ended
-abbrev pub told_of : List Entry → Output → Told
-told_of log (output.Event came) = told_of_event log came
-told_of log output.Quiet = told.Quiet
-told_of log output.Limit = told.Limit
+abbrev pub reported_of : List Entry → Output → RowAnswer
+reported_of log (output.Event came) = reported_of_event log came
+reported_of log output.Quiet = reported.Quiet
+reported_of log output.Limit = reported.Limit
 
 -- the row of an event of which this is told
 abbrev pub event_row : List Entry → ℕ → AnyEvent → Output → Row
-event_row log number event output = row.Event number (deed_of event) (told_of log output)
+event_row log number event output = row.Event number (deed_of event) (reported_of log output)
 
 -- a row for each output of rounds, up to how they ended
 abbrev pub rows_in_rounds : List Entry → List Output → List Row
 rows_in_rounds log [] = []
-rows_in_rounds log (output.Event came ∷ outputs) = row.InRounds (told_of_event log came) ∷ rows_in_rounds log outputs
-rows_in_rounds log (output.Quiet ∷ outputs) = row.InRounds told.Quiet ∷ []
-rows_in_rounds log (output.Limit ∷ outputs) = row.InRounds told.Limit ∷ []
+rows_in_rounds log (output.Event came ∷ outputs) = row.InRounds (reported_of_event log came) ∷ rows_in_rounds log outputs
+rows_in_rounds log (output.Quiet ∷ outputs) = row.InRounds reported.Quiet ∷ []
+rows_in_rounds log (output.Limit ∷ outputs) = row.InRounds reported.Limit ∷ []
 
 -- what is told after rounds ended
 abbrev pub after_rounds : List Output → List Output

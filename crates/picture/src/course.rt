@@ -1,13 +1,13 @@
 //! The course of a schedule: which event put what another took or sent. It is followed by the rules of the core's
 //! messages, and each step is held against what is told. Where it can't be known, since an action may wait, die or find
-//! no memory, nothing is drawn until rounds have ended quiet, after which nothing is under way.
+//! no memory, nothing is drawn until rounds have ended quiet, after which nothing is in flight.
 use crate::asides::Aside;
 use crate::graph::{Action, actions_of};
 use crate::lanes::{Lanes, outside};
 use crate::phrase::Phrase;
-use crate::row::{Deed, Row, Told};
+use crate::row::{Deed, Row, RowAnswer};
 use crate::slices::Slices;
-use crate::under_way::{Content, Executor, Flow, Item};
+use crate::in_flight::{Content, Executor, Flow, Item};
 use history::{Event, Scheduled};
 use range_moves::MoveOrder;
 use requests::Request;
@@ -23,7 +23,7 @@ pub struct Course<'a> {
     pub slices: Slices,
     pub executors: Vec<Executor>,
     pub flows: Vec<Flow>,
-    /// Whether it is known what is under way.
+    /// Whether it is known what is in flight.
     pub known: bool,
     /// The row where the last rounds began.
     pub rounds: usize,
@@ -70,39 +70,39 @@ pub fn put_course(
 impl<'a> Course<'a> {
     fn follow(&mut self, at: usize, row: Row, schedule: &[Scheduled]) -> Result<(), NoMemory> {
         match row {
-            Row::Event { number, deed, told } => {
-                let can_be = self.note_order(deed, told);
-                if self.known && !(can_be && self.happen(at, number, deed, told, schedule)?) {
+            Row::Event { number, deed, reported } => {
+                let can_be = self.note_order(deed, reported);
+                if self.known && !(can_be && self.happen(at, number, deed, reported, schedule)?) {
                     self.known = false;
                     self.draw_name(at, Phrase::Unknown)?;
                 }
             }
             Row::Rounds { .. } => self.rounds = at,
-            Row::InRounds { told } => self.follow_rounds(told)?,
+            Row::InRounds { reported } => self.follow_rounds(reported)?,
         }
         Ok(())
     }
 
-    // Whether a move that is told to be outstanding can be. It is noted even where it isn't known what is under way: so it is
+    // Whether a move that is told to be outstanding can be. It is noted even where it isn't known what is in flight: so it is
     // known where the slices are once rounds have ended quiet.
-    fn note_order(&mut self, deed: Deed, told: Told) -> bool {
-        match (deed, told) {
-            (Deed::Order(order), Told::Ordered) => self.slices.order(order),
+    fn note_order(&mut self, deed: Deed, reported: RowAnswer) -> bool {
+        match (deed, reported) {
+            (Deed::Order(order), RowAnswer::Ordered) => self.slices.order(order),
             _ => true,
         }
     }
 
-    // What is told of rounds. Once they end quiet nothing is under way.
-    fn follow_rounds(&mut self, told: Told) -> Result<(), NoMemory> {
-        match told {
-            Told::Done { session, .. } => {
+    // What is told of rounds. Once they end quiet nothing is in flight.
+    fn follow_rounds(&mut self, reported: RowAnswer) -> Result<(), NoMemory> {
+        match reported {
+            RowAnswer::Done { session, .. } => {
                 for flow in self.flows.iter_mut() {
                     if flow.session == session && flow.left > 0 {
                         flow.logged = true;
                     }
                 }
             }
-            Told::Quiet => {
+            RowAnswer::Quiet => {
                 if self.known {
                     self.draw_held(self.rounds)?;
                 }
@@ -113,23 +113,23 @@ impl<'a> Course<'a> {
                     executor.clear();
                 }
             }
-            Told::Limit => self.known = false,
+            RowAnswer::Limit => self.known = false,
             _ => {}
         }
         Ok(())
     }
 
-    // An event. It gives whether it is known still what is under way.
+    // An event. It gives whether it is known still what is in flight.
     fn happen(
         &mut self,
         at: usize,
         number: u64,
         deed: Deed,
-        told: Told,
+        reported: RowAnswer,
         schedule: &[Scheduled],
     ) -> Result<bool, NoMemory> {
-        match (deed, told) {
-            (Deed::Submit { session, .. }, Told::Accepted { age }) => {
+        match (deed, reported) {
+            (Deed::Submit { session, .. }, RowAnswer::Accepted { age }) => {
                 match schedule.get(number.saturating_sub(1) as usize) {
                     Some(Scheduled::Event(Event::Submit { request, .. })) => {
                         self.admit(at, session, age, request)
@@ -138,12 +138,12 @@ impl<'a> Course<'a> {
                 }
             }
             (Deed::Submit { .. }, _) => Ok(true),
-            (Deed::Order(order), Told::Ordered) => self.put_order(at, order),
-            (Deed::Order(_), Told::Nothing) => Ok(true),
-            (Deed::Take { executor }, Told::Took) => self.take(at, executor),
-            (Deed::Take { executor }, Told::Nothing) => Ok(self.has_nothing(executor, true)),
-            (Deed::Send { executor }, Told::Nothing) => Ok(self.has_nothing(executor, false)),
-            (Deed::Send { executor }, _) => self.send(at, executor, told),
+            (Deed::Order(order), RowAnswer::Ordered) => self.put_order(at, order),
+            (Deed::Order(_), RowAnswer::Nothing) => Ok(true),
+            (Deed::Take { executor }, RowAnswer::Took) => self.take(at, executor),
+            (Deed::Take { executor }, RowAnswer::Nothing) => Ok(self.has_nothing(executor, true)),
+            (Deed::Send { executor }, RowAnswer::Nothing) => Ok(self.has_nothing(executor, false)),
+            (Deed::Send { executor }, _) => self.send(at, executor, reported),
             _ => Ok(false),
         }
     }

@@ -116,7 +116,7 @@ fn heads_of(alloc: Global, lanes: &Lanes, rows: usize) -> Result<Vec<Aside>, NoM
         (88, Heading::Scheduled),
         (lanes.log(), Heading::Log),
         (lanes.named() + 46, Heading::TakenOrSent),
-        (lanes.told() + 14, Heading::Told),
+        (lanes.reported() + 14, Heading::RowAnswer),
     ] {
         put_head(&mut heads, x, 62, heading)?;
     }

@@ -2,7 +2,7 @@
 use crate::asides::Aside;
 use crate::course::Course;
 use crate::phrase::Phrase;
-use crate::under_way::{Content, Item, Ran};
+use crate::in_flight::{Content, Item, Ran};
 use range_moves::MoveOrder;
 use schema::NoMemory;
 

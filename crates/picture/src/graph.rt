@@ -1,7 +1,7 @@
 //! The flow graphs, as far as a picture needs them: the actions of a request, where each is done, and which groups it
 //! claims.
 use crate::phrase::Phrase;
-use groups::{Mode, Wish, footprint, warehouse_of};
+use groups::{Mode, GroupWant, footprint, warehouse_of};
 use requests::{Group, Request};
 use schema::NoMemory;
 use std::alloc::Global;
@@ -9,11 +9,11 @@ use std::alloc::Global;
 /// What an action claims.
 #[derive(Clone, Copy)]
 pub enum Claimed {
-    One(Wish),
+    One(GroupWant),
     /// The home warehouse's row and the home district's.
-    Two(Wish, Wish),
+    Two(GroupWant, GroupWant),
     /// All groups of a warehouse's orders, customers or stock, from the first to the last.
-    All(Wish, Wish),
+    All(GroupWant, GroupWant),
 }
 
 /// An action of a flow graph.
@@ -29,12 +29,12 @@ pub struct Action {
 /// Stock-Level.
 pub fn actions_of(alloc: Global, request: &Request) -> Result<Vec<Action>, NoMemory> {
     let mut actions: Vec<Action> = Vec::new(alloc);
-    for &wish in footprint(alloc, request)?.iter() {
+    for &group_want in footprint(alloc, request)?.iter() {
         match actions.last_mut() {
-            Some(last) if last.claims_too(request, wish) => last.claimed = last.claimed.with(wish),
+            Some(last) if last.claims_too(request, group_want) => last.claimed = last.claimed.with(group_want),
             _ => actions.push(Action {
-                phase: phase_of(request, wish.group),
-                claimed: Claimed::One(wish),
+                phase: phase_of(request, group_want.group),
+                claimed: Claimed::One(group_want),
             })?,
         }
     }
@@ -67,39 +67,39 @@ fn is_beside(one: Group, other: Group) -> bool {
 
 impl Claimed {
     // The first of its claims.
-    fn first(self) -> Wish {
+    fn first(self) -> GroupWant {
         match self {
             Claimed::One(first) | Claimed::Two(first, _) | Claimed::All(first, _) => first,
         }
     }
 
     // The same with the next claim: the home district's beside the warehouse's, or a further one of those of a sort.
-    fn with(self, wish: Wish) -> Claimed {
-        match wish.group {
-            Group::District { .. } => Claimed::Two(self.first(), wish),
-            _ => Claimed::All(self.first(), wish),
+    fn with(self, group_want: GroupWant) -> Claimed {
+        match group_want.group {
+            Group::District { .. } => Claimed::Two(self.first(), group_want),
+            _ => Claimed::All(self.first(), group_want),
         }
     }
 
-    // Whether a claim of its own stands in the way of this wish.
-    fn stops(self, wish: Wish) -> bool {
+    // Whether a claim of its own stands in the way of this want.
+    fn stops(self, group_want: GroupWant) -> bool {
         match self {
-            Claimed::One(own) => own.group == wish.group && conflict(own, wish),
+            Claimed::One(own) => own.group == group_want.group && conflict(own, group_want),
             Claimed::Two(one, other) => {
-                one.group == wish.group && conflict(one, wish)
-                    || other.group == wish.group && conflict(other, wish)
+                one.group == group_want.group && conflict(one, group_want)
+                    || other.group == group_want.group && conflict(other, group_want)
             }
-            Claimed::All(one, _) => is_beside(one.group, wish.group) && conflict(one, wish),
+            Claimed::All(one, _) => is_beside(one.group, group_want.group) && conflict(one, group_want),
         }
     }
 }
 
 impl Action {
     // Whether it claims this group too, which comes behind those that it claims.
-    fn claims_too(self, request: &Request, wish: Wish) -> bool {
-        match (request, wish.group) {
+    fn claims_too(self, request: &Request, group_want: GroupWant) -> bool {
+        match (request, group_want.group) {
             (Request::Delivery(_), _) | (Request::StockLevel(_), Group::Stock { .. }) => {
-                is_beside(self.claimed.first().group, wish.group)
+                is_beside(self.claimed.first().group, group_want.group)
             }
             (Request::StockLevel(_), _) => false,
             (_, Group::District { .. }) => true,
@@ -115,7 +115,7 @@ impl Action {
     /// The groups that it claims, in words.
     pub fn groups(self) -> Phrase {
         match self.claimed {
-            Claimed::One(wish) => Phrase::One(wish.group),
+            Claimed::One(group_want) => Phrase::One(group_want.group),
             Claimed::Two(one, other) => Phrase::Two(one.group, other.group),
             Claimed::All(first, last) => Phrase::All(first.group, last.group),
         }
@@ -124,7 +124,7 @@ impl Action {
     /// Whether its claims are all shared.
     pub fn is_shared(self) -> bool {
         match self.claimed {
-            Claimed::One(wish) => wish.mode == Mode::Shared,
+            Claimed::One(group_want) => group_want.mode == Mode::Shared,
             Claimed::Two(one, other) | Claimed::All(one, other) => {
                 one.mode == Mode::Shared && other.mode == Mode::Shared
             }
@@ -135,7 +135,7 @@ impl Action {
     pub fn conflicts(self, other: Action) -> bool {
         let (own, others) = (self.claimed, other.claimed);
         match own {
-            Claimed::One(wish) => others.stops(wish),
+            Claimed::One(group_want) => others.stops(group_want),
             Claimed::Two(one, two) => others.stops(one) || others.stops(two),
             // Where the other claims some of these groups, its first is of them.
             Claimed::All(_, _) => own.stops(others.first()),
@@ -144,6 +144,6 @@ impl Action {
 }
 
 // Whether two claims of one group can't be held at once.
-fn conflict(one: Wish, other: Wish) -> bool {
+fn conflict(one: GroupWant, other: GroupWant) -> bool {
     !(one.mode == Mode::Shared && other.mode == Mode::Shared)
 }

@@ -145,8 +145,8 @@ impl Lanes {
     }
 
     /// The left edge of what is told.
-    pub fn told(&self) -> u128
-        ensures { result ≡ spec.told_x (length self.now.sessions.items) self.now.executors }
+    pub fn reported(&self) -> u128
+        ensures { result ≡ spec.reported_x (length self.now.sessions.items) self.now.executors }
     {
         self.executor(self.executors) + 240
     }

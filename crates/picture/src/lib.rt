@@ -19,6 +19,6 @@ mod row_marks;
 mod sheet;
 mod slices;
 mod steps;
-mod under_way;
+mod in_flight;
 
 pub use drawing::write_picture;

@@ -1,5 +1,5 @@
 //! The words of a picture.
-use crate::row::{Deed, Kind, Told};
+use crate::row::{Deed, Kind, RowAnswer};
 use range_moves::MoveOrder;
 use requests::{Group, Refusal};
 use std::fmt;
@@ -15,7 +15,7 @@ pub enum Phrase {
     /// Rounds, as they are scheduled.
     Rounds,
     /// What is told, as far as it is shown.
-    Told(Told),
+    RowAnswer(RowAnswer),
     /// A place of the log.
     Place(u32),
     /// The groups of a claim.
@@ -57,7 +57,7 @@ pub enum Heading {
     Takes,
     Sends,
     Log,
-    Told,
+    RowAnswer,
     TakenOrSent,
 }
 
@@ -77,7 +77,7 @@ impl fmt::Display for Heading {
             Heading::Takes => write!(f, "takes"),
             Heading::Sends => write!(f, "sends"),
             Heading::Log => write!(f, "log"),
-            Heading::Told => write!(f, "told"),
+            Heading::RowAnswer => write!(f, "told"),
             Heading::TakenOrSent => write!(f, "taken or sent"),
         }
     }
@@ -120,39 +120,39 @@ impl fmt::Display for Deed {
     }
 }
 
-impl fmt::Display for Told {
+impl fmt::Display for RowAnswer {
     ghost use Rattle.std.specs.Prelude.{Some};
-    ghost use Rattle.picture.specs.Phrases.{told_text};
+    ghost use Rattle.picture.specs.Phrases.{reported_text};
 
-    ghost output = { λ told. Some (told_text told) };
+    ghost output = { λ reported. Some (reported_text reported) };
 
     fn fmt<W: fmt::Write>(&self, f: &mut fmt::Formatter<W>) -> fmt::Result {
         match *self {
-            Told::Accepted { age } => write!(f, "accepted,{age}"),
-            Told::Ordered => write!(f, "ordered"),
-            Told::Took => write!(f, "took"),
-            Told::Sent => write!(f, "sent"),
-            Told::Full => write!(f, "full"),
-            Told::Logged { place } => write!(f, "logged,{place}"),
-            Told::Moved => write!(f, "moved"),
-            Told::Done {
+            RowAnswer::Accepted { age } => write!(f, "accepted,{age}"),
+            RowAnswer::Ordered => write!(f, "ordered"),
+            RowAnswer::Took => write!(f, "took"),
+            RowAnswer::Sent => write!(f, "sent"),
+            RowAnswer::Full => write!(f, "full"),
+            RowAnswer::Logged { place } => write!(f, "logged,{place}"),
+            RowAnswer::Moved => write!(f, "moved"),
+            RowAnswer::Done {
                 session,
                 number,
                 place,
                 rolled_back: false,
             } => write!(f, "answered,{session},{number},done,{place}"),
-            Told::Done {
+            RowAnswer::Done {
                 session,
                 number,
                 place,
                 rolled_back: true,
             } => write!(f, "answered,{session},{number},done,{place},X"),
-            Told::Refused {
+            RowAnswer::Refused {
                 session,
                 number,
                 refusal: Refusal::Died { group, holder },
             } => write!(f, "answered,{session},{number},refused,11,{group},{holder}"),
-            Told::Refused {
+            RowAnswer::Refused {
                 session,
                 number,
                 refusal,
@@ -161,9 +161,9 @@ impl fmt::Display for Told {
                 "answered,{session},{number},refused,{}",
                 refusal.number()
             ),
-            Told::Nothing => write!(f, "nothing"),
-            Told::Quiet => write!(f, "quiet"),
-            Told::Limit => write!(f, "limit"),
+            RowAnswer::Nothing => write!(f, "nothing"),
+            RowAnswer::Quiet => write!(f, "quiet"),
+            RowAnswer::Limit => write!(f, "limit"),
         }
     }
 }
@@ -180,7 +180,7 @@ impl fmt::Display for Phrase {
             Phrase::Number(number) => write!(f, "{number}"),
             Phrase::Deed(deed) => write!(f, "{deed}"),
             Phrase::Rounds => write!(f, "R"),
-            Phrase::Told(told) => write!(f, "{told}"),
+            Phrase::RowAnswer(reported) => write!(f, "{reported}"),
             Phrase::Place(place) => write!(f, "{place}"),
             Phrase::One(group) => write!(f, "{group}"),
             Phrase::Two(first, second) => write!(f, "{first} {second}"),

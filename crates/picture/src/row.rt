@@ -38,7 +38,7 @@ pub enum Deed {
 
 /// What is told.
 #[derive(Clone, Copy)]
-pub enum Told {
+pub enum RowAnswer {
     Accepted {
         age: u64,
     },
@@ -70,11 +70,11 @@ pub enum Told {
 #[derive(Clone, Copy)]
 pub enum Row {
     /// One event. The first item of a schedule has the number 1.
-    Event { number: u64, deed: Deed, told: Told },
+    Event { number: u64, deed: Deed, reported: RowAnswer },
     /// Rounds begin. Their events are not shown.
     Rounds { number: u64 },
     /// What is told of rounds.
-    InRounds { told: Told },
+    InRounds { reported: RowAnswer },
 }
 
 /// The rows of a schedule of which this is told, in order. Places that answers name are those of the log.
@@ -114,7 +114,7 @@ fn event_row(log: &[Entry], number: u64, event: &Event, output: &Output) -> Row
     Row::Event {
         number,
         deed: deed_of(event),
-        told: told_of(log, output),
+        reported: reported_of(log, output),
     }
 }
 
@@ -129,7 +129,7 @@ fn put_rounds<'a>(
 {
     for (index, output) in outputs.iter().enumerate() {
         rows.push(Row::InRounds {
-            told: told_of(log, output),
+            reported: reported_of(log, output),
         })?;
         if !matches!(output, Output::Event(_)) {
             return Ok(&outputs[index + 1..]);
@@ -173,47 +173,47 @@ fn kind_of(request: &Request) -> Kind
     }
 }
 
-fn told_of(log: &[Entry], output: &Output) -> Told
-    ensures { result ≡ spec.told_of log.now output.now }
+fn reported_of(log: &[Entry], output: &Output) -> RowAnswer
+    ensures { result ≡ spec.reported_of log.now output.now }
 {
     match output {
-        Output::Event(answer) => told_of_event(log, answer),
-        Output::Quiet => Told::Quiet,
-        Output::Limit => Told::Limit,
+        Output::Event(answer) => reported_of_event(log, answer),
+        Output::Quiet => RowAnswer::Quiet,
+        Output::Limit => RowAnswer::Limit,
     }
 }
 
-fn told_of_event(log: &[Entry], answer: &EventAnswer) -> Told
-    ensures { result ≡ spec.told_of_event log.now answer.now }
+fn reported_of_event(log: &[Entry], answer: &EventAnswer) -> RowAnswer
+    ensures { result ≡ spec.reported_of_event log.now answer.now }
 {
     match answer {
-        EventAnswer::Accepted { age } => Told::Accepted { age: *age },
-        EventAnswer::Ordered => Told::Ordered,
-        EventAnswer::Took => Told::Took,
-        EventAnswer::Sent => Told::Sent,
-        EventAnswer::Full => Told::Full,
-        EventAnswer::Logged { place } => Told::Logged { place: *place },
-        EventAnswer::Moved => Told::Moved,
+        EventAnswer::Accepted { age } => RowAnswer::Accepted { age: *age },
+        EventAnswer::Ordered => RowAnswer::Ordered,
+        EventAnswer::Took => RowAnswer::Took,
+        EventAnswer::Sent => RowAnswer::Sent,
+        EventAnswer::Full => RowAnswer::Full,
+        EventAnswer::Logged { place } => RowAnswer::Logged { place: *place },
+        EventAnswer::Moved => RowAnswer::Moved,
         EventAnswer::Answered {
             session,
             number,
             answer,
-        } => told_of_answer(log, *session, *number, answer),
-        EventAnswer::Nothing => Told::Nothing,
+        } => reported_of_answer(log, *session, *number, answer),
+        EventAnswer::Nothing => RowAnswer::Nothing,
     }
 }
 
-fn told_of_answer(log: &[Entry], session: u32, number: u32, answer: &Result<u32, Refusal>) -> Told
-    ensures { result ≡ spec.told_of_answer log.now session number answer.now }
+fn reported_of_answer(log: &[Entry], session: u32, number: u32, answer: &Result<u32, Refusal>) -> RowAnswer
+    ensures { result ≡ spec.reported_of_answer log.now session number answer.now }
 {
     match answer {
-        Ok(place) => Told::Done {
+        Ok(place) => RowAnswer::Done {
             session,
             number,
             place: *place,
             rolled_back: is_rolled_back(log, *place),
         },
-        Err(refusal) => Told::Refused {
+        Err(refusal) => RowAnswer::Refused {
             session,
             number,
             refusal: *refusal,

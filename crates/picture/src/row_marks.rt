@@ -5,7 +5,7 @@ ghost use Rattle.picture.specs.Marks as spec;
 use crate::lanes::{Lanes, outside};
 use crate::marks::{Mark, Style};
 use crate::phrase::Phrase;
-use crate::row::{Deed, Row, Told};
+use crate::row::{Deed, Row, RowAnswer};
 use schema::NoMemory;
 use std::alloc::Global;
 
@@ -25,19 +25,19 @@ fn put_row(marks: &mut Vec<Mark>, lanes: &Lanes, at: usize, row: Row) -> Result<
     ensures { OnOk result (marks.new.items ≡ marks.old.items ++ spec.row_marks lanes.now.sessions.items lanes.now.executors at row) }
 {
     match row {
-        Row::Event { number, deed, told } => {
+        Row::Event { number, deed, reported } => {
             put_number(marks, at, number, Phrase::Deed(deed))?;
-            marks.push(words(Style::Plain, lanes.told(), at, Phrase::Told(told)))?;
-            put_event(marks, lanes, at, deed, told)
+            marks.push(words(Style::Plain, lanes.reported(), at, Phrase::RowAnswer(reported)))?;
+            put_event(marks, lanes, at, deed, reported)
         }
         Row::Rounds { number } => {
             put_number(marks, at, number, Phrase::Rounds)?;
-            marks.push(words(Style::Dim, lanes.told(), at, Phrase::NotShown))?;
+            marks.push(words(Style::Dim, lanes.reported(), at, Phrase::NotShown))?;
             Ok(())
         }
-        Row::InRounds { told } => {
-            marks.push(words(Style::Plain, lanes.told(), at, Phrase::Told(told)))?;
-            put_told(marks, lanes, at, told)
+        Row::InRounds { reported } => {
+            marks.push(words(Style::Plain, lanes.reported(), at, Phrase::RowAnswer(reported)))?;
+            put_reported(marks, lanes, at, reported)
         }
     }
 }
@@ -79,62 +79,62 @@ fn put_event(
     lanes: &Lanes,
     at: usize,
     deed: Deed,
-    told: Told,
+    reported: RowAnswer,
 ) -> Result<(), NoMemory>
-    ensures { OnOk result (marks.new.items ≡ marks.old.items ++ spec.event_signs lanes.now.sessions.items lanes.now.executors at deed told) }
+    ensures { OnOk result (marks.new.items ≡ marks.old.items ++ spec.event_signs lanes.now.sessions.items lanes.now.executors at deed reported) }
 {
     match deed {
         Deed::Submit { session, .. } => {
-            marks.push(submission(lanes.session(session), at, told))?
+            marks.push(submission(lanes.session(session), at, reported))?
         }
-        Deed::Order(_) => marks.push(ordering(at, told))?,
+        Deed::Order(_) => marks.push(ordering(at, reported))?,
         Deed::Take { executor } => {
-            marks.push(step_spot(Style::Take, lanes.takes(executor), at, told))?
+            marks.push(step_spot(Style::Take, lanes.takes(executor), at, reported))?
         }
         Deed::Send { executor } => {
             let line = lanes.sends(executor);
-            put_arrow(marks, lanes, line, at, told)?;
-            put_told(marks, lanes, at, told)?;
-            marks.push(step_spot(Style::Send, line, at, told))?
+            put_arrow(marks, lanes, line, at, reported)?;
+            put_reported(marks, lanes, at, reported)?;
+            marks.push(step_spot(Style::Send, line, at, reported))?
         }
     }
     Ok(())
 }
 
-fn submission(x: u128, at: usize, told: Told) -> Mark
-    ensures { result ≡ spec.submission x at told }
+fn submission(x: u128, at: usize, reported: RowAnswer) -> Mark
+    ensures { result ≡ spec.submission x at reported }
 {
-    match told {
-        Told::Accepted { .. } => spot(Style::Take, x, at),
-        Told::Refused { .. } => spot(Style::Refused, x, at),
+    match reported {
+        RowAnswer::Accepted { .. } => spot(Style::Take, x, at),
+        RowAnswer::Refused { .. } => spot(Style::Refused, x, at),
         _ => spot(Style::Nothing, x, at),
     }
 }
 
-fn ordering(at: usize, told: Told) -> Mark
-    ensures { result ≡ spec.ordering at told }
+fn ordering(at: usize, reported: RowAnswer) -> Mark
+    ensures { result ≡ spec.ordering at reported }
 {
-    match told {
-        Told::Ordered => spot(Style::Take, outside(), at),
+    match reported {
+        RowAnswer::Ordered => spot(Style::Take, outside(), at),
         _ => spot(Style::Nothing, outside(), at),
     }
 }
 
-fn step_spot(style: Style, x: u128, at: usize, told: Told) -> Mark
-    ensures { result ≡ spec.step_spot style x at told }
+fn step_spot(style: Style, x: u128, at: usize, reported: RowAnswer) -> Mark
+    ensures { result ≡ spec.step_spot style x at reported }
 {
-    match told {
-        Told::Nothing => spot(Style::Nothing, x, at),
+    match reported {
+        RowAnswer::Nothing => spot(Style::Nothing, x, at),
         _ => spot(style, x, at),
     }
 }
 
 // Adds the signs of what is logged or answered.
-fn put_told(marks: &mut Vec<Mark>, lanes: &Lanes, at: usize, told: Told) -> Result<(), NoMemory>
-    ensures { OnOk result (marks.new.items ≡ marks.old.items ++ spec.told_signs lanes.now.sessions.items lanes.now.executors at told) }
+fn put_reported(marks: &mut Vec<Mark>, lanes: &Lanes, at: usize, reported: RowAnswer) -> Result<(), NoMemory>
+    ensures { OnOk result (marks.new.items ≡ marks.old.items ++ spec.reported_signs lanes.now.sessions.items lanes.now.executors at reported) }
 {
-    match told {
-        Told::Logged { place } => {
+    match reported {
+        RowAnswer::Logged { place } => {
             let style = Style::Done;
             let left = lanes.log_left();
             let right = lanes.log_right();
@@ -146,10 +146,10 @@ fn put_told(marks: &mut Vec<Mark>, lanes: &Lanes, at: usize, told: Told) -> Resu
             })?;
             marks.push(words(Style::Middle, lanes.log(), at, Phrase::Place(place)))?;
         }
-        Told::Done { session, .. } => {
+        RowAnswer::Done { session, .. } => {
             marks.push(spot(Style::Done, lanes.session(session), at))?;
         }
-        Told::Refused { session, .. } => {
+        RowAnswer::Refused { session, .. } => {
             marks.push(spot(Style::Refused, lanes.session(session), at))?;
         }
         _ => {}
@@ -163,14 +163,14 @@ fn put_arrow(
     lanes: &Lanes,
     from: u128,
     at: usize,
-    told: Told,
+    reported: RowAnswer,
 ) -> Result<(), NoMemory>
-    ensures { OnOk result (marks.new.items ≡ marks.old.items ++ spec.told_arrow lanes.now.sessions.items lanes.now.executors from at told) }
+    ensures { OnOk result (marks.new.items ≡ marks.old.items ++ spec.reported_arrow lanes.now.sessions.items lanes.now.executors from at reported) }
 {
-    let (style, to) = match told {
-        Told::Logged { .. } => (Style::Done, lanes.log_left()),
-        Told::Done { session, .. } => (Style::Done, lanes.session(session)),
-        Told::Refused { session, .. } => (Style::Refused, lanes.session(session)),
+    let (style, to) = match reported {
+        RowAnswer::Logged { .. } => (Style::Done, lanes.log_left()),
+        RowAnswer::Done { session, .. } => (Style::Done, lanes.session(session)),
+        RowAnswer::Refused { session, .. } => (Style::Refused, lanes.session(session)),
         _ => return Ok(()),
     };
     marks.push(Mark::Across {

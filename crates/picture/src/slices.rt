@@ -1,8 +1,8 @@
 //! Where the slices of the warehouses are, as far as a course is followed.
 ghost use Rattle.std.specs.Prelude.{◌<◌, ◌≤◌, IsTrue};
-ghost use Rattle.range_moves.specs.Housing.{IsWarehouse};
+ghost use Rattle.range_moves.specs.Placements.{IsWarehouse};
 
-use range_moves::{Found, Houses, MoveOrder};
+use range_moves::{Found, Placements, MoveOrder};
 use routing::{MOST_EXECUTORS, Routing};
 use schema::{NoMemory, Scale};
 use std::alloc::Global;
@@ -11,7 +11,7 @@ use std::marker::Model;
 /// Where the slices are. What asks for a warehouse or an executor that there isn't, changes nothing.
 #[derive(Drop)]
 pub struct Slices {
-    houses: Houses,
+    placements: Placements,
     warehouses: u32,
     /// The move that was ordered last.
     ordered: Option<MoveOrder>,
@@ -19,13 +19,13 @@ pub struct Slices {
 
 impl Model for Slices {
     ghost use Rattle.std.specs.Prelude.{◌≡◌, length};
-    ghost use Rattle.range_moves.specs.Housing.{Housing};
+    ghost use Rattle.range_moves.specs.Placements.{PlacementsView};
 
-    ghost Value = { Housing };
+    ghost Value = { PlacementsView };
 
-    ghost view = { λ s. s.houses };
+    ghost view = { λ s. s.placements };
 
-    ghost invariant = { λ s. length s.houses.houses ≡ s.warehouses };
+    ghost invariant = { λ s. length s.placements.placements ≡ s.warehouses };
 }
 
 impl Slices {
@@ -37,9 +37,9 @@ impl Slices {
             return Ok(None);
         }
         let routing = Routing::opening(scale, executors);
-        let houses = Houses::open(alloc, scale, &routing)?;
+        let placements = Placements::open(alloc, scale, &routing)?;
         Ok(Some(Slices {
-            houses,
+            placements,
             warehouses: scale.warehouses,
             ordered: None,
         }))
@@ -47,29 +47,29 @@ impl Slices {
 
     /// The executor to which messages for a warehouse are sent.
     pub fn route(&self, w_id: u32) -> u32 {
-        self.houses.route(w_id)
+        self.placements.route(w_id)
     }
 
     /// What an executor finds of the slice of a warehouse.
     pub fn find(&self, executor: u32, w_id: u32) -> Found {
-        self.houses.find(executor, w_id)
+        self.placements.find(executor, w_id)
     }
 
     // Whether there are such a warehouse and such an executor.
     fn has(&self, w_id: u32, executor: u32) -> bool
         ensures { IsTrue result → IsWarehouse self.now w_id × (executor < self.now.executors) }
     {
-        1 <= w_id && w_id <= self.warehouses && executor < self.houses.executors()
+        1 <= w_id && w_id <= self.warehouses && executor < self.placements.executors()
     }
 
     /// A move is outstanding from here on. It gives whether it can be: what was ordered before is over, as far as this is known.
     pub fn order(&mut self, order: MoveOrder) -> bool {
-        let fits = !self.houses.is_moving();
+        let fits = !self.placements.is_moving();
         self.settle();
-        if !order.is_within(self.warehouses, self.houses.executors()) {
+        if !order.is_within(self.warehouses, self.placements.executors()) {
             return false;
         }
-        self.houses.order(&order);
+        self.placements.order(&order);
         self.ordered = Some(order);
         fits
     }
@@ -89,7 +89,7 @@ impl Slices {
     /// is there.
     pub fn move_to(&mut self, w_id: u32, to: u32) -> Option<u32> {
         if self.has(w_id, to) {
-            self.houses.move_to(w_id, to)
+            self.placements.move_to(w_id, to)
         } else {
             None
         }
@@ -100,23 +100,23 @@ impl Slices {
         if !(self.has(w_id, here) && self.has(w_id, to)) {
             return false;
         }
-        let is_here = matches!(self.houses.find(here, w_id), Found::Here);
-        self.houses.take_out(w_id, here, to);
+        let is_here = matches!(self.placements.find(here, w_id), Found::Here);
+        self.placements.take_out(w_id, here, to);
         is_here
     }
 
     /// An executor installs the slice.
     pub fn install(&mut self, w_id: u32, here: u32) {
         if self.has(w_id, here) {
-            self.houses.install(w_id, here);
+            self.placements.install(w_id, here);
         }
     }
 
     /// One warehouse more has come to its destination: whether the move that is outstanding is over by it, and `None` where
     /// none is.
     pub fn report(&mut self) -> Option<bool> {
-        if self.houses.is_moving() {
-            Some(self.houses.report())
+        if self.placements.is_moving() {
+            Some(self.placements.report())
         } else {
             None
         }

@@ -1,7 +1,7 @@
 //! What an executor's step takes or sends, and what it puts.
 use crate::course::Course;
-use crate::row::Told;
-use crate::under_way::{Content, Item, Parked, Ran};
+use crate::row::RowAnswer;
+use crate::in_flight::{Content, Item, Parked, Ran};
 use range_moves::{Found, MoveOrder};
 use schema::NoMemory;
 
@@ -24,7 +24,7 @@ impl<'a> Course<'a> {
         Ok(true)
     }
 
-    /// The executor takes a message. It gives whether it is known still what is under way.
+    /// The executor takes a message. It gives whether it is known still what is in flight.
     pub fn take(&mut self, at: usize, executor: u32) -> Result<bool, NoMemory> {
         let item = match self.executors.get_mut(executor as usize) {
             Some(one) => one.inbox.pop_front(),
@@ -200,8 +200,8 @@ impl<'a> Course<'a> {
     }
 
     /// The first item of an outbox is sent. What has followed a phase shows by what is told of it. It gives whether it
-    /// is known still what is under way.
-    pub fn send(&mut self, at: usize, executor: u32, told: Told) -> Result<bool, NoMemory> {
+    /// is known still what is in flight.
+    pub fn send(&mut self, at: usize, executor: u32, reported: RowAnswer) -> Result<bool, NoMemory> {
         let item = match self.executors.get_mut(executor as usize) {
             Some(one) => one.outbox.pop_front(),
             None => None,
@@ -209,18 +209,18 @@ impl<'a> Course<'a> {
         let Some(mut item) = item else {
             return Ok(false);
         };
-        if matches!(told, Told::Full) {
+        if matches!(reported, RowAnswer::Full) {
             return self.put_out(executor, item);
         }
         if matches!(item.content, Content::Next) {
-            match self.resolve(executor, item, told)? {
+            match self.resolve(executor, item, reported)? {
                 Some(content) => item.content = content,
                 None => return Ok(false),
             }
         }
         let line = self.lanes.sends(executor);
         self.draw_hop(executor, true, item, line, at)?;
-        let known = self.sent(executor, Item { line, at, ..item }, told)?;
+        let known = self.sent(executor, Item { line, at, ..item }, reported)?;
         if known {
             self.draw_item(at, item)?;
         }
@@ -232,11 +232,11 @@ impl<'a> Course<'a> {
         &mut self,
         executor: u32,
         item: Item,
-        told: Told,
+        reported: RowAnswer,
     ) -> Result<Option<Content>, NoMemory> {
-        match told {
-            Told::Logged { .. } => return Ok(Some(Content::Commit)),
-            Told::Done { .. } | Told::Refused { .. } => return Ok(Some(Content::Reply)),
+        match reported {
+            RowAnswer::Logged { .. } => return Ok(Some(Content::Commit)),
+            RowAnswer::Done { .. } | RowAnswer::Refused { .. } => return Ok(Some(Content::Reply)),
             _ => {}
         }
         if let Some(flow) = self.flows.get_mut(item.flow) {
@@ -254,28 +254,28 @@ impl<'a> Course<'a> {
         Ok(Some(Content::Act(first)))
     }
 
-    // What comes of an item that is sent, in the row where it is. It gives whether it is known still what is under way:
+    // What comes of an item that is sent, in the row where it is. It gives whether it is known still what is in flight:
     // which actions of a refused transaction hold claims is not told.
-    fn sent(&mut self, executor: u32, item: Item, told: Told) -> Result<bool, NoMemory> {
-        match (item.content, told) {
-            (Content::Fetch { from, .. }, Told::Sent) => return self.put_in(from, item),
-            (Content::Parcel { to, .. }, Told::Sent) => return self.put_in(to, item),
-            (Content::Arrival { .. }, Told::Sent) => return Ok(self.slices.report() == Some(false)),
-            (Content::Arrival { .. }, Told::Moved) => return Ok(self.slices.report() == Some(true)),
+    fn sent(&mut self, executor: u32, item: Item, reported: RowAnswer) -> Result<bool, NoMemory> {
+        match (item.content, reported) {
+            (Content::Fetch { from, .. }, RowAnswer::Sent) => return self.put_in(from, item),
+            (Content::Parcel { to, .. }, RowAnswer::Sent) => return self.put_in(to, item),
+            (Content::Arrival { .. }, RowAnswer::Sent) => return Ok(self.slices.report() == Some(false)),
+            (Content::Arrival { .. }, RowAnswer::Moved) => return Ok(self.slices.report() == Some(true)),
             _ => {}
         }
         let Some(flow) = self.flows.get_mut(item.flow) else {
             return Ok(false);
         };
-        match (item.content, told) {
-            (Content::Act(place) | Content::GiveBack(place), Told::Sent) => {
+        match (item.content, reported) {
+            (Content::Act(place) | Content::GiveBack(place), RowAnswer::Sent) => {
                 let Some(to) = flow.goes_to.get(place) else {
                     return Ok(false);
                 };
                 let to = *to;
                 self.put_in(to, item)
             }
-            (Content::Report(_), Told::Sent) => {
+            (Content::Report(_), RowAnswer::Sent) => {
                 flow.awaited = flow.awaited.saturating_sub(1);
                 if flow.awaited > 0 {
                     return Ok(true);
@@ -284,13 +284,13 @@ impl<'a> Course<'a> {
                 self.address(item.flow, first, end);
                 self.put_out(executor, item.with(Content::Next))
             }
-            (Content::Commit, Told::Logged { .. }) => {
+            (Content::Commit, RowAnswer::Logged { .. }) => {
                 flow.logged = true;
                 self.release(executor, item)
             }
             (
                 Content::Reply,
-                Told::Done {
+                RowAnswer::Done {
                     session,
                     rolled_back,
                     ..
@@ -299,7 +299,7 @@ impl<'a> Course<'a> {
                 flow.rolled_back = rolled_back;
                 Ok(flow.session == session)
             }
-            (Content::Ended(_), Told::Sent) => {
+            (Content::Ended(_), RowAnswer::Sent) => {
                 flow.left = flow.left.saturating_sub(1);
                 Ok(true)
             }

@@ -1,28 +1,28 @@
 -- What an audit of all desks tells.
 use Rattle.std.specs.Prelude.{◌≡◌, ℕ, List, ◌++◌, Some, slice_get}
 use Rattle.queues.specs.Order.{of}
-use Rattle.queues.specs.Desks.{AtDesk, put_to}
+use Rattle.queues.specs.Desks.{DeskView, put_to}
 
 module _ {T : Type 0} where
   -- what the one desk got of the other is a beginning of what that one has put into its inbox
-  abbrev pub GotBeginning : AtDesk T → AtDesk T → Type 0
+  abbrev pub GotBeginning : DeskView T → DeskView T → Type 0
   GotBeginning mine other = (rest : List T) × (put_to other mine.number ≡ of other.number mine.got ++ rest)
 
   -- and all of it
-  abbrev pub GotWhole : AtDesk T → AtDesk T → Type 0
+  abbrev pub GotWhole : DeskView T → DeskView T → Type 0
   GotWhole mine other = put_to other mine.number ≡ of other.number mine.got
 
   -- the desks at these places
-  abbrev pub PairInOrder : List (AtDesk T) → ℕ → ℕ → Type 0
-  PairInOrder desks taker sender = (mine other : AtDesk T) → slice_get desks taker ≡ Some mine → slice_get desks sender ≡ Some other → GotBeginning mine other
+  abbrev pub PairInOrder : List (DeskView T) → ℕ → ℕ → Type 0
+  PairInOrder desks taker sender = (mine other : DeskView T) → slice_get desks taker ≡ Some mine → slice_get desks sender ≡ Some other → GotBeginning mine other
 
-  abbrev pub PairWhole : List (AtDesk T) → ℕ → ℕ → Type 0
-  PairWhole desks taker sender = (mine other : AtDesk T) → slice_get desks taker ≡ Some mine → slice_get desks sender ≡ Some other → GotWhole mine other
+  abbrev pub PairWhole : List (DeskView T) → ℕ → ℕ → Type 0
+  PairWhole desks taker sender = (mine other : DeskView T) → slice_get desks taker ≡ Some mine → slice_get desks sender ≡ Some other → GotWhole mine other
 
   -- each of these desks got a beginning of what each has put into its inbox, in order
-  abbrev pub GotInOrder : List (AtDesk T) → Type 0
+  abbrev pub GotInOrder : List (DeskView T) → Type 0
   GotInOrder desks = (taker sender : ℕ) → PairInOrder desks taker sender
 
   -- each of these desks got all that each has put into its inbox, in order
-  abbrev pub GotAll : List (AtDesk T) → Type 0
+  abbrev pub GotAll : List (DeskView T) → Type 0
   GotAll desks = (taker sender : ℕ) → PairWhole desks taker sender

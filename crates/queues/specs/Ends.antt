@@ -4,22 +4,22 @@ use Rattle.atomic_table.specs.Seated.{TableId}
 use Rattle.queues.specs.declared.sent.Sent.{Sent}
 
 -- which inbox it puts into, its number, and the messages that it has put, in order
-pub record Sending (T : Type 0) : Type 0 where
+pub record SenderView (T : Type 0) : Type 0 where
   pub inbox : TableId
   pub number : ℕ
   pub put : List T
 
 -- which inbox it takes from, how many senders this has, and the messages that it got, in order
-pub record Taking (T : Type 0) : Type 0 where
+pub record TakerView (T : Type 0) : Type 0 where
   pub inbox : TableId
   pub senders : ℕ
   pub got : List (Sent T)
 
 module _ {T : Type 0} where
   -- a sender of this inbox
-  abbrev pub sending : TableId → ℕ → List T → Sending T
+  abbrev pub sending : TableId → ℕ → List T → SenderView T
   sending inbox number put = record { inbox = inbox; number = number; put = put }
 
   -- the taker of this inbox
-  abbrev pub taking : TableId → ℕ → List (Sent T) → Taking T
+  abbrev pub taking : TableId → ℕ → List (Sent T) → TakerView T
   taking inbox senders got = record { inbox = inbox; senders = senders; got = got }

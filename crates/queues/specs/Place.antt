@@ -5,16 +5,16 @@ use Rattle.crossbeam_queue.specs.declared.array_queue.Slotted.{Slotted}
 use Rattle.crossbeam_queue.specs.Passes.{Pass, view, IsPassOf}
 use Rattle.queues.specs.declared.sent.Sent.{Sent}
 use Rattle.queues.specs.declared.rule.View.{View}
-use Rattle.queues.specs.Ends.{Sending, Taking, sending, taking}
+use Rattle.queues.specs.Ends.{SenderView, TakerView, sending, taking}
 use Rattle.queues.specs.Rule.{sender_view, taker_view}
 
 module _ {T : Type 0} where
   -- what a contract sees of a sender with this number at this place
-  abbrev pub sending_at : ℕ → Pass (Sent T) (View T) → Sending T
+  abbrev pub sending_at : ℕ → Pass (Sent T) (View T) → SenderView T
   sending_at number place = sending place.table_id number (view place).put
 
   -- what a contract sees of a taker at this place that has made so many senders
-  abbrev pub taking_at : ℕ → Pass (Sent T) (View T) → Taking T
+  abbrev pub taking_at : ℕ → Pass (Sent T) (View T) → TakerView T
   taking_at senders place = taking place.table_id senders (view place).got
 
 module _ {T Q A : Type 0} where

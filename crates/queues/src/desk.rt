@@ -17,9 +17,9 @@ pub struct Desk<T, J: InboxNames> {
 }
 
 impl<T, J: InboxNames> Model for Desk<T, J> {
-    ghost use Rattle.queues.specs.Desks.{AtDesk, IsDeskOf, at_desk, put_by};
+    ghost use Rattle.queues.specs.Desks.{DeskView, IsDeskOf, at_desk, put_by};
 
-    ghost Value = { AtDesk T };
+    ghost Value = { DeskView T };
 
     ghost view = { λ d. at_desk d.number (put_by d.senders.items) d.taker.got };
 

@@ -16,10 +16,10 @@ pub struct Sender<T> {
 
 impl<T> Model for Sender<T> {
     ghost use Rattle.std.specs.Arc.{arc_value};
-    ghost use Rattle.queues.specs.Ends.{Sending};
+    ghost use Rattle.queues.specs.Ends.{SenderView};
     ghost use Rattle.queues.specs.Place.{IsSenderAt, sending_at};
 
-    ghost Value = { Sending T };
+    ghost Value = { SenderView T };
 
     ghost view = { λ s. sending_at s.number s.place };
 

@@ -19,10 +19,10 @@ pub struct Taker<T> {
 
 impl<T> Model for Taker<T> {
     ghost use Rattle.std.specs.Arc.{arc_value};
-    ghost use Rattle.queues.specs.Ends.{Taking};
+    ghost use Rattle.queues.specs.Ends.{TakerView};
     ghost use Rattle.queues.specs.Place.{IsTakerAt, taking_at};
 
-    ghost Value = { Taking T };
+    ghost Value = { TakerView T };
 
     ghost view = { λ t. taking_at t.senders t.place };
 

@@ -1,4 +1,4 @@
 pub mod Knowing
 pub mod Sendings
-pub mod Housed
+pub mod Located
 pub mod Parcels

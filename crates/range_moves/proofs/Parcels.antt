@@ -4,12 +4,12 @@ use Rattle.std.specs.Prelude.{All, count_by}
 use Rattle.std.proofs.lemmas.List.Elements.{All-head, All-tail}
 use Rattle.std.proofs.lemmas.List.Sums.{sum_by-cons}
 use Rattle.std.proofs.lemmas.Map.Views.{exact_unsigned_eq}
-use Rattle.range_moves.specs.declared.house.Whereabouts.{Whereabouts}
-use Rattle.range_moves.specs.declared.house.Whereabouts.TheVariants.{Rests, Leaves, Travels}
+use Rattle.range_moves.specs.declared.placement.Whereabouts.{Whereabouts}
+use Rattle.range_moves.specs.declared.placement.Whereabouts.TheVariants.{Rests, Leaves, Travels}
 use Rattle.range_moves.specs.declared.order.Moving.{Moving}
 use Rattle.range_moves.specs.declared.order.Moving.TheVariants.{Order, Fetch, Parcel}
-use Rattle.range_moves.specs.Housing.{Housing, IsWarehouse, is_away, place_of}
-use Rattle.range_moves.specs.Traffic.{AreOwned, Dispatch, Going, IsHousedWith, IsRight, IsSentRight, brings, is_parcel_of, is_travelling}
+use Rattle.range_moves.specs.Placements.{PlacementsView, IsWarehouse, is_away, place_of}
+use Rattle.range_moves.specs.Traffic.{AreOwned, Dispatch, MessageToSlice, IsLocatedWith, IsRight, IsSentRight, brings, is_parcel_of, is_travelling}
 use Rattle.range_moves.proofs.Knowing.{by_bool}
 use Rattle.range_moves.proofs.Sendings.{bringing, bringing-cons, to_bring}
 
@@ -30,7 +30,7 @@ few_parcels : (w_id : ℕ) (sent : List Dispatch) → parcels w_id sent ≤ brin
 few_parcels w_id [] = omega arith
 few_parcels w_id (d ∷ sent) = omega (arith, parcels-cons w_id d sent, bringing-cons w_id d sent, one_brings w_id d.what, few_parcels w_id sent)
 
-module _ (h : Housing) (w_id : ℕ) where
+module _ (h : PlacementsView) (w_id : ℕ) where
   -- while a slice is at an executor, no parcel of it is on its way
   no_parcel : (here then_to to : ℕ) (what : Moving) → place_of h w_id ≡ Leaves here then_to → IsRight h to what → is_parcel_of w_id what ≡ false
   no_parcel here then_to to (Order order) place right = refl
@@ -65,7 +65,7 @@ module _ (h : Housing) (w_id : ℕ) where
       parcels-cons w_id d sent ∙ ap (λ b. cond b 1 0 + parcels w_id sent) (is_the_parcel then_to d.to d.what place (All-head (IsSentRight h) d sent right))
       ∙ ap (λ n. cond (brings w_id d.what) 1 0 + n) (all_parcels then_to sent place (All-tail (IsSentRight h) d sent right)) ∙ sym (bringing-cons w_id d sent)
 
-pub owned : (more : ℕ) (h : Housing) (going : List Going) (sent : List Dispatch) (moved : ℕ) (parked : List ℕ) → IsHousedWith more h going sent moved parked → AreOwned h sent
+pub owned : (more : ℕ) (h : PlacementsView) (going : List MessageToSlice) (sent : List Dispatch) (moved : ℕ) (parked : List ℕ) → IsLocatedWith more h going sent moved parked → AreOwned h sent
 owned more h going sent moved parked w w_id there = by (place_of h w_id) refl
   where
     once : bringing w_id sent ≡ to_bring (place_of h w_id)

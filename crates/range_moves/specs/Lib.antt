@@ -1,4 +1,4 @@
-pub mod Housing
+pub mod Placements
 pub mod Laws
 pub mod Orders
 pub mod Traffic

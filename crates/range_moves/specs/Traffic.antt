@@ -1,15 +1,15 @@
--- What is under way of moves, and of messages for slices; and what is kept of it.
+-- What is in flight of moves, and of messages for slices; and what is kept of it.
 use Rattle.std.specs.Prelude.{◌≡◌, ◌⊎◌, ℕ, ◌+◌, ◌<◌, ◌≤◌, ◌==◌, Bool, true, false, if◌then◌else◌, All, List, length, Some, count_by, IsTrue}
 use Rattle.std.specs.List.{sum_by}
 use Rattle.range_moves.specs.declared.order.Moving.{Moving}
 use Rattle.range_moves.specs.declared.order.Moving.TheVariants.{Order, Fetch, Parcel}
-use Rattle.range_moves.specs.declared.house.Whereabouts.{Whereabouts}
-use Rattle.range_moves.specs.declared.house.Whereabouts.TheVariants.{Leaves, Rests, Travels}
+use Rattle.range_moves.specs.declared.placement.Whereabouts.{Whereabouts}
+use Rattle.range_moves.specs.declared.placement.Whereabouts.TheVariants.{Leaves, Rests, Travels}
 use Rattle.range_moves.specs.Orders.{IsWithin, size_of}
-use Rattle.range_moves.specs.Housing.{Housing, IsWarehouse, comes_to, is_at, is_away, note_of, place_of}
+use Rattle.range_moves.specs.Placements.{PlacementsView, IsWarehouse, comes_to, is_at, is_away, note_of, place_of}
 
 -- a message for the slice of a warehouse, on its way to an executor
-pub record Going : Type 0 where
+pub record MessageToSlice : Type 0 where
   pub to : ℕ
   pub w_id : ℕ
 
@@ -23,7 +23,7 @@ abbrev pub ComesTo : Whereabouts → ℕ → Type 0
 ComesTo place executor = IsTrue (is_away place) × (executor ≡ comes_to place)
 
 -- The executor has the slice, or gets it, or noted where it went: and so it is from then on.
-abbrev pub Knows : Housing → ℕ → ℕ → Type 0
+abbrev pub Knows : PlacementsView → ℕ → ℕ → Type 0
 Knows h executor w_id = IsTrue (is_at (place_of h w_id) executor) ⊎ (ComesTo (place_of h w_id) executor ⊎ ((to : ℕ) × (note_of h executor w_id ≡ Some to)))
 
 -- what is sent brings the slice of this warehouse on its way
@@ -40,31 +40,31 @@ reports_of (Parcel at) = 1
 
 -- A move that is to begin is all of the move that is outstanding; a fetch is at the executor that has the slice, and a parcel on
 -- its way to where it is to go.
-abbrev pub IsRight : Housing → ℕ → Moving → Type 0
-IsRight h to (Order order) = (to ≡ order.to) × (IsWithin (length h.houses) h.executors order × (h.awaited ≡ size_of order))
+abbrev pub IsRight : PlacementsView → ℕ → Moving → Type 0
+IsRight h to (Order order) = (to ≡ order.to) × (IsWithin (length h.placements) h.executors order × (h.awaited ≡ size_of order))
 IsRight h to (Fetch w_id then_to) = IsWarehouse h w_id × (place_of h w_id ≡ Leaves to then_to)
 IsRight h to (Parcel w_id) = IsWarehouse h w_id × (place_of h w_id ≡ Travels to)
 
-abbrev pub IsSentRight : Housing → Dispatch → Type 0
+abbrev pub IsSentRight : PlacementsView → Dispatch → Type 0
 IsSentRight h d = IsRight h d.to d.what
 
 -- a message for a slice is on its way to one who knows of it
-abbrev pub KnowsOf : Housing → Going → Type 0
+abbrev pub KnowsOf : PlacementsView → MessageToSlice → Type 0
 KnowsOf h g = Knows h g.to g.w_id
 
-abbrev pub IsAwayFrom : Housing → ℕ → Type 0
+abbrev pub IsAwayFrom : PlacementsView → ℕ → Type 0
 IsAwayFrom h w_id = IsTrue (is_away (place_of h w_id))
 
 -- Messages for slices go to executors that know of them, and are parked only while the slice is on its way; so do notes; what a move
 -- has sent is as it should be; of each slice that is away just one thing is on its way, and of each that rests none; and the move
 -- that is outstanding lacks the reports that stand there, `moved`, those that are to come of what it has sent, and so many more.
-pub record IsHousedWith (more : ℕ) (h : Housing) (going : List Going) (sent : List Dispatch) (moved : ℕ) (parked : List ℕ) : Type 0 where
-  pub knows : All (KnowsOf h) going
+pub record IsLocatedWith (more : ℕ) (h : PlacementsView) (message_to_slice : List MessageToSlice) (sent : List Dispatch) (moved : ℕ) (parked : List ℕ) : Type 0 where
+  pub knows : All (KnowsOf h) message_to_slice
   pub noted : (executor w_id to : ℕ) → note_of h executor w_id ≡ Some to → Knows h to w_id × (to < h.executors)
   pub right : All (IsSentRight h) sent
   pub once : (w_id : ℕ) → IsWarehouse h w_id → count_by (λ d. brings w_id d.what) sent ≡ (if is_away (place_of h w_id) then 1 else 0)
   pub awaited : h.awaited ≡ more + (moved + sum_by (λ d. reports_of d.what) sent)
-  pub few : h.awaited ≤ length h.houses
+  pub few : h.awaited ≤ length h.placements
   pub away : All (IsAwayFrom h) parked
 
 -- ---- parcels
@@ -82,5 +82,5 @@ is_travelling (Leaves here to) = false
 is_travelling (Travels to) = true
 
 -- The slice of each warehouse is at one executor, and no parcel of it is on its way; or it is in just one parcel.
-abbrev pub AreOwned : Housing → List Dispatch → Type 0
+abbrev pub AreOwned : PlacementsView → List Dispatch → Type 0
 AreOwned h sent = (w_id : ℕ) → IsWarehouse h w_id → count_by (λ d. is_parcel_of w_id d.what) sent ≡ (if is_travelling (place_of h w_id) then 1 else 0)

@@ -11,7 +11,7 @@ pub fn messages_follow()
     ensures { MessagesFollow }
 {}
 
-/// Where nothing is under way, no move is outstanding, and no message is parked.
+/// Where nothing is in flight, no move is outstanding, and no message is parked.
 pub fn nothing_is_parked()
     ensures { NothingIsParked }
 {}

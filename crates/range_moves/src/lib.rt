@@ -6,12 +6,12 @@
 //! takes memory but the opening.
 #![tactic(auto)]
 
-mod house;
-mod houses;
+mod placement;
+mod placements;
 mod laws;
 mod order;
 
-pub use house::{Found, House, Whereabouts};
-pub use houses::Houses;
+pub use placement::{Found, Placement, Whereabouts};
+pub use placements::Placements;
 pub use laws::{knowing_stays, messages_follow, nothing_is_parked};
 pub use order::{MoveOrder, Moving};

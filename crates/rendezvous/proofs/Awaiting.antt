@@ -123,6 +123,6 @@ turned old new None is = ap reverse (is ∙ append-nil new)
 turned old new (Some x) is = ap reverse is ∙ reverse-append new (x ∷ [])
 
 -- Where no result is told of those that were left, none is left.
-pub none_left : {X : Type 0} (results : List X) (told : Option X) → told ≡ None → (IsSome told ↔ (0 < length results)) → results ≡ []
-none_left [] told none some = refl
-none_left {X} (x ∷ results) told none some = let there : IsSome {T = X} None = subst (λ (o : Option X). IsSome o) none (some.1 (omega arith)) in absurd (cc)
+pub none_left : {X : Type 0} (results : List X) (recorded : Option X) → recorded ≡ None → (IsSome recorded ↔ (0 < length results)) → results ≡ []
+none_left [] recorded none some = refl
+none_left {X} (x ∷ results) recorded none some = let there : IsSome {T = X} None = subst (λ (o : Option X). IsSome o) none (some.1 (omega arith)) in absurd (cc)

@@ -27,12 +27,12 @@ use Rattle.schema.proofs.RowReads.{read_entry}
 
 -- a test that fails shows that the rule doesn't hold
 pub fails : {P : Type 0} (r : Bool) → r ≡ false → IsTrue r ↔ P → ¬ P
-fails r is tells = λ p. let clash : IsTrue r = tells.1 p in cc
+fails r is records = λ p. let clash : IsTrue r = records.1 p in cc
 
 -- ---- the tests
 
 as_test : {P : Type 0} (r test : Bool) → r ≡ test → IsTrue test ↔ P → IsTrue r ↔ P
-as_test {P = P} r test is tells = subst (λ b. IsTrue b ↔ P) (sym is) tells
+as_test {P = P} r test is records = subst (λ b. IsTrue b ↔ P) (sym is) records
 
 same_tests : {X : Type 0} (p q : X → Bool) (xs : List X) → ((x : X) → p x ≡ q x) → list_all p xs ≡ list_all q xs
 same_tests p q [] h = refl

@@ -54,7 +54,7 @@ impl Model for OrderLines {
 /// rows are lent and the keys given.
 #[derive(Drop)]
 pub struct Lines<'a> {
-    // The lines to come of the order under way, and the orders behind it.
+    // The lines to come of the order in flight, and the orders behind it.
     order: OrderKey,
     lines: &'a [(u32, OrderLine)],
     orders: Range<'a, OrderKey, Numbered>,

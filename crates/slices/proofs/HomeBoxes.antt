@@ -10,7 +10,7 @@ use Rattle.schema.proofs.KeyOrders.{districts_exact, customers_exact, orders_exa
 use Rattle.partitions.specs.Parts.{is_of, part_of}
 use Rattle.requests.specs.declared.group.Group.{Group}
 use Rattle.groups.specs.Groups.{warehouse_of}
-use Rattle.tickets.specs.Boxes.{Boxed, sharing}
+use Rattle.tickets.specs.Boxes.{TicketBoxView, sharing}
 use Rattle.tickets.specs.Places.{IsGroupOf, place_in_warehouse, place_of}
 use Rattle.tickets.proofs.OnePlace.{home_known}
 use Rattle.slices.specs.Openings.{IsBoxOf, IsHomeBoxOf, AreHomeBoxesOf}
@@ -44,31 +44,31 @@ part_alike t home = record {
 -- ---- the boxes of one warehouse
 
 -- a group's place among all tells its warehouse, and its place there
-places_told : (warehouses : ℕ) (group : Group) (before number : ℕ) → IsGroupOf warehouses group → place_of group ≡ 105 * before + number → number < 105
+places_recorded : (warehouses : ℕ) (group : Group) (before number : ℕ) → IsGroupOf warehouses group → place_of group ≡ 105 * before + number → number < 105
     → (warehouse_of group ≡ before + 1) × (place_in_warehouse group ≡ number)
-places_told warehouses group before number is at small =
+places_recorded warehouses group before number is at small =
     let known = home_known warehouses group is in
     let few : place_in_warehouse group < 105 = place_known warehouses group is in
     (omega (arith, at, small, known, few), omega (arith, at, small, known, few))
 
-home_box : (t : Database) (before number : ℕ) (ticket_box : Boxed) → IsBoxOf t (105 * before + number) ticket_box → number < 105 → IsHomeBoxOf (part_of t (before + 1)) number ticket_box
+home_box : (t : Database) (before number : ℕ) (ticket_box : TicketBoxView) → IsBoxOf t (105 * before + number) ticket_box → number < 105 → IsHomeBoxOf (part_of t (before + 1)) number ticket_box
 home_box t before number ticket_box is small =
     let group : Group = ticket_box.group in
-    let told = places_told t.scale.warehouses group before number is.known is.place small in
+    let recorded = places_recorded t.scale.warehouses group before number is.known is.place small in
     record {
       known = is.known;
-      here = told.0;
-      place = told.1;
-      has = is.has ∙ ap (λ c. sharing group c 0) (sym (content_alike (before + 1) (part_of t (before + 1)).tables t (part_alike t (before + 1)) group told.0));
+      here = recorded.0;
+      place = recorded.1;
+      has = is.has ∙ ap (λ c. sharing group c 0) (sym (content_alike (before + 1) (part_of t (before + 1)).tables t (part_alike t (before + 1)) group recorded.0));
     }
 
 -- the boxes of the groups of the first warehouses
-pub record AreFirstBoxes (t : Database) (warehouses : ℕ) (boxes : List Boxed) : Type 0 where
+pub record AreFirstBoxes (t : Database) (warehouses : ℕ) (boxes : List TicketBoxView) : Type 0 where
   pub all_there : length boxes ≡ 105 * warehouses
-  pub each : (place : ℕ) (d : Boxed) → place < length boxes → IsBoxOf t place (get_or boxes place d)
+  pub each : (place : ℕ) (d : TicketBoxView) → place < length boxes → IsBoxOf t place (get_or boxes place d)
 
 -- which are split into those of the last of these warehouses, and the others
-pub first_boxes : (t : Database) (before : ℕ) (boxes : List Boxed) → AreFirstBoxes t (before + 1) boxes → AreFirstBoxes t before (take (before * 105) boxes)
+pub first_boxes : (t : Database) (before : ℕ) (boxes : List TicketBoxView) → AreFirstBoxes t (before + 1) boxes → AreFirstBoxes t before (take (before * 105) boxes)
 first_boxes t before boxes are = record {
   all_there = length-take (before * 105) boxes ∙ omega (arith, are.all_there);
   each = λ place d small.
@@ -76,7 +76,7 @@ first_boxes t before boxes are = record {
       subst (IsBoxOf t place) (sym (get_or-take (before * 105) boxes place d few)) (are.each place d (omega (arith, few, are.all_there)));
 }
 
-pub last_boxes : (t : Database) (before : ℕ) (boxes : List Boxed) → AreFirstBoxes t (before + 1) boxes → AreHomeBoxesOf (part_of t (before + 1)) (drop (before * 105) boxes)
+pub last_boxes : (t : Database) (before : ℕ) (boxes : List TicketBoxView) → AreFirstBoxes t (before + 1) boxes → AreHomeBoxesOf (part_of t (before + 1)) (drop (before * 105) boxes)
 last_boxes t before boxes are = record {
   all_there = length-drop (before * 105) boxes ∙ omega (arith, are.all_there);
   each = λ number d small.

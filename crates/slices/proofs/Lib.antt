@@ -4,7 +4,7 @@ pub mod Delivered
 pub mod LatestNoted
 pub mod Seen
 pub mod Homes
-pub mod Grounds
+pub mod UndoLogs
 pub mod Keeps
 pub mod Opened
 pub mod Alike

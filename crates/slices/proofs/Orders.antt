@@ -30,7 +30,7 @@ use Rattle.groups.specs.Laws.{StandInOne, order_in, new_order_in, line_in}
 use Rattle.groups.proofs.Parts.{rows_of-insert_own, rows_of-insert_other, rows_of-remove_own, rows_of-remove_other}
 use Rattle.groups.proofs.RowsInGroups.{each_row_stands_in_one_group, same_row}
 use Rattle.tickets.proofs.Apart.{apart}
-use Rattle.slices.specs.declared.kept.Kept.TheVariants as k
+use Rattle.slices.specs.declared.kept.UndoRecord.TheVariants as k
 use Rattle.slices.specs.Undo.{AreOrdersWithin, CanTakeBackOrder, ChangesGroup, IsStep, with_order_more, with_order_back}
 use Rattle.slices.proofs.Steps.{changes_to}
 
@@ -97,16 +97,16 @@ order_back_changes p q key replaced is =
 -- ---- the rules of the scale, of one group's orders and of all
 
 -- a row of a table, as its own group has it
-told : {K X : Type 0} {R : K → K → Ordering} (t : Database) (m : FinMap R X) (own : K → Group) (found : Group → Content → K → Option X) → StandInOne t m own found
+recorded : {K X : Type 0} {R : K → K → Ordering} (t : Database) (m : FinMap R X) (own : K → Group) (found : Group → Content → K → Option X) → StandInOne t m own found
     → (group : Group) (key : K) → own key ≡ group → found group (content t group) key ≡ table.get m key
-told t m own found stands group key same = sym (ap (λ (g : Group). found g (content t g) key) same) ∙ (stands key).0
+recorded t m own found stands group key same = sym (ap (λ (g : Group). found g (content t g) key) same) ∙ (stands key).0
 
 -- a row that a group has is of that group, and the table has it
 read : {K X : Type 0} {R : K → K → Ordering} (t : Database) (m : FinMap R X) (own : K → Group) (found : Group → Content → K → Option X) → StandInOne t m own found
     → (group : Group) (key : K) (row : X) → found group (content t group) key ≡ Some row → (own key ≡ group) × (table.get m key ≡ Some row)
 read t m own found stands group key row has =
     elim (apart (own key) group) [
-      | inl is ↦ (is.1, sym (told t m own found stands group key is.1) ∙ has)
+      | inl is ↦ (is.1, sym (recorded t m own found stands group key is.1) ∙ has)
       | inr is ↦ absurd (let none : None ≡ Some row = sym ((stands key).1 group (λ e. is.1 (sym e))) ∙ has in cc)
     ]
 
@@ -117,7 +117,7 @@ within_here p is group =
     let of_order = read t t.orders group_of_order order_in stand.orders group in
     let of_new = read t t.new_orders group_of_order new_order_in stand.new_orders group in
     let of_line = read t t.lines group_of_line line_in stand.lines group in
-    let has = told t t.orders group_of_order order_in stand.orders group in
+    let has = recorded t t.orders group_of_order order_in stand.orders group in
     record {
       orders_numbered = λ key row found. is.orders_numbered key row (of_order key row found).1;
       orders_have_customers = λ key row found. is.orders_have_customers key row (of_order key row found).1;
@@ -136,7 +136,7 @@ each_again : {K X : Type 0} {R : K → K → Ordering} (s t : Database) (m n : F
     → EachRow after n
 each_again s t m n own found m_stand n_stand group elsewhere before after each others here key row has =
     elim (apart (own key) group) [
-      | inl is ↦ here key row is.1 (told t n own found n_stand group key is.1 ∙ has)
+      | inl is ↦ here key row is.1 (recorded t n own found n_stand group key is.1 ∙ has)
       | inr is ↦ others key row is.1 (each key row (sym (same_row t s n m own found n_stand m_stand key (elsewhere (own key) is.1)) ∙ has))
     ]
 
@@ -156,7 +156,7 @@ part_again p orders new_orders lines group is home elsewhere within =
     let each_order = each_again s t s.orders orders group_of_order order_in was.orders now.orders group elsewhere in
     let each_new = each_again s t s.new_orders new_orders group_of_order new_order_in was.new_orders now.new_orders group elsewhere in
     let each_line = each_again s t s.lines lines group_of_line line_in was.lines now.lines group elsewhere in
-    let has = λ (key : OrderKey) (own : group_of_order key ≡ group). told t orders group_of_order order_in now.orders group key own in
+    let has = λ (key : OrderKey) (own : group_of_order key ≡ group). recorded t orders group_of_order order_in now.orders group key own in
     let same = λ (key : OrderKey) (other : group_of_order key ≢ group). same_row t s orders s.orders group_of_order order_in now.orders was.orders key (elsewhere (group_of_order key) other) in
     record {
       home = is.home;
@@ -185,12 +185,12 @@ part_again p orders new_orders lines group is home elsewhere within =
 
 -- ---- an order is one step
 
-home_told : (home w_id : ℕ) → IsTrue (is_of home w_id) → w_id ≡ home
-home_told home w_id is = grind (arith, nat_tests)
+home_recorded : (home w_id : ℕ) → IsTrue (is_of home w_id) → w_id ≡ home
+home_recorded home w_id is = grind (arith, nat_tests)
 
 -- an order that is there is of the warehouse
 order_home : (p : Part) (key : OrderKey) (found : Option order.Order) → IsPart p → table.get p.tables.orders key ≡ found → IsTrue (is_some found) → key.w_id ≡ p.home
-order_home p key (Some row) is found there = home_told p.home key.w_id (is.orders_here key row found)
+order_home p key (Some row) is found there = home_recorded p.home key.w_id (is.orders_here key row found)
 order_home p key None is found there = absurd cc
 
 -- the rows without the order are a part again

@@ -5,21 +5,21 @@ use Rattle.std.proofs.lemmas.Bool.Decides.{eqb_tells}
 use Rattle.requests.specs.declared.group.Group.{Group}
 use Rattle.groups.specs.Content.{Content}
 use Rattle.groups.specs.Groups.{warehouse_of}
-use Rattle.tickets.specs.Claims.{Claiming}
-use Rattle.tickets.specs.Committed.{Standing, AreCommitted}
+use Rattle.tickets.specs.Claims.{ClaimView}
+use Rattle.tickets.specs.Committed.{GroupsOfSlice, AreCommitted}
 use Rattle.tickets.proofs.Committed.{AreCommitted-same}
-use Rattle.slices.specs.Sliced.{at_home}
+use Rattle.slices.specs.SliceView.{at_home}
 
 -- ---- the groups of a warehouse
 
-pub home_told : (home : ℕ) (group : Group) → IsTrue (at_home home group) → warehouse_of group ≡ home
-home_told home group near = ⊎_elim
+pub home_recorded : (home : ℕ) (group : Group) → IsTrue (at_home home group) → warehouse_of group ≡ home
+home_recorded home group near = ⊎_elim
     (λ (same : ((warehouse_of group == home) ≡ true) × (warehouse_of group ≡ home)). same.1)
     (λ (other : ((warehouse_of group == home) ≡ false) × (warehouse_of group ≢ home)). let no : true ≡ false = sym near ∙ other.0 in cc)
     (eqb_tells (warehouse_of group) home)
 
-pub home_tells : (home : ℕ) (group : Group) → warehouse_of group ≡ home → at_home home group ≡ true
-home_tells home group at = ⊎_elim
+pub home_records : (home : ℕ) (group : Group) → warehouse_of group ≡ home → at_home home group ≡ true
+home_records home group at = ⊎_elim
     (λ (same : ((warehouse_of group == home) ≡ true) × (warehouse_of group ≡ home)). same.0)
     (λ (other : ((warehouse_of group == home) ≡ false) × (warehouse_of group ≢ home)). absurd (other.1 at))
     (eqb_tells (warehouse_of group) home)
@@ -33,8 +33,8 @@ not_home home group apart = ⊎_elim
 -- ---- what stands in some groups
 
 -- these have the same where one looks
-abbrev pub AreAlike : (Group → Bool) → Standing → Standing → Type 0
+abbrev pub AreAlike : (Group → Bool) → GroupsOfSlice → GroupsOfSlice → Type 0
 AreAlike here a b = (group : Group) → IsTrue (here group) → (b.rows group ≡ a.rows group) × (b.free group ≡ a.free group)
 
-pub seen : (here : Group → Bool) (tables : Group → Content) (a b : Standing) (claims : List Claiming) → AreAlike here a b → AreCommitted here tables a claims → AreCommitted here tables b claims
+pub seen : (here : Group → Bool) (tables : Group → Content) (a b : GroupsOfSlice) (claims : List ClaimView) → AreAlike here a b → AreCommitted here tables a claims → AreCommitted here tables b claims
 seen here tables a b claims same h = AreCommitted-same here tables tables a b claims (λ _ _. refl) (λ group near. (same group near).0) (λ group near. (same group near).1) h

@@ -10,15 +10,15 @@ use Rattle.indexes.proofs.Sendable.{LatestOrders-send, NameIndex-send}
 use Rattle.local_locks.proofs.Sendable.{LockTable-send}
 use Rattle.tickets.specs.declared.group_names.GroupNames.{Ghosts as GroupNames}
 use Rattle.slices.specs.contracts.indexed.IndexedRows as IndexedRows
-use Rattle.slices.specs.contracts.kept.Kept as Kept
-use Rattle.slices.specs.contracts.ground.Ground as Ground
+use Rattle.slices.specs.contracts.kept.UndoRecord as UndoRecord
+use Rattle.slices.specs.contracts.undo_log.UndoLog as UndoLog
 use Rattle.slices.specs.contracts.slice.Slice as Slice
 
 IndexedRows-send : IsSend IndexedRows.the_row
 IndexedRows-send = view_send _ _ _ _ _ (declared_send IndexedRows.TheInside.the_type (Partition-send, (NameIndex-send, (LatestOrders-send, tt))))
 
-Kept-send : IsSend Kept.the_row
-Kept-send = variants_send Kept.enum (
+UndoRecord-send : IsSend UndoRecord.the_row
+UndoRecord-send = variants_send UndoRecord.enum (
   (search sendable depth 20, (rows.Warehouse-send, tt)),
   (
     (search sendable depth 20, (rows.District-send, tt)),
@@ -41,9 +41,9 @@ Kept-send = variants_send Kept.enum (
   ),
 )
 
-Ground-send : IsSend Ground.the_row
-Ground-send = search (Kept-send, Vec-send, sendable) depth 40
+UndoLog-send : IsSend UndoLog.the_row
+UndoLog-send = search (UndoRecord-send, Vec-send, sendable) depth 40
 
 module _ (J : RattleType) (names : GroupNames J.Denot) (s : IsSend J) where
   pub Slice-send : IsSend (Slice.the_row J names)
-  Slice-send = view_send _ _ _ _ _ (declared_send (Slice.TheInside.the_type J names) (IndexedRows-send, (LockTable-send J names s, (search (Ground-send, Vec-send) depth 10, tt))))
+  Slice-send = view_send _ _ _ _ _ (declared_send (Slice.TheInside.the_type J names) (IndexedRows-send, (LockTable-send J names s, (search (UndoLog-send, Vec-send) depth 10, tt))))

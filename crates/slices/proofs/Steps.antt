@@ -30,8 +30,8 @@ use Rattle.groups.specs.Laws.{ChangesOneGroup, with_warehouse, with_district, wi
 use Rattle.groups.proofs.Parts.{get-insert_here}
 use Rattle.groups.proofs.RowsInGroups.{each_row_stands_in_one_group}
 use Rattle.groups.proofs.RowsPut.{each_put_changes_one_group}
-use Rattle.slices.specs.declared.kept.Kept.{Kept}
-use Rattle.slices.specs.declared.kept.Kept.TheVariants as k
+use Rattle.slices.specs.declared.kept.UndoRecord.{UndoRecord}
+use Rattle.slices.specs.declared.kept.UndoRecord.TheVariants as k
 use Rattle.slices.specs.Undo.{group_of_kept, put_back_in, all_put_back_in, AreKept, AreNamesAt, CanPutBack, ChangesGroup, IsStep, with_payment_more, with_payment_fewer}
 
 pub All-last : {X : Type 0} (P : X → Type 0) (xs : List X) (x : X) → All P (xs ++ x ∷ []) → P x
@@ -78,37 +78,37 @@ module _ (p q : Part) where
 
 -- ---- steps of a group are taken back
 
-pub all_put_back_in-more : (undo : List Kept) (kept : Kept) (c : Content) → all_put_back_in (undo ++ kept ∷ []) c ≡ all_put_back_in undo (put_back_in kept c)
+pub all_put_back_in-more : (undo : List UndoRecord) (kept : UndoRecord) (c : Content) → all_put_back_in (undo ++ kept ∷ []) c ≡ all_put_back_in undo (put_back_in kept c)
 all_put_back_in-more [] kept c = refl
 all_put_back_in-more (first ∷ undo) kept c = ap (put_back_in first) (all_put_back_in-more undo kept c)
 
-pub AreKept-more : (scale : Scale) (group : Group) (undo : List Kept) (kept : Kept) (c : Content) → group_of_kept kept ≡ group → CanPutBack scale kept c → AreKept scale group undo (put_back_in kept c) → AreKept scale group (undo ++ kept ∷ []) c
+pub AreKept-more : (scale : Scale) (group : Group) (undo : List UndoRecord) (kept : UndoRecord) (c : Content) → group_of_kept kept ≡ group → CanPutBack scale kept c → AreKept scale group undo (put_back_in kept c) → AreKept scale group (undo ++ kept ∷ []) c
 AreKept-more scale group [] kept c own can are = (own, can, tt)
 AreKept-more scale group (first ∷ undo) kept c own can are =
     (are.0, subst (CanPutBack scale first) (sym (all_put_back_in-more undo kept c)) are.1, AreKept-more scale group undo kept c own can are.2)
 
-pub AreKept-last : (scale : Scale) (group : Group) (undo : List Kept) (kept : Kept) (c : Content) → AreKept scale group (undo ++ kept ∷ []) c → (group_of_kept kept ≡ group) × CanPutBack scale kept c × AreKept scale group undo (put_back_in kept c)
+pub AreKept-last : (scale : Scale) (group : Group) (undo : List UndoRecord) (kept : UndoRecord) (c : Content) → AreKept scale group (undo ++ kept ∷ []) c → (group_of_kept kept ≡ group) × CanPutBack scale kept c × AreKept scale group undo (put_back_in kept c)
 AreKept-last scale group [] kept c are = are
 AreKept-last scale group (first ∷ undo) kept c are =
     let rest = AreKept-last scale group undo kept c are.2 in
     (rest.0, rest.1, (are.0, subst (CanPutBack scale first) (all_put_back_in-more undo kept c) are.1, rest.2))
 
 -- what is left of all the steps of a group that were kept with the first rows, and what that makes of the group
-pub record AreLeft (group : Group) (all : List Kept) (first : Part) (undo : List Kept) (p : Part) : Type 0 where
+pub record AreLeft (group : Group) (all : List UndoRecord) (first : Part) (undo : List UndoRecord) (p : Part) : Type 0 where
   pub kept : AreKept p.tables.scale group undo (content p.tables group)
   pub makes : all_put_back_in undo (content p.tables group) ≡ all_put_back_in all (content first.tables group)
   pub changes : ChangesGroup group (λ _. content p.tables group) first p
 
-pub all_left : (group : Group) (all : List Kept) (p : Part) → AreKept p.tables.scale group all (content p.tables group) → AreLeft group all p all p
+pub all_left : (group : Group) (all : List UndoRecord) (p : Part) → AreKept p.tables.scale group all (content p.tables group) → AreLeft group all p all p
 all_left group all p are = record { kept = are; makes = refl; changes = record { contents = record { here = refl; elsewhere = λ _ _. refl }; home = refl; scale = refl; items = refl } }
 
 -- the last step can be taken back
-pub last_can : (group : Group) (all : List Kept) (first : Part) (undo rest : List Kept) (kept : Kept) (p : Part) → AreLeft group all first undo p → undo ≡ rest ++ kept ∷ [] → CanPutBack p.tables.scale kept (content p.tables (group_of_kept kept))
+pub last_can : (group : Group) (all : List UndoRecord) (first : Part) (undo rest : List UndoRecord) (kept : UndoRecord) (p : Part) → AreLeft group all first undo p → undo ≡ rest ++ kept ∷ [] → CanPutBack p.tables.scale kept (content p.tables (group_of_kept kept))
 last_can group all first undo rest kept p left is =
     let last = AreKept-last p.tables.scale group rest kept (content p.tables group) (subst (λ u. AreKept p.tables.scale group u (content p.tables group)) is left.kept) in
     subst (λ (g : Group). CanPutBack p.tables.scale kept (content p.tables g)) (sym last.0) last.1
 
-pub one_fewer : (group : Group) (all : List Kept) (first : Part) (undo rest : List Kept) (kept : Kept) (p q : Part) → AreLeft group all first undo p → undo ≡ rest ++ kept ∷ [] → ChangesGroup (group_of_kept kept) (put_back_in kept) p q
+pub one_fewer : (group : Group) (all : List UndoRecord) (first : Part) (undo rest : List UndoRecord) (kept : UndoRecord) (p q : Part) → AreLeft group all first undo p → undo ≡ rest ++ kept ∷ [] → ChangesGroup (group_of_kept kept) (put_back_in kept) p q
     → AreLeft group all first rest q
 one_fewer group all first undo rest kept p q left is change =
     let had : Content = content p.tables group in
@@ -126,7 +126,7 @@ one_fewer group all first undo rest kept p q left is change =
       };
     }
 
-pub none_left_over : (group : Group) (all : List Kept) (first : Part) (undo : List Kept) (p : Part) → AreLeft group all first undo p → undo ≡ [] → ChangesGroup group (all_put_back_in all) first p
+pub none_left_over : (group : Group) (all : List UndoRecord) (first : Part) (undo : List UndoRecord) (p : Part) → AreLeft group all first undo p → undo ≡ [] → ChangesGroup group (all_put_back_in all) first p
 none_left_over group all first undo p left none = record {
   contents = record { here = sym (ap (λ u. all_put_back_in u (content p.tables group)) none) ∙ left.makes; elsewhere = left.changes.contents.elsewhere };
   home = left.changes.home;

@@ -9,18 +9,18 @@ use Rattle.std.specs.FinMap.{FinMap, IsAntisymmetric, nat_cmp-IsAntisymmetric}
 use Rattle.schema.specs.Database.{Database}
 use Rattle.schema.specs.Scale.{has_warehouse}
 use Rattle.schema.proofs.KeyOrders.{districts_total, districts_exact, customers_total, customers_exact, orders_total, orders_exact, lines_total, lines_exact, stocks_total, stocks_exact}
-use Rattle.partitions.specs.Parts.{Shared, Part, ArePartsOf, whole_of, rows_of_all}
+use Rattle.partitions.specs.Parts.{SharedTables, Part, ArePartsOf, whole_of, rows_of_all}
 use Rattle.partitions.proofs.Wholes.{get-whole_there, get-whole_of_parts}
 use Rattle.slices.proofs.Alike.{AreAlikeAt}
 
-get-part : {K X : Type 0} {R : K → K → Ordering} (o : IsTotalOrder R) (a : IsAntisymmetric R) (own : K → ℕ) (rows : Database → FinMap R X) (shared : Shared) (parts : List Part) (place : ℕ) (d : Part) (key : K)
+get-part : {K X : Type 0} {R : K → K → Ordering} (o : IsTotalOrder R) (a : IsAntisymmetric R) (own : K → ℕ) (rows : Database → FinMap R X) (shared : SharedTables) (parts : List Part) (place : ℕ) (d : Part) (key : K)
     → ArePartsOf shared parts → place < length parts → own key ≡ place + 1 → map.get (rows_of_all own rows parts) key ≡ map.get (rows (get_or parts place d).tables) key
 get-part o a own rows shared parts place d key are here at =
     get-whole_there o a own rows parts key place d here ((are.each place d here).home ∙ sym at)
     (λ other small same. omega (arith, same, at, (are.each other d small).home))
 
 -- the rows of all other warehouses stay, where one part makes way for another
-get-other : {K X : Type 0} {R : K → K → Ordering} (o : IsTotalOrder R) (a : IsAntisymmetric R) (own : K → ℕ) (rows : Database → FinMap R X) (shared : Shared) (parts : List Part) (place : ℕ) (new : Part) (key : K)
+get-other : {K X : Type 0} {R : K → K → Ordering} (o : IsTotalOrder R) (a : IsAntisymmetric R) (own : K → ℕ) (rows : Database → FinMap R X) (shared : SharedTables) (parts : List Part) (place : ℕ) (new : Part) (key : K)
     → ArePartsOf shared parts → ArePartsOf shared (set parts place new) → own key ≢ place + 1
     → map.get (rows_of_all own rows (set parts place new)) key ≡ map.get (rows_of_all own rows parts) key
 get-other {K} {X} {R} o a own rows shared parts place new key are are_now apart =
@@ -39,7 +39,7 @@ get-other {K} {X} {R} o a own rows shared parts place new key are are_now apart 
     ] refl
 
 -- the whole has the rows of a part
-pub whole_has_part : (shared : Shared) (parts : List Part) (place : ℕ) (d : Part) → ArePartsOf shared parts → place < length parts → AreAlikeAt (place + 1) (whole_of shared parts) (get_or parts place d).tables
+pub whole_has_part : (shared : SharedTables) (parts : List Part) (place : ℕ) (d : Part) → ArePartsOf shared parts → place < length parts → AreAlikeAt (place + 1) (whole_of shared parts) (get_or parts place d).tables
 whole_has_part shared parts place d are here = record {
   warehouses = λ key at. get-part nat_cmp_total nat_cmp-IsAntisymmetric (λ key. key) (λ t. t.warehouses) shared parts place d key are here at;
   districts = λ key at. get-part districts_total districts_exact (λ key. key.w_id) (λ t. t.districts) shared parts place d key are here at;
@@ -52,7 +52,7 @@ whole_has_part shared parts place d are here = record {
 }
 
 -- and where another part makes way for another, those of all other warehouses
-pub whole_keeps_others : (shared : Shared) (parts : List Part) (place : ℕ) (new : Part) (home : ℕ) → ArePartsOf shared parts → ArePartsOf shared (set parts place new) → home ≢ place + 1
+pub whole_keeps_others : (shared : SharedTables) (parts : List Part) (place : ℕ) (new : Part) (home : ℕ) → ArePartsOf shared parts → ArePartsOf shared (set parts place new) → home ≢ place + 1
     → AreAlikeAt home (whole_of shared (set parts place new)) (whole_of shared parts)
 whole_keeps_others shared parts place new home are are_now apart = record {
   warehouses = λ key own. get-other nat_cmp_total nat_cmp-IsAntisymmetric (λ key. key) (λ t. t.warehouses) shared parts place new key are are_now (λ e. apart (sym own ∙ e));

@@ -2,52 +2,52 @@
 use Rattle.std.specs.Prelude.{◌≡◌, List, [], ◌∷◌, ◌++◌, map}
 use Rattle.std.specs.List.Sorted.{IsPermutation}
 use Rattle.groups.specs.Content.{content}
-use Rattle.groups.specs.declared.wishes.Wish.{Wish}
+use Rattle.groups.specs.declared.group_wants.GroupWant.{GroupWant}
 use Rattle.groups.specs.declared.wants.Want.{Want}
-use Rattle.tickets.specs.Claims.{Claiming, fresh}
+use Rattle.tickets.specs.Claims.{ClaimView, fresh}
 use Rattle.wait_die.specs.declared.deciding.Holder.{Holder}
 use Rattle.local_locks.specs.declared.table.Asked.{Asked}
 use Rattle.local_locks.specs.declared.table.Asked.TheVariants as asked
 use Rattle.local_locks.specs.declared.table.Turn.{Turn}
 use Rattle.local_locks.specs.declared.table.Turn.TheVariants as turn
-use Rattle.local_locks.specs.Locking.{Locking}
+use Rattle.local_locks.specs.LockTableView.{LockTableView}
 use Rattle.local_locks.specs.Conflicts.{IsFree, MustWait, MustDie}
 use Rattle.local_locks.specs.Asking.{IsTurnOf, held_by, waiting}
-use Rattle.local_locks.specs.Wishes.{wishes}
-use Rattle.slices.specs.Sliced.{Sliced}
+use Rattle.local_locks.specs.GroupWants.{group_wants}
+use Rattle.slices.specs.SliceView.{SliceView}
 
 -- who holds what and who waits for what in the slice, whatever stands in its groups
-abbrev pub locking_in : Sliced → Locking
+abbrev pub locking_in : SliceView → LockTableView
 locking_in s = record { w_id = s.home; stands = []; holdings = s.holdings; waiters = s.waiters }
 
--- the claim that is granted to this one for a wish: under it nothing was done yet, and it tells what stands in its group
-abbrev pub granted_in : Holder → Sliced → Wish → Claiming
-granted_in by s wish = fresh by wish.group wish.mode (content s.tables wish.group)
+-- the claim that is granted to this one for a want: under it nothing was done yet, and it tells what stands in its group
+abbrev pub granted_in : Holder → SliceView → GroupWant → ClaimView
+granted_in by s group_want = fresh by group_want.group group_want.mode (content s.tables group_want.group)
 
 -- One who is free has a claim on each group that is wanted, want by want, and they are out besides those that were. The rows
 -- stay.
-pub record GrantsIn (by : Holder) (wants : List Want) (old : Sliced) (granted : List Claiming) (new : Sliced) : Type 0 where
+pub record GrantsIn (by : Holder) (wants : List Want) (old : SliceView) (granted : List ClaimView) (new : SliceView) : Type 0 where
   pub free : IsFree old.holdings wants
-  pub claims : granted ≡ map (granted_in by old) (wishes wants)
+  pub claims : granted ≡ map (granted_in by old) (group_wants wants)
   pub holdings : IsPermutation new.holdings (map held_by granted ++ old.holdings)
   pub home : new.home ≡ old.home
   pub tables : new.tables ≡ old.tables
 
 module _ {J : Type 0} where
   -- what is answered to one who asks, and what the slice is then
-  abbrev pub AnswersIn : Holder → List Want → Sliced → Asked J → Sliced → Type 0
+  abbrev pub AnswersIn : Holder → List Want → SliceView → Asked J → SliceView → Type 0
   AnswersIn by wants old (asked.Granted claims) new = GrantsIn by wants old claims.items new × (new.waiters ≡ old.waiters)
   AnswersIn by wants old asked.Waits new = MustWait old.holdings by.age wants × (new ≡ record old { waiters = old.waiters ++ waiting by wants ∷ [] })
   AnswersIn by wants old (asked.Dies group holder) new = MustDie old.holdings by.age wants group holder × (new ≡ old)
 
   -- the claims that are granted with the answer
-  abbrev pub claims_asked : Asked J → List Claiming
+  abbrev pub claims_asked : Asked J → List ClaimView
   claims_asked (asked.Granted claims) = claims.items
   claims_asked asked.Waits = []
   claims_asked (asked.Dies group holder) = []
 
   -- whose turn it is and what is said to that one, and what the slice is then
-  abbrev pub TakesTurnIn : Sliced → Turn J → Sliced → Type 0
+  abbrev pub TakesTurnIn : SliceView → Turn J → SliceView → Type 0
   TakesTurnIn old (turn.Granted index by claims) new =
       (wants : List Want) × IsTurnOf index (waiting by wants) (locking_in old) (locking_in new) × GrantsIn by wants old claims.items new
   TakesTurnIn old (turn.Dies index by group holder) new =
@@ -55,6 +55,6 @@ module _ {J : Type 0} where
       × (new ≡ record old { waiters = new.waiters })
 
   -- the claims that are granted with the turn
-  abbrev pub claims_of_turn : Turn J → List Claiming
+  abbrev pub claims_of_turn : Turn J → List ClaimView
   claims_of_turn (turn.Granted index by claims) = claims.items
   claims_of_turn (turn.Dies index by group holder) = []

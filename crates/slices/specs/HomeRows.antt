@@ -11,33 +11,33 @@ use Rattle.rows.specs.declared.keys.OrderKey.{OrderKey}
 use Rattle.rows.specs.declared.records.Order.{Order}
 use Rattle.partitions.specs.Parts.{Part, IsPart, is_of, has_district_of, has_stock_of, has_customer_of}
 
-home_told : (home w_id : ℕ) → IsTrue (is_of home w_id) → w_id ≡ home
-home_told home w_id is = grind (arith, nat_tests)
+home_recorded : (home w_id : ℕ) → IsTrue (is_of home w_id) → w_id ≡ home
+home_recorded home w_id is = grind (arith, nat_tests)
 
-home_told_by_district : (home : ℕ) (key : DistrictKey) → IsTrue (has_district_of home key) → key.w_id ≡ home
-home_told_by_district home key is = grind (arith, nat_tests)
+home_recorded_by_district : (home : ℕ) (key : DistrictKey) → IsTrue (has_district_of home key) → key.w_id ≡ home
+home_recorded_by_district home key is = grind (arith, nat_tests)
 
-home_told_by_stock : (scale : Scale) (home : ℕ) (key : StockKey) → IsTrue (has_stock_of scale home key) → key.w_id ≡ home
-home_told_by_stock scale home key is = grind (arith, nat_tests)
+home_recorded_by_stock : (scale : Scale) (home : ℕ) (key : StockKey) → IsTrue (has_stock_of scale home key) → key.w_id ≡ home
+home_recorded_by_stock scale home key is = grind (arith, nat_tests)
 
-home_told_by_customer : (scale : Scale) (home : ℕ) (key : CustomerKey) → IsTrue (has_customer_of scale home key) → key.w_id ≡ home
-home_told_by_customer scale home key is = grind (arith, nat_tests)
+home_recorded_by_customer : (scale : Scale) (home : ℕ) (key : CustomerKey) → IsTrue (has_customer_of scale home key) → key.w_id ≡ home
+home_recorded_by_customer scale home key is = grind (arith, nat_tests)
 
 pub home_of_warehouse : (p : Part) → IsPart p → (w_id : ℕ) → IsTrue (map.contains_key p.tables.warehouses w_id) → w_id ≡ p.home
-home_of_warehouse p is w_id there = home_told p.home w_id (sym (is.warehouses w_id) ∙ there)
+home_of_warehouse p is w_id there = home_recorded p.home w_id (sym (is.warehouses w_id) ∙ there)
 
 pub home_of_district : (p : Part) → IsPart p → (key : DistrictKey) → IsTrue (map.contains_key p.tables.districts key) → key.w_id ≡ p.home
-home_of_district p is key there = home_told_by_district p.home key (sym (is.districts key) ∙ there)
+home_of_district p is key there = home_recorded_by_district p.home key (sym (is.districts key) ∙ there)
 
 pub home_of_stock : (p : Part) → IsPart p → (key : StockKey) → IsTrue (map.contains_key p.tables.stocks key) → key.w_id ≡ p.home
-home_of_stock p is key there = home_told_by_stock p.tables.scale p.home key (sym (is.stocks key) ∙ there)
+home_of_stock p is key there = home_recorded_by_stock p.tables.scale p.home key (sym (is.stocks key) ∙ there)
 
 pub home_of_customer : (p : Part) → IsPart p → (key : CustomerKey) → IsTrue (map.contains_key p.tables.customers key) → key.w_id ≡ p.home
-home_of_customer p is key there = home_told_by_customer p.tables.scale p.home key (sym (is.customers key) ∙ there)
+home_of_customer p is key there = home_recorded_by_customer p.tables.scale p.home key (sym (is.customers key) ∙ there)
 
 home_of_found : (p : Part) → IsPart p → (key : OrderKey) (found : Option Order) → map.get p.tables.orders key ≡ found → IsTrue (is_some found) → key.w_id ≡ p.home
 home_of_found p is key None at there = absurd cc
-home_of_found p is key (Some row) at there = home_told p.home key.w_id (is.orders_here key row at)
+home_of_found p is key (Some row) at there = home_recorded p.home key.w_id (is.orders_here key row at)
 
 pub home_of_order : (p : Part) → IsPart p → (key : OrderKey) → IsTrue (map.contains_key p.tables.orders key) → key.w_id ≡ p.home
 home_of_order p is key there = home_of_found p is key (map.get p.tables.orders key) refl there

@@ -1,15 +1,15 @@
 -- What holds of all slices, where it holds of each.
 use Rattle.std.specs.Prelude.{◌≡◌, ℕ, ◌+◌, ◌<◌, List, All, length, map, slice_index_or, slice_set}
 use Rattle.schema.specs.Database.{Database, IsWithinScale}
-use Rattle.partitions.specs.Parts.{Shared, shared_of, parts_of}
-use Rattle.tickets.specs.Claims.{Claiming}
-use Rattle.slices.specs.Sliced.{Sliced, AreSlicesOf, IsClaimAt, SliceKeeps, SlicesKeep, all_at_rest, at_rest, joined}
+use Rattle.partitions.specs.Parts.{SharedTables, shared_of, parts_of}
+use Rattle.tickets.specs.Claims.{ClaimView}
+use Rattle.slices.specs.SliceView.{SliceView, AreSlicesOf, IsClaimAt, SliceKeeps, SlicesKeep, all_at_rest, at_rest, joined}
 
 -- What one slice keeps, all slices keep, as far as the claims are on groups of its warehouse; and they are still the slices
 -- of all warehouses.
 abbrev pub OneSliceKeepsAll : Type 0
 OneSliceKeepsAll =
-    (shared : Shared) (slices : List Sliced) (place : ℕ) (d new : Sliced) (before after : List Claiming)
+    (shared : SharedTables) (slices : List SliceView) (place : ℕ) (d new : SliceView) (before after : List ClaimView)
     → AreSlicesOf shared slices → place < length slices → All (IsClaimAt (place + 1)) before → All (IsClaimAt (place + 1)) after
     → SliceKeeps before (slice_index_or slices place d) after new
     → AreSlicesOf shared (slice_set slices place new) × SlicesKeep before (joined shared slices) after (joined shared (slice_set slices place new))

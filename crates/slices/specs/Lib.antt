@@ -1,8 +1,8 @@
-pub mod Sliced
+pub mod SliceView
 pub mod Fitting
 pub mod Undo
 pub mod HomeRows
-pub mod Grounds
+pub mod UndoLogs
 pub mod Asked
 pub mod Openings
 pub mod Joining

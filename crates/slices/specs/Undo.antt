@@ -25,8 +25,8 @@ use Rattle.groups.specs.Groups.{group_of_warehouse, group_of_district, group_of_
 use Rattle.groups.specs.Content.{Content, content}
 use Rattle.groups.specs.Content.Content.{OfOrders, OfHistory}
 use Rattle.groups.specs.Laws.{ChangesOneGroup, warehouse_in, district_in, customer_in, order_in, new_order_in, line_in, history_in, stock_in, with_warehouse, with_district, with_customer, with_stock}
-use Rattle.slices.specs.declared.kept.Kept.{Kept}
-use Rattle.slices.specs.declared.kept.Kept.TheVariants.{Warehouse, District, Stock, Customer, NoPayment, Order, Delivery}
+use Rattle.slices.specs.declared.kept.UndoRecord.{UndoRecord}
+use Rattle.slices.specs.declared.kept.UndoRecord.TheVariants.{Warehouse, District, Stock, Customer, NoPayment, Order, Delivery}
 
 -- what a district's list has with one payment more at its end
 abbrev pub with_payment_more : History → Content → Content
@@ -119,7 +119,7 @@ pub record ChangesGroup (group : Group) (change : Content → Content) (old new 
 -- ---- one step
 
 -- the group in which a step was
-abbrev pub group_of_kept : Kept → Group
+abbrev pub group_of_kept : UndoRecord → Group
 group_of_kept (Warehouse w_id row) = group_of_warehouse w_id
 group_of_kept (District key row) = group_of_district key
 group_of_kept (Stock key row) = group_of_stock key
@@ -130,7 +130,7 @@ group_of_kept (Delivery key before) = group_of_order key
 
 -- What is asked of what the group has: a row stands at the key, a customer's with the names of the row that comes back; or
 -- there is a list; or the rows of the order are there, and without them the rules of the scale are kept; or the order is there.
-abbrev pub CanPutBack : Scale → Kept → Content → Type 0
+abbrev pub CanPutBack : Scale → UndoRecord → Content → Type 0
 CanPutBack scale (Warehouse w_id row) content = IsTrue (is_some (warehouse_in (group_of_warehouse w_id) content w_id))
 CanPutBack scale (District key row) content = IsTrue (is_some (district_in (group_of_district key) content key))
 CanPutBack scale (Stock key row) content = IsTrue (is_some (stock_in (group_of_stock key) content key))
@@ -141,7 +141,7 @@ CanPutBack scale (Order key replaced) content = CanTakeBackOrder scale key repla
 CanPutBack scale (Delivery key before) content = CanTakeBackDelivery key before content
 
 -- what the group has once the step is taken back
-abbrev pub put_back_in : Kept → Content → Content
+abbrev pub put_back_in : UndoRecord → Content → Content
 put_back_in (Warehouse w_id row) content = with_warehouse row content
 put_back_in (District key row) content = with_district row content
 put_back_in (Stock key row) content = with_stock key row content
@@ -152,7 +152,7 @@ put_back_in (Delivery key before) content = with_order_undelivered key before co
 
 -- A step in a group, with what takes it back: it changes what that group has, and once it is taken back the group has what
 -- it had.
-pub record IsStep (group : Group) (change : Content → Content) (kept : Kept) (old new : Part) : Type 0 where
+pub record IsStep (group : Group) (change : Content → Content) (kept : UndoRecord) (old new : Part) : Type 0 where
   pub changes : ChangesGroup group change old new
   pub own : group_of_kept kept ≡ group
   pub can : CanPutBack new.tables.scale kept (content new.tables group)
@@ -161,12 +161,12 @@ pub record IsStep (group : Group) (change : Content → Content) (kept : Kept) (
 -- ---- all steps, the last one first
 
 -- once all steps are, the last one first
-abbrev pub all_put_back_in : List Kept → Content → Content
+abbrev pub all_put_back_in : List UndoRecord → Content → Content
 all_put_back_in [] content = content
 all_put_back_in (kept ∷ undo) content = put_back_in kept (all_put_back_in undo content)
 
 -- each step was one in the group, and can be taken back once those after it are
-abbrev pub AreKept : Scale → Group → List Kept → Content → Type 0
+abbrev pub AreKept : Scale → Group → List UndoRecord → Content → Type 0
 AreKept scale group [] content = Unit {0}
 AreKept scale group (kept ∷ undo) content =
     (group_of_kept kept ≡ group) × CanPutBack scale kept (all_put_back_in undo content) × AreKept scale group undo content

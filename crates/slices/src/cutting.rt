@@ -2,7 +2,7 @@
 ghost use Rattle.std.specs.Prelude.{◌≡◌, map, IfOk};
 ghost use Rattle.partitions.specs.Parts.{shared_of, parts_of};
 ghost use Rattle.slices.specs.Openings.{AreBoxesOf};
-ghost use Rattle.slices.specs.Sliced.{at_rest, joined, AreSlicesOf};
+ghost use Rattle.slices.specs.SliceView.{at_rest, joined, AreSlicesOf};
 
 use crate::Slice;
 use partitions::Catalog;

@@ -12,7 +12,7 @@ use schema::{
 
 /// What takes one step back.
 #[derive(Drop)]
-pub(crate) enum Kept {
+pub(crate) enum UndoRecord {
     /// The warehouse's row, as it was before the step. So for the next three.
     Warehouse(u32, Warehouse),
     District(DistrictKey, District),
@@ -26,38 +26,38 @@ pub(crate) enum Kept {
     Delivery(OrderKey, BeforeDelivery),
 }
 
-impl Kept {
+impl UndoRecord {
     /// Takes the step back.
     pub(crate) fn put_back(self, rows: &mut IndexedRows)
         requires { spec.CanPutBack rows.old.tables.scale self (content rows.old.tables (spec.group_of_kept self)) }
         ensures { spec.ChangesGroup (spec.group_of_kept self) (spec.put_back_in self) rows.old rows.new }
     {
         match self {
-            Kept::Warehouse(w_id, row) => {
+            UndoRecord::Warehouse(w_id, row) => {
                 rows.replace_warehouse(w_id, row);
             }
-            Kept::District(key, row) => {
+            UndoRecord::District(key, row) => {
                 rows.replace_district(key, row);
             }
-            Kept::Stock(key, row) => {
+            UndoRecord::Stock(key, row) => {
                 rows.replace_stock(key, row);
             }
-            Kept::Customer(key, row) => {
+            UndoRecord::Customer(key, row) => {
                 rows.replace_customer(key, row);
             }
-            Kept::NoPayment(key) => rows.pop_history(key),
-            Kept::Order(key, replaced) => {
+            UndoRecord::NoPayment(key) => rows.pop_history(key),
+            UndoRecord::Order(key, replaced) => {
                 // The rows that are here are the warehouse's.
                 let _ = rows.partition();
                 rows.take_back_order(key, replaced);
             }
-            Kept::Delivery(key, before) => rows.take_back_delivery(key, before),
+            UndoRecord::Delivery(key, before) => rows.take_back_delivery(key, before),
         }
     }
 }
 
 /// Takes all steps of a group back, the last one first. None is left.
-pub(crate) fn put_all_back(undo: &mut Vec<Kept>, rows: &mut IndexedRows)
+pub(crate) fn put_all_back(undo: &mut Vec<UndoRecord>, rows: &mut IndexedRows)
     requires { (group : AnyGroup) × spec.AreKept rows.old.tables.scale group undo.old.items (content rows.old.tables group) }
     ensures rows { (group : AnyGroup) → spec.AreKept rows.old.tables.scale group undo.old.items (content rows.old.tables group) → spec.ChangesGroup group (spec.all_put_back_in undo.old.items) rows.old rows.new }
     ensures none { undo.new.items ≡ [] }

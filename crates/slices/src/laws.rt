@@ -5,10 +5,10 @@ ghost use Rattle.groups.specs.Groups.{warehouse_of};
 ghost use Rattle.tickets.specs.Places.{IsBetween, IsGroupOf};
 ghost use Rattle.slices.specs.Joining.{OneSliceKeepsAll, CutSlicesAreAtRest};
 ghost use Rattle.slices.specs.Openings.{OpenedGroupsHaveBoxes};
-ghost use Rattle.slices.specs.Sliced.{at_home, is_group};
+ghost use Rattle.slices.specs.SliceView.{at_home, is_group};
 
 /// The tests of whether a group is one of a warehouse, and whether there is such a group, tell that.
-pub fn groups_are_told()
+pub fn groups_are_recorded()
     ensures { (warehouses home : ℕ) (group : Group) → IsBetween 1 warehouses home → IsTrue (at_home home group && is_group group) ↔ (IsGroupOf warehouses group × (warehouse_of group ≡ home)) }
 {}
 

@@ -6,12 +6,12 @@
 //! stands there again once that is taken back. Each call keeps what is committed in the warehouse, and so what
 //! is committed in all of them.
 //!
-//! Nothing here waits. What takes memory says so, and then want of memory changes nothing.
+//! Nothing here waits. What takes memory says so, and then lack of memory changes nothing.
 #![tactic(auto)]
 
 mod changes;
 mod cutting;
-mod ground;
+mod undo_log;
 mod indexed;
 mod kept;
 mod laws;
@@ -22,7 +22,7 @@ mod step;
 
 pub use cutting::{cut, whole};
 pub use laws::{
-    cut_slices_are_at_rest, groups_are_told, one_slice_keeps_all, opened_groups_have_boxes,
+    cut_slices_are_at_rest, groups_are_recorded, one_slice_keeps_all, opened_groups_have_boxes,
 };
 pub use opening::open_groups;
 pub use slice::Slice;

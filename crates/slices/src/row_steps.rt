@@ -10,7 +10,7 @@ ghost use Rattle.slices.specs.Undo.{AreNamesAt, IsOrderFor, with_order_delivered
 ghost use Rattle.slices.specs.HomeRows.{home_of_warehouse, home_of_district, home_of_stock, home_of_customer, home_of_order};
 
 use crate::indexed::IndexedRows;
-use crate::kept::Kept;
+use crate::kept::UndoRecord;
 use crate::step::Step;
 use schema::{
     CarrierId, Customer, CustomerKey, District, DistrictKey, History, Moment, NoMemory, Order,
@@ -35,9 +35,9 @@ impl Step for PutWarehouse {
 
     ghost at_home = { λ step p is can. home_of_warehouse p is step.w_id can };
 
-    fn run(self, rows: &mut IndexedRows) -> Result<Kept, NoMemory> {
+    fn run(self, rows: &mut IndexedRows) -> Result<UndoRecord, NoMemory> {
         let old = rows.replace_warehouse(self.w_id, self.row);
-        Ok(Kept::Warehouse(self.w_id, old))
+        Ok(UndoRecord::Warehouse(self.w_id, old))
     }
 }
 
@@ -59,9 +59,9 @@ impl Step for PutDistrict {
 
     ghost at_home = { λ step p is can. home_of_district p is step.key can };
 
-    fn run(self, rows: &mut IndexedRows) -> Result<Kept, NoMemory> {
+    fn run(self, rows: &mut IndexedRows) -> Result<UndoRecord, NoMemory> {
         let old = rows.replace_district(self.key, self.row);
-        Ok(Kept::District(self.key, old))
+        Ok(UndoRecord::District(self.key, old))
     }
 }
 
@@ -83,9 +83,9 @@ impl Step for PutStock {
 
     ghost at_home = { λ step p is can. home_of_stock p is step.key can };
 
-    fn run(self, rows: &mut IndexedRows) -> Result<Kept, NoMemory> {
+    fn run(self, rows: &mut IndexedRows) -> Result<UndoRecord, NoMemory> {
         let old = rows.replace_stock(self.key, self.row);
-        Ok(Kept::Stock(self.key, old))
+        Ok(UndoRecord::Stock(self.key, old))
     }
 }
 
@@ -107,9 +107,9 @@ impl Step for PutCustomer {
 
     ghost at_home = { λ step p is can. home_of_customer p is step.key can.0 };
 
-    fn run(self, rows: &mut IndexedRows) -> Result<Kept, NoMemory> {
+    fn run(self, rows: &mut IndexedRows) -> Result<UndoRecord, NoMemory> {
         let old = rows.replace_customer(self.key, self.row);
-        Ok(Kept::Customer(self.key, old))
+        Ok(UndoRecord::Customer(self.key, old))
     }
 }
 
@@ -131,9 +131,9 @@ impl Step for AddPayment {
 
     ghost at_home = { λ step p is can. home_of_district p is step.key can.0 };
 
-    fn run(self, rows: &mut IndexedRows) -> Result<Kept, NoMemory> {
+    fn run(self, rows: &mut IndexedRows) -> Result<UndoRecord, NoMemory> {
         rows.push_history(self.key, self.row)?;
-        Ok(Kept::NoPayment(self.key))
+        Ok(UndoRecord::NoPayment(self.key))
     }
 }
 
@@ -156,9 +156,9 @@ impl Step for AddOrder {
 
     ghost at_home = { λ step p is can. can.home };
 
-    fn run(self, rows: &mut IndexedRows) -> Result<Kept, NoMemory> {
+    fn run(self, rows: &mut IndexedRows) -> Result<UndoRecord, NoMemory> {
         let replaced = rows.add_order(self.key, self.order, self.lines)?;
-        Ok(Kept::Order(self.key, replaced))
+        Ok(UndoRecord::Order(self.key, replaced))
     }
 }
 
@@ -181,8 +181,8 @@ impl Step for DeliverOrder {
 
     ghost at_home = { λ step p is can. home_of_order p is step.key can };
 
-    fn run(self, rows: &mut IndexedRows) -> Result<Kept, NoMemory> {
+    fn run(self, rows: &mut IndexedRows) -> Result<UndoRecord, NoMemory> {
         let before = rows.deliver_order(self.key, self.carrier, self.moment)?;
-        Ok(Kept::Delivery(self.key, before))
+        Ok(UndoRecord::Delivery(self.key, before))
     }
 }

@@ -8,7 +8,7 @@ ghost use Rattle.partitions.specs.Parts.{IsPart};
 ghost use Rattle.partitions.specs.Slots.{home_slot};
 ghost use Rattle.requests.specs.declared.group.Group.{Group as AnyGroup};
 ghost use Rattle.requests.specs.declared.group.Group.TheVariants as group;
-ghost use Rattle.groups.specs.declared.wishes.Mode.TheVariants.{Exclusive};
+ghost use Rattle.groups.specs.declared.group_wants.Mode.TheVariants.{Exclusive};
 ghost use Rattle.groups.specs.Content.{content};
 ghost use Rattle.groups.specs.Laws.{ChangesOneGroup, with_warehouse, with_district, with_customer, with_stock};
 ghost use Rattle.indexes.specs.LatestIndex.{FitsLatestBy};
@@ -18,14 +18,14 @@ ghost use Rattle.tickets.specs.Places.{IsGroupOf, place_in_warehouse};
 ghost use Rattle.local_locks.specs.Asking.{StillWaits};
 ghost use Rattle.local_locks.specs.Conflicts.{MustDie};
 ghost use Rattle.local_locks.specs.Laws.{CouldAsk, IsClaimOf, NoneConflict};
-ghost use Rattle.local_locks.specs.Wishes.{CanAsk};
+ghost use Rattle.local_locks.specs.GroupWants.{CanAsk};
 ghost use Rattle.slices.specs.Asked.{claims_asked, claims_of_turn, AnswersIn, GrantsIn, TakesTurnIn};
 ghost use Rattle.slices.specs.Openings.{AreHomeBoxesOf};
-ghost use Rattle.slices.specs.Sliced.{at_rest, part_in, with_waiters, HasLocksOf, IsClaimAt, SliceKeeps};
+ghost use Rattle.slices.specs.SliceView.{at_rest, part_in, with_waiters, HasLocksOf, IsClaimAt, SliceKeeps};
 ghost use Rattle.slices.specs.Undo.{with_order_delivered, with_order_more, with_payment_more, AreNamesAt};
 
 use crate::changes::ContentOf;
-use crate::ground::Ground;
+use crate::undo_log::UndoLog;
 use crate::indexed::IndexedRows;
 use crate::row_steps::{
     AddOrder, AddPayment, DeliverOrder, PutCustomer, PutDistrict, PutStock, PutWarehouse,
@@ -53,23 +53,23 @@ use wait_die::Holder;
 pub struct Slice<J: GroupNames> {
     rows: IndexedRows,
     locks: LockTable<J>,
-    grounds: Vec<Ground>,
+    undo_logs: Vec<UndoLog>,
 }
 
 impl<J: GroupNames> Model for Slice<J> {
     ghost use Rattle.std.specs.Coded.{codes};
     ghost use Rattle.schema.specs.contracts.tables.Tables as tables_kind;
-    ghost use Rattle.slices.specs.Sliced.{Sliced};
+    ghost use Rattle.slices.specs.SliceView.{SliceView};
 
-    ghost Value = { Sliced };
+    ghost Value = { SliceView };
 
     ghost coded = { Prim.hlevel (codes, tables_kind.the_row.coded) };
 
-    ghost use Rattle.slices.specs.Grounds.{sliced, IsSlice};
+    ghost use Rattle.slices.specs.UndoLogs.{slice_view, IsSlice};
 
-    ghost view = { λ s. sliced s.rows s.locks };
+    ghost view = { λ s. slice_view s.rows s.locks };
 
-    ghost invariant = { λ s. IsSlice J.warehouses s.rows s.locks s.grounds.items };
+    ghost invariant = { λ s. IsSlice J.warehouses s.rows s.locks s.undo_logs.items };
 }
 
 impl<J: GroupNames> Slice<J> {
@@ -87,14 +87,14 @@ impl<J: GroupNames> Slice<J> {
         let home = partition.home();
         let rows = IndexedRows::build(alloc, partition)?;
         let locks = LockTable::open(alloc, home, boxes)?;
-        let mut grounds = Vec::with_capacity(alloc, GROUPS_PER_WAREHOUSE)?;
+        let mut undo_logs = Vec::with_capacity(alloc, GROUPS_PER_WAREHOUSE)?;
         for _ in 0..GROUPS_PER_WAREHOUSE {
-            grounds.push(Ground::new(alloc))?;
+            undo_logs.push(UndoLog::new(alloc))?;
         }
         Ok(Slice {
             rows,
             locks,
-            grounds,
+            undo_logs,
         })
     }
 
@@ -357,15 +357,15 @@ impl<J: GroupNames> Slice<J> {
         // The rows that are here are the warehouse's, and so are the groups of its lock table.
         let _ = self.rows.partition();
         self.locks.agree();
-        let ground = &mut self.grounds[place_of_claim(claim)];
-        ground.make_room()?;
+        let undo_log = &mut self.undo_logs[place_of_claim(claim)];
+        undo_log.make_room()?;
         let kept = step.run(&mut self.rows)?;
         let now = ContentOf {
             rows: self.rows.partition(),
             group: claim.group(),
         };
         self.locks.leave(claim, &now);
-        ground.keep(kept);
+        undo_log.keep(kept);
         Ok(())
     }
 
@@ -380,8 +380,8 @@ impl<J: GroupNames> Slice<J> {
         ensures locks { HasLocksOf self.old self.new }
     {
         self.locks.agree();
-        let ground = &mut self.grounds[place_of_claim(claim)];
-        ground.put_back(&mut self.rows);
+        let undo_log = &mut self.undo_logs[place_of_claim(claim)];
+        undo_log.put_back(&mut self.rows);
         self.locks.undo(claim);
     }
 
@@ -389,12 +389,12 @@ impl<J: GroupNames> Slice<J> {
     /// Whoever has a claim may call it: what is committed is kept, whether or not it is out to the one that it tells.
     pub fn take_back(&mut self, claim: Claim<J>)
         requires home { IsClaimAt self.old.home claim }
-        requires committed { claim.mode ≡ Exclusive → claim.told ≡ claim.left }
+        requires committed { claim.mode ≡ Exclusive → claim.recorded ≡ claim.left }
         ensures kept { SliceKeeps (claim ∷ []) self.old [] self.new }
         ensures tables { self.new.tables ≡ self.old.tables }
     {
         self.locks.agree();
-        self.grounds[place_of_claim(&claim)].forget();
+        self.undo_logs[place_of_claim(&claim)].forget();
         self.locks.take_back(claim);
     }
 

@@ -5,7 +5,7 @@ ghost use Rattle.groups.specs.Groups.{warehouse_of};
 ghost use Rattle.slices.specs.Undo.{IsStep};
 
 use crate::indexed::IndexedRows;
-use crate::kept::Kept;
+use crate::kept::UndoRecord;
 use schema::NoMemory;
 
 /// One step of a transaction in a group, under an exclusive claim on it.
@@ -25,7 +25,7 @@ pub(crate) trait Step: Drop {
     ghost is_possible: { Self → Part → Type 0 };
 
     /// Does the step, and gives what takes it back. Want of memory changes nothing.
-    fn run(self, rows: &mut IndexedRows) -> Result<Kept, NoMemory>
+    fn run(self, rows: &mut IndexedRows) -> Result<UndoRecord, NoMemory>
         requires part { IsPart rows.old }
         requires possible { is_possible self rows.old }
         ensures tables { OnOk result (rows.new.tables ≡ done self rows.old.tables) }

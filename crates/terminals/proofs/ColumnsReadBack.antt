@@ -13,7 +13,7 @@ use Rattle.rows.specs.declared.records.Credit.{Credit}
 use Rattle.rows.specs.declared.records.Credit.TheVariants.{Good}
 use Rattle.files.specs.declared.fault.FaultKind.{FaultKind}
 use Rattle.files.specs.Columns.{Cents, Column, Credit as CreditColumn, MaybeMoment, MaybeWhole, Moment, Spelt, Whole, Words, found, take_column, take_columns, take_word}
-use Rattle.files.specs.FieldRead.{Taking, value_or, whole_read}
+use Rattle.files.specs.FieldRead.{FieldsView, value_or, whole_read}
 use Rattle.files.specs.KindsRead.{moment_read, optional_read}
 use Rattle.files.specs.MomentText.{IsMoment, IsMomentText}
 use Rattle.files.specs.Word.{credit_text, text_read}
@@ -32,7 +32,7 @@ use Rattle.terminals.specs.RecordLaws.{IsWord}
 use Rattle.terminals.specs.RequestColumns.{choice, choice_fault, fault_in, number, repeated}
 
 -- no fault is known, and these fields are left
-abbrev pub clean : List (List ℕ) → Taking
+abbrev pub clean : List (List ℕ) → FieldsView
 clean left = record { left = left; fault = None }
 
 -- ---- columns
@@ -59,7 +59,7 @@ append_read {columns} {more} {fields} {others} one two = record {
       ∙ ap (take_columns more) (one.are (others ++ rest)) ∙ two.are rest;
 }
 
-pub word_is_taken : (word : List ℕ) (rest : List (List ℕ)) → IsUtf8 word → ◌≡◌ {A = List ℕ × Taking} (take_word (clean (word ∷ rest))) (word, clean rest)
+pub word_is_taken : (word : List ℕ) (rest : List (List ℕ)) → IsUtf8 word → ◌≡◌ {A = List ℕ × FieldsView} (take_word (clean (word ∷ rest))) (word, clean rest)
 word_is_taken word rest utf8 = ap (λ r. value_or r [] rest None) (word_is word utf8)
 
 pub whole_is_read : (low high n : ℕ) → high < 2 ^ 64 → low ≤ n → n ≤ high → IsRead (Whole low high) (decimal n)
@@ -90,7 +90,7 @@ credit_is_read credit = record { is = λ rest. ap (λ r. (value_or r Good rest N
 pub word_fits : (fault : List ℕ → Option FaultKind) (text : List ℕ) → IsUtf8 text → fault text ≡ None → IsRead (Spelt fault) text
 word_fits fault text utf8 none = record {
   is = λ rest.
-      ap (λ (p : List ℕ × Taking). found (fault p.0) p.1) (word_is_taken text rest utf8)
+      ap (λ (p : List ℕ × FieldsView). found (fault p.0) p.1) (word_is_taken text rest utf8)
       ∙ ap (λ kind. found kind (clean rest)) none;
 }
 

@@ -14,7 +14,7 @@ use Rattle.terminals.specs.RequestFields.{IsRequest}
 use Rattle.terminals.specs.ReplyFields.{IsReply}
 use Rattle.terminals.specs.Schedule.{IsEventRecord, IsScheduleRecord}
 use Rattle.terminals.specs.RecordLaws.{CanBeAsked, CanBeEvent, CanBeLogged, CanBeOrdered, CanBeScheduled, LogsDiffer, MovesDiffer, SchedulesDiffer, ScriptsDiffer}
-use Rattle.terminals.proofs.ListedTexts.{listing-tells, same_parts}
+use Rattle.terminals.proofs.ListedTexts.{listing-reports, same_parts}
 use Rattle.terminals.proofs.RequestTexts.{few_fields, letter, same_request, same_word}
 use Rattle.terminals.proofs.ReplyTexts.{same_reply}
 
@@ -28,11 +28,11 @@ same_entry place a b x y fields s r =
     let even : length s.0 ≡ length r.0 = decimal_injective (length s.0) (length r.0) (few_fields a.request x.2 s.0 s.1) (few_fields b.request y.2 r.0 r.1) three in
     let parts = same_parts s.0 r.0 s.2 r.2 even all in
     let Asks : List (List ℕ) → Type 0 = λ l. IsRequest b.request l in
-    let Tells : List (List ℕ) → Type 0 = λ l. IsReply b.reply l in
+    let Reports : List (List ℕ) → Type 0 = λ l. IsReply b.reply l in
     let session = same_word a.session b.session x.0 y.0 one in
     let number = same_word a.number b.number x.1 y.1 two in
     let request = same_request a.request b.request x.2 y.2 s.0 s.1 (subst Asks (sym parts.0) r.1) in
-    let reply = same_reply a.reply b.reply x.3 y.3 s.2 s.3 (subst Tells (sym parts.1) r.3) in
+    let reply = same_reply a.reply b.reply x.3 y.3 s.2 s.3 (subst Reports (sym parts.1) r.3) in
     λ i. record { session = session i; number = number i; request = request i; reply = reply i }
 
 same_move : (place : ℕ) (a b : MoveOrder) → CanBeOrdered a → CanBeOrdered b → (fields : List (List ℕ)) → IsMoveRecord a fields → IsMoveRecord b fields → a ≡ b
@@ -47,13 +47,13 @@ same_move place a b x y fields s r =
     λ i. record { lo = lo i; hi = hi i; to = to i }
 
 pub moves_differ : MovesDiffer
-moves_differ = listing-tells (λ place. IsMoveRecord) CanBeOrdered same_move
+moves_differ = listing-reports (λ place. IsMoveRecord) CanBeOrdered same_move
 
 pub logs_differ : LogsDiffer
-logs_differ = listing-tells IsLogRecord CanBeLogged same_entry
+logs_differ = listing-reports IsLogRecord CanBeLogged same_entry
 
 pub scripts_differ : ScriptsDiffer
-scripts_differ = listing-tells (λ place. IsRequest) CanBeAsked (λ place. same_request)
+scripts_differ = listing-reports (λ place. IsRequest) CanBeAsked (λ place. same_request)
 
 -- the letter of an item
 abbrev event_letter : Event → ℕ
@@ -114,4 +114,4 @@ same_item place scheduled.Rounds (scheduled.Event b) x y fields s r = absurd (ev
 same_item place scheduled.Rounds scheduled.Rounds x y fields s r = refl
 
 pub schedules_differ : SchedulesDiffer
-schedules_differ = listing-tells (λ place. IsScheduleRecord) CanBeScheduled same_item
+schedules_differ = listing-reports (λ place. IsScheduleRecord) CanBeScheduled same_item

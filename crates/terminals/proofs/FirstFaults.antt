@@ -8,9 +8,9 @@ use Rattle.files.specs.declared.records.Records.{Records}
 use Rattle.files.specs.declared.fault.FaultKind.{FaultKind}
 use Rattle.files.specs.declared.fields.Fields.{Fields}
 use Rattle.files.specs.Columns.{at_end, take_word}
-use Rattle.files.specs.FieldRead.{Taking, taking}
+use Rattle.files.specs.FieldRead.{FieldsView, fields_view}
 use Rattle.files.specs.Taken.{fault_of, fields_left}
-use Rattle.files.specs.FirstFault.{TellsFault, TellsKind, behind_end, fault_at}
+use Rattle.files.specs.FirstFault.{ReportsFault, ReportsKind, behind_end, fault_at}
 use Rattle.files.specs.Place.{FirstIsTooLong, HasLeft, HasLeftAfter, file_fault, record_fields, record_number}
 use Rattle.files.specs.Span.{record_size}
 use Rattle.files.proofs.RecordsLeft.{long_record, next_row, no_row, not_advanced, short_record}
@@ -18,7 +18,7 @@ use Rattle.terminals.specs.FirstFault.{ReachesEnd, after_listed, fields_fault, i
 
 -- ---- one record more
 
-module _ (take : ℕ → List ℕ → Taking → Taking) where
+module _ (take : ℕ → List ℕ → FieldsView → FieldsView) where
   -- an item's record without a fault
   pub item_passes : (count : ℕ) (row : List (List ℕ)) (rest : List (List (List ℕ))) → record_size row ≤ 65536 → fields_fault take count row ≡ None → is_end row ≡ false
       → listing_fault take count (row ∷ rest) ≡ listing_fault take (count + 1) rest
@@ -33,13 +33,13 @@ module _ (take : ℕ → List ℕ → Taking → Taking) where
 
   -- a fault is the first one
   pub fault_found : (count : ℕ) (row : List (List ℕ)) (rest : List (List (List ℕ))) (error : FileError) (number : ℕ) → record_size row ≤ 65536 → number ≡ count + 1
-      → TellsKind error (fields_fault take count row) number → TellsFault error (listing_fault take count (row ∷ rest))
+      → ReportsKind error (fields_fault take count row) number → ReportsFault error (listing_fault take count (row ∷ rest))
   unfolding listing_fault
-  fault_found count row rest NoMemory number short same tells = tt
-  fault_found count row rest (Failed at) number short same tells = absurd tells
-  fault_found count row rest (File f) number short same tells =
-      let is : f ≡ fault_at f.kind (count + 1) = (λ i. record { kind = f.kind; «record» = (tells.1 ∙ same) i }) in
-      rw (short_record row (fields_fault take count row) short ∙ tells.0) (ap (λ (x : FileFault). Some x) (sym is))
+  fault_found count row rest NoMemory number short same reports = tt
+  fault_found count row rest (Failed at) number short same reports = absurd reports
+  fault_found count row rest (File f) number short same reports =
+      let is : f ≡ fault_at f.kind (count + 1) = (λ i. record { kind = f.kind; «record» = (reports.1 ∙ same) i }) in
+      rw (short_record row (fields_fault take count row) short ∙ reports.0) (ap (λ (x : FileFault). Some x) (sym is))
 
   -- a record that is too long
   pub long_found : (count : ℕ) (rows : List (List (List ℕ))) → FirstIsTooLong rows → listing_fault take count rows ≡ Some (fault_at fault.WrongShape (count + 1))
@@ -54,7 +54,7 @@ module _ (take : ℕ → List ℕ → Taking → Taking) where
 -- ---- in the midst of the records
 
 -- so many items were read, and the first fault is that of the records that are left
-pub record GoesOnAt {R : Type 0} (remaining : R → Option (List ℕ)) (take : ℕ → List ℕ → Taking → Taking) (rows : List (List (List ℕ))) (count : ℕ) (r : Records R) (counter : ℕ) : Type 0 where
+pub record GoesOnAt {R : Type 0} (remaining : R → Option (List ℕ)) (take : ℕ → List ℕ → FieldsView → FieldsView) (rows : List (List (List ℕ))) (count : ℕ) (r : Records R) (counter : ℕ) : Type 0 where
   pub left : List (List (List ℕ))
   pub number : record_number r ≡ count
   pub has_left : HasLeft remaining left r
@@ -63,7 +63,7 @@ pub record GoesOnAt {R : Type 0} (remaining : R → Option (List ℕ)) (take : �
   pub counted : length left + counter ≤ length rows
 
 -- at a record that is there
-pub record AtRecord {R : Type 0} (remaining : R → Option (List ℕ)) (take : ℕ → List ℕ → Taking → Taking) (rows : List (List (List ℕ))) (count : ℕ) (new : Records R) (counter : ℕ) : Type 0 where
+pub record AtRecord {R : Type 0} (remaining : R → Option (List ℕ)) (take : ℕ → List ℕ → FieldsView → FieldsView) (rows : List (List (List ℕ))) (count : ℕ) (new : Records R) (counter : ℕ) : Type 0 where
   pub rest : List (List (List ℕ))
   pub number : record_number new ≡ count + 1
   pub has_left : HasLeft remaining rest new
@@ -71,7 +71,7 @@ pub record AtRecord {R : Type 0} (remaining : R → Option (List ℕ)) (take : �
   pub long : count + 1 + length rest ≡ length rows
   pub counted : length rest + 1 + counter ≤ length rows
 
-module _ {R : Type 0} (remaining : R → Option (List ℕ)) (take : ℕ → List ℕ → Taking → Taking) (rows : List (List (List ℕ))) (count : ℕ) (old new : Records R) (counter : ℕ) (few : length rows < 2 ^ 64 - 1)
+module _ {R : Type 0} (remaining : R → Option (List ℕ)) (take : ℕ → List ℕ → FieldsView → FieldsView) (rows : List (List (List ℕ))) (count : ℕ) (old new : Records R) (counter : ℕ) (few : length rows < 2 ^ 64 - 1)
     (number : record_number old < 2 ^ 64 - 1 → record_number new ≡ record_number old + 1) where
   module _ (g : GoesOnAt remaining take rows count old counter) where
     next_number : record_number new ≡ count + 1
@@ -94,17 +94,17 @@ module _ {R : Type 0} (remaining : R → Option (List ℕ)) (take : ℕ → List
 
     -- no further record could be read
     pub fault_advancing : (error : FileError) → (error ≡ NoMemory) ⊎ (error ≡ Failed (record_number new)) ⊎ (error ≡ file_fault fault.WrongShape (record_number new))
-        → (error ≡ file_fault fault.WrongShape (record_number new) → (left : List (List (List ℕ))) → HasLeft remaining left old → FirstIsTooLong left) → TellsFault error (listing_fault take 0 rows)
+        → (error ≡ file_fault fault.WrongShape (record_number new) → (left : List (List (List ℕ))) → HasLeft remaining left old → FirstIsTooLong left) → ReportsFault error (listing_fault take 0 rows)
     fault_advancing error faults long =
         not_advanced error (record_number new) (listing_fault take 0 rows) faults
         (λ e. g.fault ∙ long_found take count g.left (long e g.left g.has_left) ∙ ap (λ n. Some (fault_at fault.WrongShape n)) (sym next_number))
 
     -- there is none
     pub fault_at_last : (error : FileError) (found : Bool) → error ≡ file_fault fault.NoEnd (record_number new) → found ≡ false
-        → ((left : List (List (List ℕ))) → HasLeft remaining left old → HasLeftAfter remaining left found new) → TellsFault error (listing_fault take 0 rows)
+        → ((left : List (List (List ℕ))) → HasLeft remaining left old → HasLeftAfter remaining left found new) → ReportsFault error (listing_fault take 0 rows)
     fault_at_last error found is none next =
         let empty = no_row remaining g.left found new none (next g.left g.has_left) in
-        subst (λ e. TellsFault e (listing_fault take 0 rows)) (sym is)
+        subst (λ e. ReportsFault e (listing_fault take 0 rows)) (sym is)
         (g.fault ∙ ap (listing_fault take count) empty ∙ no_end take count ∙ ap (λ n. Some (fault_at fault.NoEnd n)) (sym next_number))
 
   -- more records after the end record
@@ -115,12 +115,12 @@ module _ {R : Type 0} (remaining : R → Option (List ℕ)) (take : ℕ → List
 
   -- the end record was not the last, or it couldn't be seen whether it is
   pub fault_at_end : (e : ReachesEnd remaining take rows old) (error : FileError) → (error ≡ NoMemory) ⊎ (error ≡ Failed (record_number new)) ⊎ (error ≡ file_fault fault.AfterEnd (record_number new))
-      → (error ≡ file_fault fault.AfterEnd (record_number new) → HasLeft remaining [] old → ⊥) → TellsFault error (listing_fault take 0 rows)
-  fault_at_end e error (inl is) none = subst (λ x. TellsFault x (listing_fault take 0 rows)) (sym is) tt
-  fault_at_end e error (inr (inl is)) none = subst (λ x. TellsFault x (listing_fault take 0 rows)) (sym is) tt
-  fault_at_end e error (inr (inr is)) none = subst (λ x. TellsFault x (listing_fault take 0 rows)) (sym is) (e.fault ∙ more_left e.more e.left (none is) e.number)
+      → (error ≡ file_fault fault.AfterEnd (record_number new) → HasLeft remaining [] old → ⊥) → ReportsFault error (listing_fault take 0 rows)
+  fault_at_end e error (inl is) none = subst (λ x. ReportsFault x (listing_fault take 0 rows)) (sym is) tt
+  fault_at_end e error (inr (inl is)) none = subst (λ x. ReportsFault x (listing_fault take 0 rows)) (sym is) tt
+  fault_at_end e error (inr (inr is)) none = subst (λ x. ReportsFault x (listing_fault take 0 rows)) (sym is) (e.fault ∙ more_left e.more e.left (none is) e.number)
 
-module _ {R : Type 0} (remaining : R → Option (List ℕ)) (take : ℕ → List ℕ → Taking → Taking) (rows : List (List (List ℕ))) (count : ℕ) (new : Records R) (counter : ℕ)
+module _ {R : Type 0} (remaining : R → Option (List ℕ)) (take : ℕ → List ℕ → FieldsView → FieldsView) (rows : List (List (List ℕ))) (count : ℕ) (new : Records R) (counter : ℕ)
     (a : AtRecord remaining take rows count new counter) (short : record_size (record_fields new) ≤ 65536) where
   -- an item more was read
   pub next_at : (fields_fault take count (record_fields new) ≡ None) × (is_end (record_fields new) ≡ false) → GoesOnAt remaining take rows (count + 1) new (counter + 1)
@@ -149,23 +149,23 @@ module _ {R : Type 0} (remaining : R → Option (List ℕ)) (take : ℕ → List
       }
 
   -- the record has a fault
-  pub fault_at_record : (many : ℕ) → many ≡ count → (error : FileError) → TellsKind error (fields_fault take many (record_fields new)) (record_number new) → TellsFault error (listing_fault take 0 rows)
-  fault_at_record many same error tells =
-      let told : TellsKind error (fields_fault take count (record_fields new)) (record_number new) = subst (λ n. TellsKind error (fields_fault take n (record_fields new)) (record_number new)) same tells in
-      subst (TellsFault error) (sym a.fault) (fault_found take count (record_fields new) a.rest error (record_number new) short a.number told)
+  pub fault_at_record : (many : ℕ) → many ≡ count → (error : FileError) → ReportsKind error (fields_fault take many (record_fields new)) (record_number new) → ReportsFault error (listing_fault take 0 rows)
+  fault_at_record many same error reports =
+      let reported : ReportsKind error (fields_fault take count (record_fields new)) (record_number new) = subst (λ n. ReportsKind error (fields_fault take n (record_fields new)) (record_number new)) same reports in
+      subst (ReportsFault error) (sym a.fault) (fault_found take count (record_fields new) a.rest error (record_number new) short a.number reported)
 
 -- ---- a record whose fields were taken
 
-pub fields_were_taken : (take : ℕ → List ℕ → Taking → Taking) (count : ℕ) (row : List (List ℕ)) (start mid last : Fields) (word : List ℕ)
-    → fields_left start ≡ row → fault_of start ≡ None → ◌≡◌ {A = List ℕ × Taking} (word, taking mid) (take_word (taking start)) → taking last ≡ after_listed take count word (taking mid)
+pub fields_were_taken : (take : ℕ → List ℕ → FieldsView → FieldsView) (count : ℕ) (row : List (List ℕ)) (start mid last : Fields) (word : List ℕ)
+    → fields_left start ≡ row → fault_of start ≡ None → ◌≡◌ {A = List ℕ × FieldsView} (word, fields_view mid) (take_word (fields_view start)) → fields_view last ≡ after_listed take count word (fields_view mid)
     → fields_fault take count row ≡ at_end (fields_left last) (fault_of last)
 fields_were_taken take count row start mid last word left none field is =
-    let begun : taking start ≡ record { left = row; fault = None } = λ i. record { left = left i; fault = none i } in
-    let first : ◌≡◌ {A = List ℕ × Taking} (word, taking mid) (take_word (record { left = row; fault = None })) = field ∙ ap take_word begun in
-    let end : List ℕ × Taking → Option FaultKind = λ p. at_end (after_listed take count p.0 p.1).left (after_listed take count p.0 p.1).fault in
-    ap end (sym first) ∙ ap (λ (t : Taking). at_end t.left t.fault) (sym is)
+    let begun : fields_view start ≡ record { left = row; fault = None } = λ i. record { left = left i; fault = none i } in
+    let first : ◌≡◌ {A = List ℕ × FieldsView} (word, fields_view mid) (take_word (record { left = row; fault = None })) = field ∙ ap take_word begun in
+    let end : List ℕ × FieldsView → Option FaultKind = λ p. at_end (after_listed take count p.0 p.1).left (after_listed take count p.0 p.1).fault in
+    ap end (sym first) ∙ ap (λ (t : FieldsView). at_end t.left t.fault) (sym is)
 
 -- nothing is left behind the end record
-pub none_behind : {R : Type 0} (remaining : R → Option (List ℕ)) (take : ℕ → List ℕ → Taking → Taking) (rows : List (List (List ℕ))) (r : Records R) (e : ReachesEnd remaining take rows r)
+pub none_behind : {R : Type 0} (remaining : R → Option (List ℕ)) (take : ℕ → List ℕ → FieldsView → FieldsView) (rows : List (List (List ℕ))) (r : Records R) (e : ReachesEnd remaining take rows r)
     → ((more : List (List (List ℕ))) → HasLeft remaining more r → more ≡ []) → listing_fault take 0 rows ≡ None
 none_behind remaining take rows r e none = e.fault ∙ ap (behind_end (record_number r)) (none e.more e.left)

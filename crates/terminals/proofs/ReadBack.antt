@@ -7,7 +7,7 @@ use Rattle.std.proofs.lemmas.Bool.Decides.{nat_tests}
 use Rattle.files.specs.declared.fault.FaultKind.{FaultKind}
 use Rattle.files.specs.declared.fault.FaultKind.TheVariants.{OutOfOrder, WrongShape}
 use Rattle.files.specs.Columns.{Count, at_end, found, take_column, take_columns, take_word}
-use Rattle.files.specs.FieldRead.{Taking, value_or, whole_read}
+use Rattle.files.specs.FieldRead.{FieldsView, value_or, whole_read}
 use Rattle.files.specs.Number.{is_number}
 use Rattle.files.specs.Place.{IsKept}
 use Rattle.files.proofs.Ascii.{utf8_number}
@@ -42,30 +42,30 @@ use Rattle.terminals.proofs.RequestsReadBack.{IsReadRequest, alone_is_read, requ
 -- ---- records
 
 -- what comes of a record whose first word is taken
-abbrev told : (ℕ → List ℕ → Taking → Taking) → ℕ → List ℕ × Taking → Option FaultKind
-told take place p = at_end (after_listed take place p.0 p.1).left (after_listed take place p.0 p.1).fault
+abbrev reported : (ℕ → List ℕ → FieldsView → FieldsView) → ℕ → List ℕ × FieldsView → Option FaultKind
+reported take place p = at_end (after_listed take place p.0 p.1).left (after_listed take place p.0 p.1).fault
 
 -- a record whose fields behind the first one are read without a fault
-record_is_read : (take : ℕ → List ℕ → Taking → Taking) (place : ℕ) (word : List ℕ) (said fields : List (List ℕ)) → fields ≡ word ∷ said → IsUtf8 word → bytes_eq word (codes "END") ≡ false
+record_is_read : (take : ℕ → List ℕ → FieldsView → FieldsView) (place : ℕ) (word : List ℕ) (said fields : List (List ℕ)) → fields ≡ word ∷ said → IsUtf8 word → bytes_eq word (codes "END") ≡ false
     → take place word (clean said) ≡ clean [] → (fields_fault take place fields ≡ None) × (is_end fields ≡ false)
 record_is_read take place word said fields are utf8 apart done =
-    let t : Taking = clean said in
-    let either : Bool → Taking = λ b. cond b (take_column (Count place) t) (take place word t) in
+    let t : FieldsView = clean said in
+    let either : Bool → FieldsView = λ b. cond b (take_column (Count place) t) (take place word t) in
     let none : fields_fault take place (word ∷ said) ≡ None =
-    ap (told take place) (word_is_taken word said utf8) ∙ ap (λ b. at_end (either b).left (either b).fault) apart ∙ ap (λ (u : Taking). at_end u.left u.fault) done in
-    let no_end : is_end (word ∷ said) ≡ false = ap (λ (p : List ℕ × Taking). bytes_eq p.0 (codes "END")) (word_is_taken word said utf8) ∙ apart in
+    ap (reported take place) (word_is_taken word said utf8) ∙ ap (λ b. at_end (either b).left (either b).fault) apart ∙ ap (λ (u : FieldsView). at_end u.left u.fault) done in
+    let no_end : is_end (word ∷ said) ≡ false = ap (λ (p : List ℕ × FieldsView). bytes_eq p.0 (codes "END")) (word_is_taken word said utf8) ∙ apart in
     subst (λ l. (fields_fault take place l ≡ None) × (is_end l ≡ false)) (sym are) (none, no_end)
 
-end_is_read : (take : ℕ → List ℕ → Taking → Taking) (count : ℕ) → count < 2 ^ 64 → (fields_fault take count (end_fields count) ≡ None) × (is_end (end_fields count) ≡ true)
+end_is_read : (take : ℕ → List ℕ → FieldsView → FieldsView) (count : ℕ) → count < 2 ^ 64 → (fields_fault take count (end_fields count) ≡ None) × (is_end (end_fields count) ≡ true)
 end_is_read take count small =
     let word = word_is_taken (codes "END") (decimal count ∷ []) (utf8_words (codes "END") refl) in (
-      ap (told take count) word ∙ ap (λ r. at_end (value_or r count [] None).1.left (value_or r count [] None).1.fault) (count_complete count small),
-      ap (λ (p : List ℕ × Taking). bytes_eq p.0 (codes "END")) word,
+      ap (reported take count) word ∙ ap (λ r. at_end (value_or r count [] None).1.left (value_or r count [] None).1.fault) (count_complete count small),
+      ap (λ (p : List ℕ × FieldsView). bytes_eq p.0 (codes "END")) word,
     )
 
 -- ---- what is listed
 
-module _ {T : Type 0} (take : ℕ → List ℕ → Taking → Taking) (IsRecord : ℕ → T → List (List ℕ) → Type 0) (Can : T → Type 0)
+module _ {T : Type 0} (take : ℕ → List ℕ → FieldsView → FieldsView) (IsRecord : ℕ → T → List (List ℕ) → Type 0) (Can : T → Type 0)
     (each : (place : ℕ) → IsWord place → (item : T) → Can item → (fields : List (List ℕ)) → IsRecord place item fields → (fields_fault take place fields ≡ None) × (is_end fields ≡ false)) where
   numbered_are_read : (items : List T) (listed : List (List (List ℕ))) (first total : ℕ) → total ≡ first + length items → IsWord total → AllByRecursion Can items → AreNumbered IsRecord first items listed
       → AllByRecursion IsKept (listed ++ (end_fields total ∷ [])) → listing_fault take first (listed ++ (end_fields total ∷ [])) ≡ None
@@ -108,7 +108,7 @@ no_end_word n small = other (decimal n) (codes "END") (λ e. let clash : true �
 move_is_read : (order : MoveOrder) → CanBeOrdered order → after_move (decimal order.lo) (clean (decimal order.hi ∷ decimal order.to ∷ [])) ≡ clean []
 move_is_read order can =
     let lo = can.0 in
-    let rest : Taking = clean (decimal order.hi ∷ decimal order.to ∷ []) in
+    let rest : FieldsView = clean (decimal order.hi ∷ decimal order.to ∷ []) in
     ap (λ r. take_columns (number ∷ number ∷ []) (found (fault_in r) rest)) (whole_complete 0 4294967295 order.lo (omega (arith, lo)) (omega arith) (omega (arith, lo)))
     ∙ (and_read (number_read order.hi can.1) (and_read (number_read order.to can.2) none_read)).are []
 
@@ -127,10 +127,10 @@ submit_is_read : (session number_of : ℕ) (asked : List (List ℕ)) → IsWord 
 submit_is_read session number_of asked one two request =
     let start : take_columns (number ∷ number ∷ []) (clean (decimal session ∷ decimal number_of ∷ asked)) ≡ clean (request.letter ∷ request.said) =
     (and_read (number_read session one) (and_read (number_read number_of two) none_read)).are asked ∙ ap clean request.are in
-    let after : Taking → Taking = λ u. after_request (length u.left) (take_word u).0 (take_word u).1 in
+    let after : FieldsView → FieldsView = λ u. after_request (length u.left) (take_word u).0 (take_word u).1 in
     let many : suc (length request.said) ≡ length request.said + 1 = omega arith in
     ap after start
-    ∙ ap (λ (p : List ℕ × Taking). after_request (suc (length request.said)) p.0 p.1) (word_is_taken request.letter request.said request.utf8)
+    ∙ ap (λ (p : List ℕ × FieldsView). after_request (suc (length request.said)) p.0 p.1) (word_is_taken request.letter request.said request.utf8)
     ∙ ap (λ n. after_request n request.letter (clean request.said)) many ∙ alone_is_read request
 
 item_is_read : (place : ℕ) → IsWord place → (item : Scheduled) → CanBeReadItem item → (fields : List (List ℕ)) → IsScheduleRecord item fields → (fields_fault (λ place. after_scheduled) place fields ≡ None) × (is_end fields ≡ false)
@@ -141,7 +141,7 @@ item_is_read place small (scheduled.Event (Order order)) can fields is =
     let lo = can.0 in
     let rest : List (List ℕ) = decimal order.hi ∷ decimal order.to ∷ [] in
     record_is_read (λ place. after_scheduled) place (codes "M") (order_fields order) fields is (utf8_words (codes "M") refl) refl
-    (ap (λ (p : List ℕ × Taking). after_move p.0 p.1) (word_is_taken (decimal order.lo) rest (utf8_number order.lo (omega (arith, lo)))) ∙ move_is_read order can)
+    (ap (λ (p : List ℕ × FieldsView). after_move p.0 p.1) (word_is_taken (decimal order.lo) rest (utf8_number order.lo (omega (arith, lo)))) ∙ move_is_read order can)
 item_is_read place small (scheduled.Event (Take executor)) can fields is =
     record_is_read (λ place. after_scheduled) place (codes "T") (decimal executor ∷ []) fields is (utf8_words (codes "T") refl) refl ((number_read executor can).is [])
 item_is_read place small (scheduled.Event (Send executor)) can fields is =
@@ -163,16 +163,16 @@ logged_is_read asked replied few request reply =
     let columns = request.columns in
     let wide = request.long in
     let enough : (length columns + 1 == length request.said + 1) ≡ true = grind (arith, nat_tests, wide) in
-    let behind : Taking = clean replied in
-    let of_request : List ℕ × Taking → Taking = λ p. after_logged (request_columns (length request.said + 1) p.0 (length p.1.left)) (length request.said + 1) p.1 in
-    let of_reply : Taking → Taking = λ u. after_reply (take_word u).0 (take_word u).1 in
+    let behind : FieldsView = clean replied in
+    let of_request : List ℕ × FieldsView → FieldsView = λ p. after_logged (request_columns (length request.said + 1) p.0 (length p.1.left)) (length request.said + 1) p.1 in
+    let of_reply : FieldsView → FieldsView = λ u. after_reply (take_word u).0 (take_word u).1 in
     (λ i. after_counted (Ok (count i)) (clean (parts i)))
     ∙ ap of_request (word_is_taken request.letter rest request.utf8)
     ∙ ap (λ known. after_logged known (length request.said + 1) (clean rest)) (request.known replied)
     ∙ ap (λ b. of_reply (found (cond b None (Some WrongShape)) (take_columns columns (clean rest)))) enough
     ∙ ap of_reply (request.read.are replied)
     ∙ ap (λ l. of_reply (clean l)) reply.are
-    ∙ ap (λ (p : List ℕ × Taking). after_reply p.0 p.1) (word_is_taken reply.letter reply.said reply.utf8) ∙ reply.read
+    ∙ ap (λ (p : List ℕ × FieldsView). after_reply p.0 p.1) (word_is_taken reply.letter reply.said reply.utf8) ∙ reply.read
 
 entry_is_read : (place : ℕ) → IsWord place → (entry : Entry) → CanBeReadEntry entry → (fields : List (List ℕ)) → IsLogRecord place entry fields → (fields_fault after_entry place fields ≡ None) × (is_end fields ≡ false)
 entry_is_read place small entry can fields is =
@@ -185,12 +185,12 @@ entry_is_read place small entry can fields is =
     let said : List (List ℕ) = decimal entry.session ∷ decimal entry.number ∷ after in
     let here : (place == place) ≡ true = grind (arith, nat_tests) in
     let place_read = whole_complete 0 4294967295 place (omega (arith, small)) (omega arith) (omega (arith, small)) in
-    let of_place : Taking → Taking = λ u. after_counted (whole_read 0 18446744073709551615 (take_word u).0) (take_word u).1 in
+    let of_place : FieldsView → FieldsView = λ u. after_counted (whole_read 0 18446744073709551615 (take_word u).0) (take_word u).1 in
     record_is_read after_entry place (decimal place) said fields is.4 (utf8_number place (omega (arith, small))) (no_end_word place small)
     (ap (λ r. of_place (take_columns (number ∷ number ∷ []) (found (other_place place r) (clean said)))) place_read
     ∙ ap (λ b. of_place (take_columns (number ∷ number ∷ []) (found (cond b None (Some OutOfOrder)) (clean said)))) here
     ∙ ap of_place ((and_read (number_read entry.session can.0) (and_read (number_read entry.number can.1) none_read)).are after)
-    ∙ ap (λ (p : List ℕ × Taking). after_counted (whole_read 0 18446744073709551615 p.0) p.1) (word_is_taken (decimal (length asked)) (asked ++ replied) (utf8_number (length asked) few))
+    ∙ ap (λ (p : List ℕ × FieldsView). after_counted (whole_read 0 18446744073709551615 p.0) p.1) (word_is_taken (decimal (length asked)) (asked ++ replied) (utf8_number (length asked) few))
     ∙ ap (λ r. after_counted r (clean (asked ++ replied))) (whole_complete 0 18446744073709551615 (length asked) few (omega arith) (omega (arith, few)))
     ∙ logged_is_read asked replied few request reply)
 

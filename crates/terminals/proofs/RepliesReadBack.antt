@@ -6,7 +6,7 @@ use Rattle.std.proofs.lemmas.List.{append-nil, length-append}
 use Rattle.rows.specs.declared.stock_rules.BrandGeneric.{BrandGeneric}
 use Rattle.rows.specs.declared.stock_rules.BrandGeneric.TheVariants.{Brand, Generic}
 use Rattle.files.specs.Columns.{Cents, Column, Credit, MaybeWhole, Moment, Spelt, Whole, Words, take_columns}
-use Rattle.files.specs.FieldRead.{Taking}
+use Rattle.files.specs.FieldRead.{FieldsView}
 use Rattle.files.specs.Word.{credit_text}
 use Rattle.rows.proofs.Ascii.{utf8_words}
 use Rattle.files.proofs.Numerals.{some_digits}
@@ -186,12 +186,12 @@ shown_is_read (shown.StockLevel s) fits fields is =
 
 -- why, behind its letter
 why_is_read : (f : Fault) → FitsFault f → after_why (clean (fault_fields f)) ≡ clean []
-why_is_read NoCustomer fits = ap (λ (p : List ℕ × Taking). after_known (fault_columns p.0) p.1) (word_is_taken (codes "nocustomer") [] (utf8_words (codes "nocustomer") refl))
+why_is_read NoCustomer fits = ap (λ (p : List ℕ × FieldsView). after_known (fault_columns p.0) p.1) (word_is_taken (codes "nocustomer") [] (utf8_words (codes "nocustomer") refl))
 why_is_read (NoItem last credit o_id) fits =
     let rest : List (List ℕ) = last ∷ credit_text credit ∷ decimal o_id ∷ [] in
-    ap (λ (p : List ℕ × Taking). after_known (fault_columns p.0) p.1) (word_is_taken (codes "noitem") rest (utf8_words (codes "noitem") refl))
+    ap (λ (p : List ℕ × FieldsView). after_known (fault_columns p.0) p.1) (word_is_taken (codes "noitem") rest (utf8_words (codes "noitem") refl))
     ∙ (and_read (text_is_read 16 last fits.0) (and_read (credit_is_read credit) (and_read (whole_is_read 1 10000000 o_id (omega arith) fits.1.0 fits.1.1) none_read))).are []
-why_is_read Range fits = ap (λ (p : List ℕ × Taking). after_known (fault_columns p.0) p.1) (word_is_taken (codes "range") [] (utf8_words (codes "range") refl))
+why_is_read Range fits = ap (λ (p : List ℕ × FieldsView). after_known (fault_columns p.0) p.1) (word_is_taken (codes "range") [] (utf8_words (codes "range") refl))
 
 pub reply_is_read : (r : Reply) → FitsReply r → (fields : List (List ℕ)) → IsReply r fields → IsReadReply fields
 reply_is_read (Done s) fits fields is = shown_is_read s fits fields is

@@ -5,8 +5,8 @@ use Rattle.files.specs.declared.fault.FaultKind.{FaultKind}
 use Rattle.files.specs.declared.fault.FaultKind.TheVariants.{WrongShape, OutOfRange, OutOfOrder, NoEnd}
 use Rattle.files.specs.declared.fault.FileFault.{FileFault}
 use Rattle.files.specs.Columns.{Column, Count, Spelt, at_end, found, take_column, take_columns, take_word}
-use Rattle.files.specs.FieldRead.{Taking, whole_read}
-use Rattle.files.specs.FirstFault.{TellsKind, behind_end, fault_at, fault_or, unless_long}
+use Rattle.files.specs.FieldRead.{FieldsView, whole_read}
+use Rattle.files.specs.FirstFault.{ReportsKind, behind_end, fault_at, fault_or, unless_long}
 use Rattle.files.specs.Place.{HasLeft, record_number}
 use Rattle.files.specs.declared.fault.FileError.{FileError}
 use Rattle.files.specs.declared.records.Records.{Records}
@@ -17,20 +17,20 @@ use Rattle.terminals.specs.RequestColumns.{fault_in, number, repeated, request_c
 -- ---- what is known of a record once the fields behind its first one are taken
 
 -- of a move: `lo` is taken, and `hi` and `to` follow
-abbrev pub after_move : List ℕ → Taking → Taking
+abbrev pub after_move : List ℕ → FieldsView → FieldsView
 after_move lo t = take_columns (number ∷ number ∷ []) (found (fault_in (whole_read 0 4294967295 lo)) t)
 
 -- of a script: the first one is a request's letter
-abbrev pub after_asked : List ℕ → Taking → Taking
+abbrev pub after_asked : List ℕ → FieldsView → FieldsView
 after_asked letter t = after_request (length t.left + 1) letter t
 
 -- of a schedule: a session, a number and a request; a move; an executor that takes or sends; or rounds
-abbrev pub after_submit : Taking → Taking
+abbrev pub after_submit : FieldsView → FieldsView
 after_submit t =
-    let u : Taking = take_columns (number ∷ number ∷ []) t in
+    let u : FieldsView = take_columns (number ∷ number ∷ []) t in
     after_request (length u.left) (take_word u).0 (take_word u).1
 
-abbrev pub after_scheduled : List ℕ → Taking → Taking
+abbrev pub after_scheduled : List ℕ → FieldsView → FieldsView
 after_scheduled letter t =
     if bytes_eq letter (codes "S") then after_submit t
     else (if bytes_eq letter (codes "M") then after_move (take_word t).0 (take_word t).1
@@ -49,32 +49,32 @@ count_fault OutOfRange = WrongShape
 count_fault kind = kind
 
 -- all words that are left are passed over
-abbrev pub pass_over : Taking → Taking
+abbrev pub pass_over : FieldsView → FieldsView
 pass_over t = take_columns (repeated (length t.left) (Spelt (λ word. None) ∷ [])) t
 
 -- a request of these columns and a letter, which are to be so many fields, and the reply to it
-abbrev pub after_logged : Option (List Column) → ℕ → Taking → Taking
+abbrev pub after_logged : Option (List Column) → ℕ → FieldsView → FieldsView
 after_logged None count t = found (Some WrongShape) t
 after_logged (Some columns) count t =
-    let u : Taking = found (if length columns + 1 == count then None else Some WrongShape) (take_columns columns t) in
+    let u : FieldsView = found (if length columns + 1 == count then None else Some WrongShape) (take_columns columns t) in
     after_reply (take_word u).0 (take_word u).1
 
 -- a request of so many fields, and the reply to it; without a count it isn't known which fields are whose
-abbrev pub after_counted : Result ℕ FaultKind → Taking → Taking
+abbrev pub after_counted : Result ℕ FaultKind → FieldsView → FieldsView
 after_counted (Ok count) t =
     after_logged (request_columns count (take_word t).0 (length (take_word t).1.left)) count (take_word t).1
 after_counted (Err kind) t = pass_over (found (Some (count_fault kind)) t)
 
 -- of a log: its place is taken, and a session, a number, and how many fields the request has follow
-abbrev pub after_entry : ℕ → List ℕ → Taking → Taking
+abbrev pub after_entry : ℕ → List ℕ → FieldsView → FieldsView
 after_entry place first t =
-    let u : Taking = take_columns (number ∷ number ∷ []) (found (other_place place (whole_read 0 4294967295 first)) t) in
+    let u : FieldsView = take_columns (number ∷ number ∷ []) (found (other_place place (whole_read 0 4294967295 first)) t) in
     after_counted (whole_read 0 18446744073709551615 (take_word u).0) (take_word u).1
 
 -- ---- the first fault
 
 -- what is known of a record whose first word is taken: of the end record, which counts those before it, or of another one
-abbrev pub after_listed : (ℕ → List ℕ → Taking → Taking) → ℕ → List ℕ → Taking → Taking
+abbrev pub after_listed : (ℕ → List ℕ → FieldsView → FieldsView) → ℕ → List ℕ → FieldsView → FieldsView
 after_listed take count first t = if bytes_eq first (codes "END") then take_column (Count count) t else take count first t
 
 -- whether a record is the end record
@@ -82,18 +82,18 @@ abbrev pub is_end : List (List ℕ) → Bool
 is_end fields = bytes_eq (take_word (record { left = fields; fault = None })).0 (codes "END")
 
 -- the least fault of a record behind so many, whatever its length, and in all
-abbrev pub fields_fault : (ℕ → List ℕ → Taking → Taking) → ℕ → List (List ℕ) → Option FaultKind
+abbrev pub fields_fault : (ℕ → List ℕ → FieldsView → FieldsView) → ℕ → List (List ℕ) → Option FaultKind
 fields_fault take count fields =
-    let first : List ℕ × Taking = take_word (record { left = fields; fault = None }) in
-    let t : Taking = after_listed take count first.0 first.1 in
+    let first : List ℕ × FieldsView = take_word (record { left = fields; fault = None }) in
+    let t : FieldsView = after_listed take count first.0 first.1 in
     at_end t.left t.fault
 
-abbrev pub record_fault : (ℕ → List ℕ → Taking → Taking) → ℕ → List (List ℕ) → Option FaultKind
+abbrev pub record_fault : (ℕ → List ℕ → FieldsView → FieldsView) → ℕ → List (List ℕ) → Option FaultKind
 record_fault take count fields = unless_long fields (fields_fault take count fields)
 
 -- The first fault of the records that come behind so many, each of which is taken so, up to the end record. There may be none
 -- behind that.
-unfoldable pub listing_fault : (ℕ → List ℕ → Taking → Taking) → ℕ → List (List (List ℕ)) → Option FileFault
+unfoldable pub listing_fault : (ℕ → List ℕ → FieldsView → FieldsView) → ℕ → List (List (List ℕ)) → Option FileFault
 listing_fault take count [] = Some (fault_at NoEnd (count + 1))
 listing_fault take count (row ∷ rows) =
     fault_or (record_fault take count row) (count + 1)
@@ -114,13 +114,13 @@ log_fault rows = listing_fault after_entry 0 rows
 -- ---- what was read of a record
 
 -- a count was taken; or its fault is noted
-abbrev pub IsCounted : Option ℕ → Taking → Taking → Type 0
+abbrev pub IsCounted : Option ℕ → FieldsView → FieldsView → Type 0
 IsCounted (Some count) old new = (whole_read 0 18446744073709551615 (take_word old).0 ≡ Ok count) × (new ≡ (take_word old).1)
 IsCounted None old new =
     (kind : FaultKind) × (whole_read 0 18446744073709551615 (take_word old).0 ≡ Err kind) × (new ≡ found (Some (count_fault kind)) (take_word old).1)
 
 -- a request that is to have so many fields was taken, with its letter; or that is unknown, which is noted
-abbrev pub IsAsked : Option Request → ℕ → Taking → Taking → Type 0
+abbrev pub IsAsked : Option Request → ℕ → FieldsView → FieldsView → Type 0
 IsAsked None count old new =
     (request_columns count (take_word old).0 (length (take_word old).1.left) ≡ None) × (new ≡ found (Some WrongShape) (take_word old).1)
 IsAsked (Some request) count old new =
@@ -128,13 +128,13 @@ IsAsked (Some request) count old new =
     × (new ≡ found (if length columns + 1 == count then None else Some WrongShape) (take_columns columns (take_word old).1))
 
 -- a record behind so many was read, as that of an item or as the end record; or an error tells its fault
-abbrev pub IsReadAs : {T : Type 0} → (ℕ → List ℕ → Taking → Taking) → ℕ → List (List ℕ) → ℕ → Result (Option T) FileError → Type 0
+abbrev pub IsReadAs : {T : Type 0} → (ℕ → List ℕ → FieldsView → FieldsView) → ℕ → List (List ℕ) → ℕ → Result (Option T) FileError → Type 0
 IsReadAs take count fields at (Ok (Some item)) = (fields_fault take count fields ≡ None) × (is_end fields ≡ false)
 IsReadAs take count fields at (Ok None) = (fields_fault take count fields ≡ None) × (is_end fields ≡ true)
-IsReadAs take count fields at (Err error) = TellsKind error (fields_fault take count fields) at
+IsReadAs take count fields at (Err error) = ReportsKind error (fields_fault take count fields) at
 
 -- of all these records the end record was read, and more may be left
-pub record ReachesEnd {R : Type 0} (remaining : R → Option (List ℕ)) (take : ℕ → List ℕ → Taking → Taking) (rows : List (List (List ℕ))) (r : Records R) : Type 0 where
+pub record ReachesEnd {R : Type 0} (remaining : R → Option (List ℕ)) (take : ℕ → List ℕ → FieldsView → FieldsView) (rows : List (List (List ℕ))) (r : Records R) : Type 0 where
   pub more : List (List (List ℕ))
   pub fault : listing_fault take 0 rows ≡ behind_end (record_number r) more
   pub left : HasLeft remaining more r

@@ -32,14 +32,14 @@ IsOutput log Limit fields = fields ≡ codes "limit" ∷ []
 
 -- the records of what is told, one after the other
 abbrev pub AreOutputs : List Entry → List Output → List (List (List ℕ)) → Type 0
-AreOutputs log told rows = AllZip (IsOutput log) told rows
+AreOutputs log reported rows = AllZip (IsOutput log) reported rows
 
 -- where it names a place of the log, it is one of these
-abbrev pub IsToldBelow : ℕ → Output → Type 0
-IsToldBelow n (Event answer) = IsLoggedBelow n answer
-IsToldBelow n Quiet = Unit {0}
-IsToldBelow n Limit = Unit {0}
+abbrev pub IsReportedBelow : ℕ → Output → Type 0
+IsReportedBelow n (Event answer) = IsLoggedBelow n answer
+IsReportedBelow n Quiet = Unit {0}
+IsReportedBelow n Limit = Unit {0}
 
 -- wherever a place of the log is named, an entry stands there
 abbrev pub NameEntries : List Entry → List Output → Type 0
-NameEntries log told = All (IsToldBelow (length log)) told
+NameEntries log reported = All (IsReportedBelow (length log)) reported

@@ -4,7 +4,7 @@ use Rattle.std.specs.Str.{bytes_eq}
 use Rattle.files.specs.declared.fault.FaultKind.{FaultKind}
 use Rattle.files.specs.declared.fault.FaultKind.TheVariants.{NotOfKind, OutOfRange}
 use Rattle.files.specs.Columns.{Cents, Column, Credit, MaybeMoment, MaybeWhole, Moment, Spelt, Whole, Words, take_word}
-use Rattle.files.specs.FieldRead.{Taking}
+use Rattle.files.specs.FieldRead.{FieldsView}
 use Rattle.terminals.specs.RequestColumns.{number, repeated, after_known}
 
 -- a rate in ten-thousandths
@@ -81,10 +81,10 @@ fault_columns word =
     else (if bytes_eq word (codes "range") then Some [] else None))
 
 -- what is known of a record once why nothing changed is taken
-abbrev pub after_why : Taking → Taking
+abbrev pub after_why : FieldsView → FieldsView
 after_why t = after_known (fault_columns (take_word t).0) (take_word t).1
 
 -- the same of a reply behind its letter
-abbrev pub after_reply : List ℕ → Taking → Taking
+abbrev pub after_reply : List ℕ → FieldsView → FieldsView
 after_reply letter t =
     if bytes_eq letter (codes "X") then after_why t else after_known (shown_columns_of letter t.left) t

@@ -4,7 +4,7 @@ use Rattle.std.specs.Str.{bytes_eq}
 use Rattle.files.specs.declared.fault.FaultKind.{FaultKind}
 use Rattle.files.specs.declared.fault.FaultKind.TheVariants.{WrongShape}
 use Rattle.files.specs.Columns.{Column, Moment, Spelt, Whole, found, take_columns}
-use Rattle.files.specs.FieldRead.{Taking, whole_read}
+use Rattle.files.specs.FieldRead.{FieldsView, whole_read}
 use Rattle.files.specs.Word.{text_read}
 use Rattle.requests.specs.declared.request.Request.{Request}
 use Rattle.requests.specs.declared.request.Request.TheVariants.{NewOrder, Payment, OrderStatus, Delivery, StockLevel}
@@ -67,12 +67,12 @@ request_columns count letter left =
     else (if bytes_eq letter (codes "L") then Some stock_level_columns else None))))
 
 -- what is known of a record once these columns are taken; an unknown letter has none, and a wrong shape
-abbrev pub after_known : Option (List Column) → Taking → Taking
+abbrev pub after_known : Option (List Column) → FieldsView → FieldsView
 after_known (Some columns) t = take_columns columns t
 after_known None t = found (Some WrongShape) t
 
 -- the same of a request's behind its letter
-abbrev pub after_request : ℕ → List ℕ → Taking → Taking
+abbrev pub after_request : ℕ → List ℕ → FieldsView → FieldsView
 after_request count letter t = after_known (request_columns count letter (length t.left)) t
 
 -- how many fields a request has, with its letter

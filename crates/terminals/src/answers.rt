@@ -32,7 +32,7 @@ pub fn answer_record(
 /// the place of the entry in the log, whose reply is written, and `Err` why the request was refused.
 ///
 /// `NoMemory` comes where there is none for a record, and `Failed` where the sink fails, with the number of
-/// the record under way, 0 where there is none; since records are gathered before they are sent, what was not
+/// the record in flight, 0 where there is none; since records are gathered before they are sent, what was not
 /// taken may be an earlier one. After an error the sink has got a beginning of their text.
 pub fn write_answers<W: Write>(
     alloc: Global,

@@ -1,6 +1,6 @@
 ghost use Rattle.std.specs.Prelude.{◌≡◌, ◌++◌, ◌∷◌, [], drop, false, OnOk, IfOk};
 ghost use Rattle.files.specs.Columns.{take_column};
-ghost use Rattle.files.specs.FieldRead.{taking};
+ghost use Rattle.files.specs.FieldRead.{fields_view};
 ghost use Rattle.files.specs.Taken.{fields_left, TakesWell};
 ghost use Rattle.files.specs.Word.{text_read};
 ghost use Rattle.requests.specs.LastName.{begins_with_hash};
@@ -19,7 +19,7 @@ use schema::NoMemory;
 pub fn take(fields: &mut Fields) -> Choice
     ensures left { fields_left fields.new ≡ drop 1 (fields_left fields.old) }
     ensures taken { TakesWell fields.old fields.new (choice_text result) }
-    ensures column { taking fields.new ≡ take_column choice (taking fields.old) }
+    ensures column { fields_view fields.new ≡ take_column choice (fields_view fields.old) }
 {
     match parse(fields.word()) {
         Ok(choice) => choice,

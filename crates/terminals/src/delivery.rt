@@ -1,7 +1,7 @@
 //! The fields of a Delivery, and of its reply.
 ghost use Rattle.std.specs.Prelude.{◌≡◌, ℕ, List, [], ◌∷◌, ◌++◌, map, OnOk, codes};
 ghost use Rattle.files.specs.Columns.{MaybeWhole, take_column, take_columns};
-ghost use Rattle.files.specs.FieldRead.{taking};
+ghost use Rattle.files.specs.FieldRead.{fields_view};
 ghost use Rattle.files.specs.Taken.{TakesWell, Takes};
 ghost use Rattle.terminals.specs.ReplyColumns.{delivery_shown};
 ghost use Rattle.terminals.specs.RequestColumns.{delivery_columns, repeated};
@@ -18,7 +18,7 @@ pub const FIELDS: u64 = 4;
 /// Takes the fields of a Delivery that come after its letter.
 pub fn take(fields: &mut Fields) -> Delivery
     ensures taken { Takes fields.old fields.new (λ said. IsDelivery result (codes "D" ∷ said)) }
-    ensures columns { taking fields.new ≡ take_columns delivery_columns (taking fields.old) }
+    ensures columns { fields_view fields.new ≡ take_columns delivery_columns (fields_view fields.old) }
 {
     Delivery {
         w_id: fields.whole(0, u32::MAX),
@@ -40,7 +40,7 @@ pub fn put(row: &mut NewRecord, asked: &Delivery) -> Result<(), NoMemory>
 /// Takes the fields of a reply of Delivery that come after its letter.
 pub fn take_reply(fields: &mut Fields) -> DeliveryReply
     ensures taken { Takes fields.old fields.new (λ said. codes "D" ∷ said ≡ delivery_reply_fields result) }
-    ensures columns { taking fields.new ≡ take_columns delivery_shown (taking fields.old) }
+    ensures columns { fields_view fields.new ≡ take_columns delivery_shown (fields_view fields.old) }
 {
     DeliveryReply {
         carrier_id: fields.whole(1, 10),
@@ -51,7 +51,7 @@ pub fn take_reply(fields: &mut Fields) -> DeliveryReply
 // Takes the orders of the ten districts.
 fn take_orders(fields: &mut Fields) -> [Option<u32>; 10]
     ensures taken { Takes fields.old fields.new (λ said. said ≡ map nullable_text result) }
-    ensures columns { taking fields.new ≡ take_columns (repeated 10 (MaybeWhole 1 9999999 ∷ [])) (taking fields.old) }
+    ensures columns { fields_view fields.new ≡ take_columns (repeated 10 (MaybeWhole 1 9999999 ∷ [])) (fields_view fields.old) }
 {
     let mut orders = [None; 10];
     for district in 0..10 {
@@ -63,7 +63,7 @@ fn take_orders(fields: &mut Fields) -> [Option<u32>; 10]
 // Takes the number of an order, 1 to 9,999,999; `None` for the empty field.
 fn take_order(fields: &mut Fields) -> Option<u32>
     ensures taken { TakesWell fields.old fields.new (nullable_text result) }
-    ensures column { taking fields.new ≡ take_column (MaybeWhole 1 9999999) (taking fields.old) }
+    ensures column { fields_view fields.new ≡ take_column (MaybeWhole 1 9999999) (fields_view fields.old) }
 {
     let number: Option<Ranged<1, 9_999_999>> = fields.optional_ranged();
     Some(number?.get())

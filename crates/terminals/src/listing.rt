@@ -1,6 +1,6 @@
 ghost use Rattle.std.specs.Prelude.{◌≡◌, ◌≢◌, ◌<◌, ◌-◌, ◌^◌, ℕ, List, [], ◌∷◌, ◌++◌, length, Some, None, IfOk, IfErr, IfSome, IfNone, OnErr, OnOk, MatchResult};
-ghost use Rattle.files.specs.FieldRead.{Taking, taking};
-ghost use Rattle.files.specs.FirstFault.{TellsFault};
+ghost use Rattle.files.specs.FieldRead.{FieldsView, fields_view};
+ghost use Rattle.files.specs.FirstFault.{ReportsFault};
 ghost use Rattle.files.specs.Failure.{IsOfText, IsOfWriting};
 ghost use Rattle.files.specs.Place.{input, HasLeft, HasRead, IsCsv, record_fields, record_number};
 ghost use Rattle.files.specs.Taken.{fault_of, Takes};
@@ -19,7 +19,7 @@ pub trait Listed: Drop {
     ghost is_record: { ℕ → Self → List (List ℕ) → Type 0 };
 
     // What is known of the record at that place once its fields are taken, of which the first one is that word.
-    ghost after: { ℕ → List ℕ → Taking → Taking };
+    ghost after: { ℕ → List ℕ → FieldsView → FieldsView };
 
     /// Takes the fields of the record at that place, from 0, that come after the first one. `None` where
     /// it can't be told what they are, which is noted as a fault.
@@ -31,7 +31,7 @@ pub trait Listed: Drop {
     ) -> Result<Option<Self>, NoMemory>
         ensures taken { IfOk result (λ taken. IfSome taken (λ item. Takes fields.old fields.new (λ said. is_record place item (first.now ∷ said)))) }
         ensures unknown { IfOk result (λ taken. IfNone taken (fault_of fields.new ≢ None)) }
-        ensures columns { OnOk result (taking fields.new ≡ after place first.now (taking fields.old)) };
+        ensures columns { OnOk result (fields_view fields.new ≡ after place first.now (fields_view fields.old)) };
 }
 
 /// The items that `source` lists, each in its record, before the end record.
@@ -42,7 +42,7 @@ pub trait Listed: Drop {
 pub fn read<T: Listed, R: Input + Drop>(alloc: Global, source: R) -> Result<Vec<T>, FileError>
     ensures listed { IfOk result (λ listed. (text : List ℕ) → R.remaining source ≡ Some text → (rows : List (List (List ℕ))) × IsCsv text rows × IsListing T.is_record listed.items rows) }
     ensures first { (text : List ℕ) (rows : List (List (List ℕ))) → R.remaining source ≡ Some text → IsCsv text rows → length rows < 2 ^ 64 - 1
-        → MatchResult result (λ _. listing_fault T.after 0 rows ≡ None) (λ error. TellsFault error (listing_fault T.after 0 rows)) }
+        → MatchResult result (λ _. listing_fault T.after 0 rows ≡ None) (λ error. ReportsFault error (listing_fault T.after 0 rows)) }
     ensures lasts { R.lasts source → IfErr result IsOfText }
 {
     let mut records = Records::new(alloc, source);
@@ -51,7 +51,7 @@ pub fn read<T: Listed, R: Input + Drop>(alloc: Global, source: R) -> Result<Vec<
     Ok(items)
 }
 
-// The items up to the end record, which is then under way.
+// The items up to the end record, which is then in flight.
 fn read_items<T: Listed, R: Input + Drop>(
     alloc: Global,
     records: &mut Records<R>,
@@ -59,7 +59,7 @@ fn read_items<T: Listed, R: Input + Drop>(
     ensures listed { IfOk result (λ listed. (text : List ℕ) → HasRead R.remaining text [] records.old
         → (rows : List (List (List ℕ))) × HasRead R.remaining text rows records.new × IsListing T.is_record listed.items rows) }
     ensures first { (rows : List (List (List ℕ))) → length rows < 2 ^ 64 - 1 → record_number records.old ≡ 0 → HasLeft R.remaining rows records.old
-        → MatchResult result (λ _. ReachesEnd R.remaining T.after rows records.new) (λ error. TellsFault error (listing_fault T.after 0 rows)) }
+        → MatchResult result (λ _. ReachesEnd R.remaining T.after rows records.new) (λ error. ReportsFault error (listing_fault T.after 0 rows)) }
     ensures lasts { R.lasts (input records.old) → MatchResult result (λ _. R.lasts (input records.new)) IsOfText }
 {
     let mut items = Vec::new(alloc);
@@ -79,7 +79,7 @@ fn read_items<T: Listed, R: Input + Drop>(
     Err(records.fault(FaultKind::NoEnd))
 }
 
-// The item of the record under way; `None` for the end record, after `count` items.
+// The item of the record in flight; `None` for the end record, after `count` items.
 fn parse<T: Listed, R: Input + Drop>(
     alloc: Global,
     records: &Records<R>,
@@ -105,7 +105,7 @@ fn parse<T: Listed, R: Input + Drop>(
 }
 
 /// What is written as a record, in a file whose records are ended by their count.
-pub trait Told {
+pub trait WrittenRecord {
     // The record of the item at that place, from 0, has these fields.
     ghost is_record: { ℕ → Self → List (List ℕ) → Type 0 };
 
@@ -116,7 +116,7 @@ pub trait Told {
 
 /// Writes the record of each item, and then the end record, to the sink. An error is as `RecordWriter` says it;
 /// after one the sink has got a beginning of their text.
-pub fn write<T: Told, W: Write>(alloc: Global, sink: &mut W, items: &[T]) -> Result<(), FileError>
+pub fn write<T: WrittenRecord, W: Write>(alloc: Global, sink: &mut W, items: &[T]) -> Result<(), FileError>
     ensures written { OnOk result (Writes (W.contents sink.old) (W.contents sink.new) (IsListing T.is_record items.now)) }
     ensures begun { OnErr result (BeginsToWrite (W.contents sink.old) (W.contents sink.new) (BeginsListing T.is_record items.now)) }
     ensures failed { IfErr result IsOfWriting }

@@ -2,9 +2,9 @@ ghost use Rattle.std.specs.Prelude.{◌≡◌, ◌≢◌, ◌<◌, ◌-◌, ◌^
 ghost use Rattle.std.specs.Fmt.{decimal};
 ghost use Rattle.csv.specs.Records.{fields_of};
 ghost use Rattle.files.specs.Columns.{found};
-ghost use Rattle.files.specs.FieldRead.{taking, whole_read};
+ghost use Rattle.files.specs.FieldRead.{fields_view, whole_read};
 ghost use Rattle.files.specs.Failure.{IsOfText, IsOfWriting};
-ghost use Rattle.files.specs.FirstFault.{TellsFault};
+ghost use Rattle.files.specs.FirstFault.{ReportsFault};
 ghost use Rattle.files.specs.Place.{IsCsv};
 ghost use Rattle.files.specs.Taken.{fields_left, fault_of, TakesWell, Takes};
 ghost use Rattle.files.specs.Sending.{BeginsToWrite, Writes};
@@ -12,7 +12,7 @@ ghost use Rattle.terminals.specs.FirstFault.{after_entry, log_fault, other_place
 ghost use Rattle.terminals.specs.LogRecord.{BeginsLog, IsLog, IsLogRecord};
 ghost use Rattle.terminals.specs.RequestFields.{IsRequest};
 
-use crate::listing::{Listed, Told};
+use crate::listing::{Listed, WrittenRecord};
 use crate::{listing, reply, request};
 use commit_log::Entry;
 use csv::ByteRecord;
@@ -30,13 +30,13 @@ use std::io::Write;
 /// scale is not looked at, nor whether a reply is of its request's kind.
 ///
 /// `NoMemory` comes where there is none for a record or for the entries; `Failed` comes where a read of
-/// `source` fails, with the number of the record under way, and never where none does. Of the text neither
+/// `source` fails, with the number of the record in flight, and never where none does. Of the text neither
 /// says anything, and nothing else is given then either. After an error it is not said how far `source` was
 /// read. Memory is taken entry by entry.
 pub fn read_log<R: Input + Drop>(alloc: Global, source: R) -> Result<Vec<Entry>, FileError>
     ensures log { IfOk result (λ entries. (text : List ℕ) → R.remaining source ≡ Some text → (rows : List (List (List ℕ))) × IsCsv text rows × IsLog entries.items rows) }
     ensures first { (text : List ℕ) (rows : List (List (List ℕ))) → R.remaining source ≡ Some text → IsCsv text rows → length rows < 2 ^ 64 - 1
-        → MatchResult result (λ _. log_fault rows ≡ None) (λ error. TellsFault error (log_fault rows)) }
+        → MatchResult result (λ _. log_fault rows ≡ None) (λ error. ReportsFault error (log_fault rows)) }
     ensures lasts { R.lasts source → IfErr result IsOfText }
 {
     listing::read(alloc, source)
@@ -80,7 +80,7 @@ impl Listed for Entry {
 fn expect_place(place: u64, field: &str, fields: &mut Fields)
     ensures place { fault_of fields.new ≡ None → (fault_of fields.old ≡ None) × (field.now ≡ decimal place) }
     ensures left { fields_left fields.new ≡ fields_left fields.old }
-    ensures fault { taking fields.new ≡ found (other_place place (whole_read 0 4294967295 field.now)) (taking fields.old) }
+    ensures fault { fields_view fields.new ≡ found (other_place place (whole_read 0 4294967295 field.now)) (fields_view fields.old) }
 {
     match parse_whole(field, 0, u64::from(u32::MAX)) {
         Ok(number) => {
@@ -97,7 +97,7 @@ fn expect_place(place: u64, field: &str, fields: &mut Fields)
 fn take_count(fields: &mut Fields) -> Option<u64>
     ensures taken { IfSome result (λ count. TakesWell fields.old fields.new (decimal count)) }
     ensures unknown { IfNone result (fault_of fields.new ≢ None) }
-    ensures counted { IsCounted result (taking fields.old) (taking fields.new) }
+    ensures counted { IsCounted result (fields_view fields.old) (fields_view fields.new) }
 {
     match parse_whole(fields.word(), 0, u64::MAX) {
         Ok(count) => Some(count),
@@ -115,7 +115,7 @@ fn take_count(fields: &mut Fields) -> Option<u64>
 // Passes over the fields after the count, where it isn't known which of them are the request's.
 fn pass_over_rest(fields: &mut Fields)
     ensures stays { fault_of fields.old ≢ None → fault_of fields.new ≢ None }
-    ensures columns { taking fields.new ≡ pass_over (taking fields.old) }
+    ensures columns { fields_view fields.new ≡ pass_over (fields_view fields.old) }
 {
     for _ in 0..fields.left() {
         fields.word();
@@ -127,7 +127,7 @@ fn pass_over_rest(fields: &mut Fields)
 fn take_request(alloc: Global, count: u64, fields: &mut Fields) -> Result<Option<Request>, NoMemory>
     ensures taken { IfOk result (λ taken. IfSome taken (λ request. Takes fields.old fields.new (λ asked. IsRequest request asked × (length asked ≡ count)))) }
     ensures unknown { IfOk result (λ taken. IfNone taken (fault_of fields.new ≢ None)) }
-    ensures asked { IfOk result (λ taken. IsAsked taken count (taking fields.old) (taking fields.new)) }
+    ensures asked { IfOk result (λ taken. IsAsked taken count (fields_view fields.old) (fields_view fields.new)) }
 {
     let letter = fields.word();
     let Some(request) = request::take(alloc, count, letter, fields)? else {
@@ -151,7 +151,7 @@ pub fn log_record(alloc: Global, place: u32, entry: &Entry) -> Result<ByteRecord
 /// Writes a log to the sink: the record of each entry, whose place is its index, and then the end record.
 ///
 /// `NoMemory` comes where there is none for a record, and `Failed` where the sink fails, with the number of
-/// the record under way; since records are gathered before they are sent, what was not taken may be an
+/// the record in flight; since records are gathered before they are sent, what was not taken may be an
 /// earlier one. After an error the sink has got a beginning of their text.
 pub fn write_log<W: Write>(alloc: Global, sink: &mut W, entries: &[Entry]) -> Result<(), FileError>
     ensures written { OnOk result (Writes (W.contents sink.old) (W.contents sink.new) (IsLog entries.now)) }
@@ -161,7 +161,7 @@ pub fn write_log<W: Write>(alloc: Global, sink: &mut W, entries: &[Entry]) -> Re
     listing::write(alloc, sink, entries)
 }
 
-impl Told for Entry {
+impl WrittenRecord for Entry {
     ghost is_record = { IsLogRecord };
 
     fn put(&self, place: u64, row: &mut NewRecord) -> Result<(), NoMemory> {

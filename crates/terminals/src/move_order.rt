@@ -2,7 +2,7 @@
 ghost use Rattle.std.specs.Prelude.{◌≡◌, ◌∷◌, None};
 ghost use Rattle.std.specs.Fmt.{decimal};
 ghost use Rattle.files.specs.Columns.{found};
-ghost use Rattle.files.specs.FieldRead.{taking, whole_read};
+ghost use Rattle.files.specs.FieldRead.{fields_view, whole_read};
 ghost use Rattle.files.specs.Taken.{fields_left, fault_of, Takes};
 ghost use Rattle.terminals.specs.FirstFault.{after_move};
 ghost use Rattle.terminals.specs.MoveOrders.{order_fields};
@@ -15,7 +15,7 @@ use range_moves::MoveOrder;
 /// to 4,294,967,295; whether there are such warehouses and such an executor is not looked at.
 pub fn take_order(lo: &str, fields: &mut Fields) -> MoveOrder
     ensures taken { Takes fields.old fields.new (λ said. lo.now ∷ said ≡ order_fields result) }
-    ensures columns { taking fields.new ≡ after_move lo.now (taking fields.old) }
+    ensures columns { fields_view fields.new ≡ after_move lo.now (fields_view fields.old) }
 {
     MoveOrder {
         lo: read_number(lo, fields),
@@ -28,7 +28,7 @@ pub fn take_order(lo: &str, fields: &mut Fields) -> MoveOrder
 fn read_number(field: &str, fields: &mut Fields) -> u32
     ensures read { fault_of fields.new ≡ None → (fault_of fields.old ≡ None) × (field.now ≡ decimal result) }
     ensures left { fields_left fields.new ≡ fields_left fields.old }
-    ensures fault { taking fields.new ≡ found (fault_in (whole_read 0 4294967295 field.now)) (taking fields.old) }
+    ensures fault { fields_view fields.new ≡ found (fault_in (whole_read 0 4294967295 field.now)) (fields_view fields.old) }
 {
     match parse_whole(field, 0, u64::from(u32::MAX)) {
         Ok(number) => number as u32,

@@ -1,6 +1,6 @@
 ghost use Rattle.std.specs.Prelude.{◌≡◌, ◌<◌, ◌-◌, ◌^◌, ℕ, List, length, Some, None, IfOk, IfErr, MatchResult};
 ghost use Rattle.files.specs.Failure.{IsOfText};
-ghost use Rattle.files.specs.FirstFault.{TellsFault};
+ghost use Rattle.files.specs.FirstFault.{ReportsFault};
 ghost use Rattle.files.specs.Place.{IsCsv};
 ghost use Rattle.terminals.specs.FirstFault.{after_move, moves_fault};
 ghost use Rattle.terminals.specs.Moves.{AreMoves, IsMoveRecord};
@@ -20,13 +20,13 @@ use std::alloc::Global;
 /// before it begins, is not looked at.
 ///
 /// `NoMemory` comes where there is none for a record or for the moves; `Failed` comes where a read of
-/// `source` fails, with the number of the record under way, and never where none does. Of the text neither
+/// `source` fails, with the number of the record in flight, and never where none does. Of the text neither
 /// says anything, and nothing else is given then either. After an error it is not said how far `source` was
 /// read. Memory is taken record by record.
 pub fn read_moves<R: Input + Drop>(alloc: Global, source: R) -> Result<Vec<MoveOrder>, FileError>
     ensures moves { IfOk result (λ moves. (text : List ℕ) → R.remaining source ≡ Some text → (rows : List (List (List ℕ))) × IsCsv text rows × AreMoves moves.items rows) }
     ensures first { (text : List ℕ) (rows : List (List (List ℕ))) → R.remaining source ≡ Some text → IsCsv text rows → length rows < 2 ^ 64 - 1
-        → MatchResult result (λ _. moves_fault rows ≡ None) (λ error. TellsFault error (moves_fault rows)) }
+        → MatchResult result (λ _. moves_fault rows ≡ None) (λ error. ReportsFault error (moves_fault rows)) }
     ensures lasts { R.lasts source → IfErr result IsOfText }
 {
     listing::read(alloc, source)

@@ -1,7 +1,7 @@
 //! The fields of a New-Order, and of its reply.
 ghost use Rattle.std.specs.Prelude.{◌≡◌, ◌-◌, ◌/◌, ◌+◌, ◌*◌, min, ℕ, List, ◌∷◌, ◌++◌, length, OnOk, IfOk, codes, flat_map};
 ghost use Rattle.files.specs.Columns.{Spelt, take_column, take_columns};
-ghost use Rattle.files.specs.FieldRead.{taking};
+ghost use Rattle.files.specs.FieldRead.{fields_view};
 ghost use Rattle.files.specs.Taken.{fields_left, TakesWell, Takes};
 ghost use Rattle.terminals.specs.ReplyColumns.{brand_fault, new_order_shown, shown_columns, shown_in};
 ghost use Rattle.terminals.specs.RequestColumns.{line_columns, lines_in, new_order_columns, repeated};
@@ -28,7 +28,7 @@ const SHOWN_FIELDS: u64 = 8;
 /// them that make no line, or come after 64 lines, are left.
 pub fn take(alloc: Global, count: u64, fields: &mut Fields) -> Result<NewOrder, NoMemory>
     ensures taken { IfOk result (λ order. Takes fields.old fields.new (λ said. IsNewOrder order (codes "N" ∷ said))) }
-    ensures columns { OnOk result (taking fields.new ≡ take_columns (new_order_columns count (length (fields_left fields.old))) (taking fields.old)) }
+    ensures columns { OnOk result (fields_view fields.new ≡ take_columns (new_order_columns count (length (fields_left fields.old))) (fields_view fields.old)) }
     ensures lines { IfOk result (λ order. length order.lines ≡ lines_in count (length (fields_left fields.old) - 4)) }
 {
     Ok(NewOrder {
@@ -46,7 +46,7 @@ fn take_lines(
     fields: &mut Fields,
 ) -> Result<Lines<OrderedLine>, NoMemory>
     ensures taken { IfOk result (λ lines. Takes fields.old fields.new (λ said. said ≡ flat_map ordered_line_fields lines)) }
-    ensures columns { IfOk result (λ lines. taking fields.new ≡ take_columns (repeated (length lines) line_columns) (taking fields.old)) }
+    ensures columns { IfOk result (λ lines. fields_view fields.new ≡ take_columns (repeated (length lines) line_columns) (fields_view fields.old)) }
     ensures many { IfOk result (λ lines. length lines ≡ min (min count (length (fields_left fields.old) / 3)) 64) }
 {
     let mut lines = Vec::new(alloc);
@@ -60,7 +60,7 @@ fn take_lines(
 
 fn take_line(fields: &mut Fields) -> OrderedLine
     ensures taken { Takes fields.old fields.new (λ said. said ≡ ordered_line_fields result) }
-    ensures columns { taking fields.new ≡ take_columns line_columns (taking fields.old) }
+    ensures columns { fields_view fields.new ≡ take_columns line_columns (fields_view fields.old) }
 {
     OrderedLine {
         i_id: fields.whole(0, u32::MAX),
@@ -108,7 +108,7 @@ fn put_line(row: &mut NewRecord, line: &OrderedLine) -> Result<(), NoMemory>
 /// Takes the fields of a reply of New-Order that come after its letter, to the end of the record.
 pub fn take_reply(alloc: Global, fields: &mut Fields) -> Result<NewOrderReply, NoMemory>
     ensures taken { IfOk result (λ shown. Takes fields.old fields.new (λ said. IsNewOrderReply shown (codes "N" ∷ said))) }
-    ensures columns { OnOk result (taking fields.new ≡ take_columns (new_order_shown (length (fields_left fields.old))) (taking fields.old)) }
+    ensures columns { OnOk result (fields_view fields.new ≡ take_columns (new_order_shown (length (fields_left fields.old))) (fields_view fields.old)) }
 {
     Ok(NewOrderReply {
         last: fields.text(),
@@ -125,7 +125,7 @@ pub fn take_reply(alloc: Global, fields: &mut Fields) -> Result<NewOrderReply, N
 
 fn take_shown_lines(alloc: Global, fields: &mut Fields) -> Result<Lines<NewOrderLine>, NoMemory>
     ensures taken { IfOk result (λ lines. Takes fields.old fields.new (λ said. said ≡ flat_map new_order_line_fields lines)) }
-    ensures columns { OnOk result (taking fields.new ≡ take_columns (repeated (shown_in (length (fields_left fields.old))) shown_columns) (taking fields.old)) }
+    ensures columns { OnOk result (fields_view fields.new ≡ take_columns (repeated (shown_in (length (fields_left fields.old))) shown_columns) (fields_view fields.old)) }
 {
     let mut lines = Vec::new(alloc);
     for _ in 0..(fields.left() as u64 / SHOWN_FIELDS).min(MOST_LINES) {
@@ -137,7 +137,7 @@ fn take_shown_lines(alloc: Global, fields: &mut Fields) -> Result<Lines<NewOrder
 
 fn take_shown_line(fields: &mut Fields) -> NewOrderLine
     ensures taken { Takes fields.old fields.new (λ said. said ≡ new_order_line_fields result) }
-    ensures columns { taking fields.new ≡ take_columns shown_columns (taking fields.old) }
+    ensures columns { fields_view fields.new ≡ take_columns shown_columns (fields_view fields.old) }
 {
     NewOrderLine {
         supply_w_id: fields.whole(0, u32::MAX),
@@ -154,7 +154,7 @@ fn take_shown_line(fields: &mut Fields) -> NewOrderLine
 // Takes `B` or `G`; another word is noted as `OutOfRange`.
 fn take_brand(fields: &mut Fields) -> BrandGeneric
     ensures taken { TakesWell fields.old fields.new (brand_text result) }
-    ensures column { taking fields.new ≡ take_column (Spelt brand_fault) (taking fields.old) }
+    ensures column { fields_view fields.new ≡ take_column (Spelt brand_fault) (fields_view fields.old) }
 {
     match fields.word() {
         "B" => BrandGeneric::Brand,

@@ -1,7 +1,7 @@
 //! The fields of an Order-Status, and of its reply.
 ghost use Rattle.std.specs.Prelude.{◌≡◌, ℕ, List, [], ◌∷◌, ◌++◌, None, OnOk, IfOk, codes};
 ghost use Rattle.files.specs.Columns.{take_column, take_columns};
-ghost use Rattle.files.specs.FieldRead.{taking};
+ghost use Rattle.files.specs.FieldRead.{fields_view};
 ghost use Rattle.files.specs.Taken.{fields_left, TakesWell, Takes};
 ghost use Rattle.terminals.specs.ReplyColumns.{null, order_status_shown, status_columns, status_order};
 ghost use Rattle.terminals.specs.RequestColumns.{order_status_columns};
@@ -24,7 +24,7 @@ const LINE_FIELDS: usize = 5;
 /// Takes the fields of an Order-Status that come after its letter.
 pub fn take(fields: &mut Fields) -> OrderStatus
     ensures taken { Takes fields.old fields.new (λ said. IsOrderStatus result (codes "O" ∷ said)) }
-    ensures columns { taking fields.new ≡ take_columns order_status_columns (taking fields.old) }
+    ensures columns { fields_view fields.new ≡ take_columns order_status_columns (fields_view fields.old) }
 {
     OrderStatus {
         home: take_district(fields),
@@ -44,7 +44,7 @@ pub fn put(row: &mut NewRecord, asked: &OrderStatus) -> Result<(), NoMemory>
 /// Takes the fields of a reply of Order-Status that come after its letter, to the end of the record.
 pub fn take_reply(alloc: Global, fields: &mut Fields) -> Result<OrderStatusReply, NoMemory>
     ensures taken { IfOk result (λ shown. Takes fields.old fields.new (λ said. IsOrderStatusReply shown (codes "O" ∷ said))) }
-    ensures columns { OnOk result (taking fields.new ≡ take_columns (order_status_shown (fields_left fields.old)) (taking fields.old)) }
+    ensures columns { OnOk result (fields_view fields.new ≡ take_columns (order_status_shown (fields_left fields.old)) (fields_view fields.old)) }
 {
     Ok(OrderStatusReply {
         c_id: fields.whole(0, u32::MAX),
@@ -60,7 +60,7 @@ pub fn take_reply(alloc: Global, fields: &mut Fields) -> Result<OrderStatusReply
 // order, and O_ID is empty.
 fn take_order(alloc: Global, fields: &mut Fields) -> Result<Option<StatusOrder>, NoMemory>
     ensures taken { IfOk result (λ order. Takes fields.old fields.new (IsStatusOrder order)) }
-    ensures columns { OnOk result (taking fields.new ≡ take_columns (status_order (fields_left fields.old)) (taking fields.old)) }
+    ensures columns { OnOk result (fields_view fields.new ≡ take_columns (status_order (fields_left fields.old)) (fields_view fields.old)) }
 {
     if fields.next_is_empty() {
         take_no_order(fields);
@@ -85,7 +85,7 @@ fn take_order(alloc: Global, fields: &mut Fields) -> Result<Option<StatusOrder>,
 // Takes the three empty fields that stand for no order.
 fn take_no_order(fields: &mut Fields)
     ensures taken { Takes fields.old fields.new (IsStatusOrder None) }
-    ensures columns { taking fields.new ≡ take_columns (null ∷ null ∷ null ∷ []) (taking fields.old) }
+    ensures columns { fields_view fields.new ≡ take_columns (null ∷ null ∷ null ∷ []) (fields_view fields.old) }
 {
     take_null(fields);
     take_null(fields);
@@ -95,7 +95,7 @@ fn take_no_order(fields: &mut Fields)
 // Takes an empty field; another one is noted as `NotOfKind`.
 fn take_null(fields: &mut Fields)
     ensures taken { TakesWell fields.old fields.new [] }
-    ensures column { taking fields.new ≡ take_column null (taking fields.old) }
+    ensures column { fields_view fields.new ≡ take_column null (fields_view fields.old) }
 {
     if !fields.word().is_empty() {
         fields.note(FaultKind::NotOfKind);
@@ -104,7 +104,7 @@ fn take_null(fields: &mut Fields)
 
 fn take_line(fields: &mut Fields) -> StatusLine
     ensures taken { Takes fields.old fields.new (IsStatusLine result) }
-    ensures columns { taking fields.new ≡ take_columns status_columns (taking fields.old) }
+    ensures columns { fields_view fields.new ≡ take_columns status_columns (fields_view fields.old) }
 {
     StatusLine {
         i_id: fields.whole(0, u32::MAX),

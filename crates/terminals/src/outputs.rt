@@ -2,7 +2,7 @@ ghost use Rattle.std.specs.Prelude.{◌≡◌, ℕ, List, ◌++◌, length, IfEr
 ghost use Rattle.files.specs.Failure.{IsOfWriting};
 ghost use Rattle.files.specs.Sending.{BeginsToWrite, OfFirst, Writes};
 ghost use Rattle.history.specs.Fits.{IsLoggedBelow};
-ghost use Rattle.terminals.specs.Outputs.{IsEventAnswer, IsOutput, IsToldBelow, AreOutputs, NameEntries};
+ghost use Rattle.terminals.specs.Outputs.{IsEventAnswer, IsOutput, IsReportedBelow, AreOutputs, NameEntries};
 
 use crate::answers;
 use commit_log::Entry;
@@ -16,22 +16,22 @@ use std::io::Write;
 /// places answer.
 ///
 /// `NoMemory` comes where there is none for a record, and `Failed` where the sink fails, with the number of
-/// the record under way, 0 where there is none; since records are gathered before they are sent, what was not
+/// the record in flight, 0 where there is none; since records are gathered before they are sent, what was not
 /// taken may be an earlier one. After an error the sink has got a beginning of their text.
 pub fn write_outputs<W: Write>(
     alloc: Global,
     sink: &mut W,
-    told: &[Output],
+    reported: &[Output],
     log: &[Entry],
 ) -> Result<(), FileError>
-    requires { NameEntries log.now told.now }
-    ensures written { OnOk result (Writes (W.contents sink.old) (W.contents sink.new) (AreOutputs log.now told.now)) }
-    ensures begun { OnErr result (BeginsToWrite (W.contents sink.old) (W.contents sink.new) (OfFirst (AreOutputs log.now) told.now)) }
+    requires { NameEntries log.now reported.now }
+    ensures written { OnOk result (Writes (W.contents sink.old) (W.contents sink.new) (AreOutputs log.now reported.now)) }
+    ensures begun { OnErr result (BeginsToWrite (W.contents sink.old) (W.contents sink.new) (OfFirst (AreOutputs log.now) reported.now)) }
     ensures failed { IfErr result IsOfWriting }
 {
     let mut writer = RecordWriter::new(alloc);
     let mut row = NewRecord::new(alloc);
-    for one in told {
+    for one in reported {
         row.clear();
         put_output(&mut row, one, log)?;
         writer.write(sink, &row)?;
@@ -40,11 +40,11 @@ pub fn write_outputs<W: Write>(
 }
 
 // Adds the fields of an output.
-fn put_output(row: &mut NewRecord, told: &Output, log: &[Entry]) -> Result<(), NoMemory>
-    requires { IsToldBelow (length log.now) told.now }
-    ensures { OnOk result ((fields : List (List ℕ)) × IsOutput log.now told.now fields × (row.new ≡ row.old ++ fields)) }
+fn put_output(row: &mut NewRecord, reported: &Output, log: &[Entry]) -> Result<(), NoMemory>
+    requires { IsReportedBelow (length log.now) reported.now }
+    ensures { OnOk result ((fields : List (List ℕ)) × IsOutput log.now reported.now fields × (row.new ≡ row.old ++ fields)) }
 {
-    match told {
+    match reported {
         Output::Event(answer) => put_event_answer(row, answer, log),
         Output::Quiet => row.push("quiet"),
         Output::Limit => row.push("limit"),

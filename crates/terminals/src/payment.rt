@@ -1,7 +1,7 @@
 //! The fields of a payment, and of its reply.
 ghost use Rattle.std.specs.Prelude.{◌≡◌, ℕ, List, ◌∷◌, ◌++◌, IfOk, OnOk, codes};
 ghost use Rattle.files.specs.Columns.{take_columns};
-ghost use Rattle.files.specs.FieldRead.{taking};
+ghost use Rattle.files.specs.FieldRead.{fields_view};
 ghost use Rattle.files.specs.Taken.{Takes};
 ghost use Rattle.terminals.specs.Payment.{IsPayment, payment_reply_fields};
 ghost use Rattle.terminals.specs.ReplyColumns.{payment_shown};
@@ -20,7 +20,7 @@ pub const FIELDS: u64 = 8;
 /// Takes the fields of a payment that come after its letter.
 pub fn take(fields: &mut Fields) -> Payment
     ensures taken { Takes fields.old fields.new (λ said. IsPayment result (codes "P" ∷ said)) }
-    ensures columns { taking fields.new ≡ take_columns payment_columns (taking fields.old) }
+    ensures columns { fields_view fields.new ≡ take_columns payment_columns (fields_view fields.old) }
 {
     Payment {
         home: take_district(fields),
@@ -46,7 +46,7 @@ pub fn put(row: &mut NewRecord, payment: &Payment) -> Result<(), NoMemory>
 /// Takes the fields of a payment's reply that come after its letter.
 pub fn take_reply(alloc: Global, fields: &mut Fields) -> Result<PaymentReply, NoMemory>
     ensures taken { IfOk result (λ shown. Takes fields.old fields.new (λ said. codes "P" ∷ said ≡ payment_reply_fields shown)) }
-    ensures columns { OnOk result (taking fields.new ≡ take_columns payment_shown (taking fields.old)) }
+    ensures columns { OnOk result (fields_view fields.new ≡ take_columns payment_shown (fields_view fields.old)) }
 {
     Ok(PaymentReply {
         c_id: fields.whole(0, u32::MAX),

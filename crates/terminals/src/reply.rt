@@ -1,5 +1,5 @@
 ghost use Rattle.std.specs.Prelude.{◌≡◌, ◌≢◌, ℕ, List, ◌∷◌, ◌++◌, None, OnOk, IfOk, IfSome, IfNone};
-ghost use Rattle.files.specs.FieldRead.{taking};
+ghost use Rattle.files.specs.FieldRead.{fields_view};
 ghost use Rattle.files.specs.Taken.{fault_of, TakesAll, Takes};
 ghost use Rattle.terminals.specs.ReplyColumns.{after_reply, after_why};
 ghost use Rattle.terminals.specs.ReplyFields.{IsReply, IsShown, fault_fields};
@@ -16,7 +16,7 @@ use std::alloc::Global;
 pub fn take(alloc: Global, letter: &str, fields: &mut Fields) -> Result<Option<Reply>, NoMemory>
     ensures taken { IfOk result (λ taken. IfSome taken (λ reply. Takes fields.old fields.new (λ said. IsReply reply (letter.now ∷ said)))) }
     ensures unknown { IfOk result (λ taken. IfNone taken (fault_of fields.new ≢ None)) }
-    ensures columns { OnOk result (taking fields.new ≡ after_reply letter.now (taking fields.old)) }
+    ensures columns { OnOk result (fields_view fields.new ≡ after_reply letter.now (fields_view fields.old)) }
 {
     match letter {
         "N" => {
@@ -54,7 +54,7 @@ pub fn take(alloc: Global, letter: &str, fields: &mut Fields) -> Result<Option<R
 fn take_fault(fields: &mut Fields) -> Option<Fault>
     ensures taken { IfSome result (λ fault. TakesAll fields.old fields.new (fault_fields fault)) }
     ensures unknown { IfNone result (fault_of fields.new ≢ None) }
-    ensures columns { taking fields.new ≡ after_why (taking fields.old) }
+    ensures columns { fields_view fields.new ≡ after_why (fields_view fields.old) }
 {
     match fields.word() {
         "nocustomer" => Some(Fault::NoCustomer),

@@ -1,13 +1,13 @@
 ghost use Rattle.std.specs.Prelude.{◌≡◌, ◌≢◌, ℕ, List, [], ◌∷◌, ◌++◌, length, None, OnOk, IfOk, IfSome, IfNone};
 ghost use Rattle.std.specs.Fmt.{decimal};
 ghost use Rattle.files.specs.Columns.{take_columns};
-ghost use Rattle.files.specs.FieldRead.{taking};
+ghost use Rattle.files.specs.FieldRead.{fields_view};
 ghost use Rattle.files.specs.Taken.{fault_of, fields_left, TakesAll, Takes};
 ghost use Rattle.terminals.specs.FirstFault.{after_asked};
 ghost use Rattle.terminals.specs.RequestColumns.{after_request, number, request_columns, request_size, HasColumns};
 ghost use Rattle.terminals.specs.RequestFields.{IsRequest};
 
-use crate::listing::{Listed, Told};
+use crate::listing::{Listed, WrittenRecord};
 use crate::{delivery, new_order, order_status, payment, stock_level};
 use files::{FaultKind, Fields, NewRecord};
 use requests::Request;
@@ -29,7 +29,7 @@ impl Listed for Request {
     }
 }
 
-impl Told for Request {
+impl WrittenRecord for Request {
     ghost is_record = { λ place. IsRequest };
 
     fn put(&self, _place: u64, row: &mut NewRecord) -> Result<(), NoMemory> {
@@ -48,7 +48,7 @@ pub fn take(
 ) -> Result<Option<Request>, NoMemory>
     ensures taken { IfOk result (λ taken. IfSome taken (λ request. Takes fields.old fields.new (λ said. IsRequest request (letter.now ∷ said)))) }
     ensures unknown { IfOk result (λ taken. IfNone taken (fault_of fields.new ≢ None)) }
-    ensures columns { OnOk result (taking fields.new ≡ after_request count letter.now (taking fields.old)) }
+    ensures columns { OnOk result (fields_view fields.new ≡ after_request count letter.now (fields_view fields.old)) }
     ensures size { IfOk result (λ taken. HasColumns taken (request_columns count letter.now (length (fields_left fields.old)))) }
 {
     match letter {
@@ -70,7 +70,7 @@ pub fn take(
 /// Takes the numbers of a warehouse and of a district.
 pub(crate) fn take_district(fields: &mut Fields) -> DistrictKey
     ensures taken { TakesAll fields.old fields.new (decimal result.w_id ∷ decimal result.d_id ∷ []) }
-    ensures columns { taking fields.new ≡ take_columns (number ∷ number ∷ []) (taking fields.old) }
+    ensures columns { fields_view fields.new ≡ take_columns (number ∷ number ∷ []) (fields_view fields.old) }
 {
     DistrictKey {
         w_id: fields.whole(0, u32::MAX),

@@ -1,8 +1,8 @@
 ghost use Rattle.std.specs.Prelude.{◌≡◌, ◌≢◌, ◌<◌, ◌-◌, ◌^◌, ℕ, List, ◌∷◌, length, Some, None, codes, IfOk, IfErr, IfSome, IfNone, OnOk, MatchResult};
 ghost use Rattle.files.specs.Place.{IsCsv};
-ghost use Rattle.files.specs.FieldRead.{taking};
+ghost use Rattle.files.specs.FieldRead.{fields_view};
 ghost use Rattle.files.specs.Failure.{IsOfText};
-ghost use Rattle.files.specs.FirstFault.{TellsFault};
+ghost use Rattle.files.specs.FirstFault.{ReportsFault};
 ghost use Rattle.files.specs.Taken.{fault_of, Takes};
 ghost use Rattle.terminals.specs.FirstFault.{after_scheduled, after_submit, schedule_fault};
 ghost use Rattle.terminals.specs.Schedule.{IsSchedule, IsScheduleRecord};
@@ -22,13 +22,13 @@ use std::alloc::Global;
 /// numbers fit a scale, is not looked at.
 ///
 /// `NoMemory` comes where there is none for a record or for the schedule; `Failed` comes where a read of
-/// `source` fails, with the number of the record under way, and never where none does. Of the text neither
+/// `source` fails, with the number of the record in flight, and never where none does. Of the text neither
 /// says anything, and nothing else is given then either. After an error it is not said how far `source` was
 /// read. Memory is taken record by record.
 pub fn read_schedule<R: Input + Drop>(alloc: Global, source: R) -> Result<Vec<Scheduled>, FileError>
     ensures schedule { IfOk result (λ schedule. (text : List ℕ) → R.remaining source ≡ Some text → (rows : List (List (List ℕ))) × IsCsv text rows × IsSchedule schedule.items rows) }
     ensures first { (text : List ℕ) (rows : List (List (List ℕ))) → R.remaining source ≡ Some text → IsCsv text rows → length rows < 2 ^ 64 - 1
-        → MatchResult result (λ _. schedule_fault rows ≡ None) (λ error. TellsFault error (schedule_fault rows)) }
+        → MatchResult result (λ _. schedule_fault rows ≡ None) (λ error. ReportsFault error (schedule_fault rows)) }
     ensures lasts { R.lasts source → IfErr result IsOfText }
 {
     listing::read(alloc, source)
@@ -52,7 +52,7 @@ impl Listed for Scheduled {
 fn take(alloc: Global, letter: &str, fields: &mut Fields) -> Result<Option<Scheduled>, NoMemory>
     ensures taken { IfOk result (λ taken. IfSome taken (λ item. Takes fields.old fields.new (λ said. IsScheduleRecord item (letter.now ∷ said)))) }
     ensures unknown { IfOk result (λ taken. IfNone taken (fault_of fields.new ≢ None)) }
-    ensures columns { OnOk result (taking fields.new ≡ after_scheduled letter.now (taking fields.old)) }
+    ensures columns { OnOk result (fields_view fields.new ≡ after_scheduled letter.now (fields_view fields.old)) }
 {
     match letter {
         "S" => take_submit(alloc, fields),
@@ -78,7 +78,7 @@ fn take(alloc: Global, letter: &str, fields: &mut Fields) -> Result<Option<Sched
 fn take_submit(alloc: Global, fields: &mut Fields) -> Result<Option<Scheduled>, NoMemory>
     ensures taken { IfOk result (λ taken. IfSome taken (λ item. Takes fields.old fields.new (λ said. IsScheduleRecord item (codes "S" ∷ said)))) }
     ensures unknown { IfOk result (λ taken. IfNone taken (fault_of fields.new ≢ None)) }
-    ensures columns { OnOk result (taking fields.new ≡ after_submit (taking fields.old)) }
+    ensures columns { OnOk result (fields_view fields.new ≡ after_submit (fields_view fields.old)) }
 {
     let session = fields.whole(0, u32::MAX);
     let number = fields.whole(0, u32::MAX);

@@ -1,6 +1,6 @@
 ghost use Rattle.std.specs.Prelude.{◌≡◌, ◌<◌, ◌-◌, ◌^◌, ℕ, List, length, Some, None, IfOk, IfErr, OnErr, OnOk, MatchResult};
 ghost use Rattle.files.specs.Failure.{IsOfText, IsOfWriting};
-ghost use Rattle.files.specs.FirstFault.{TellsFault};
+ghost use Rattle.files.specs.FirstFault.{ReportsFault};
 ghost use Rattle.files.specs.Place.{IsCsv};
 ghost use Rattle.files.specs.Sending.{BeginsToWrite, Writes};
 ghost use Rattle.terminals.specs.FirstFault.{script_fault};
@@ -18,13 +18,13 @@ use std::io::Write;
 /// of its faults the least one. Whether the numbers fit a scale is not looked at.
 ///
 /// `NoMemory` comes where there is none for a record or for the requests, and where these are more than 2^32;
-/// `Failed` comes where a read of `source` fails, with the number of the record under way, and never where
+/// `Failed` comes where a read of `source` fails, with the number of the record in flight, and never where
 /// none does. Of the text neither says anything, and nothing else is given then either. After an error it is
 /// not said how far `source` was read. Memory is taken request by request.
 pub fn read_script<R: Input + Drop>(alloc: Global, source: R) -> Result<Script, FileError>
     ensures script { IfOk result (λ script. (text : List ℕ) → R.remaining source ≡ Some text → (rows : List (List (List ℕ))) × IsCsv text rows × IsScript script rows) }
     ensures first { (text : List ℕ) (rows : List (List (List ℕ))) → R.remaining source ≡ Some text → IsCsv text rows → length rows < 2 ^ 64 - 1
-        → MatchResult result (λ _. script_fault rows ≡ None) (λ error. TellsFault error (script_fault rows)) }
+        → MatchResult result (λ _. script_fault rows ≡ None) (λ error. ReportsFault error (script_fault rows)) }
     ensures lasts { R.lasts source → IfErr result IsOfText }
 {
     let requests = listing::read(alloc, source)?;
@@ -37,7 +37,7 @@ pub fn read_script<R: Input + Drop>(alloc: Global, source: R) -> Result<Script, 
 /// Writes a script to the sink: the record of each request, and then the end record.
 ///
 /// `NoMemory` comes where there is none for a record, and `Failed` where the sink fails, with the number of
-/// the record under way; since records are gathered before they are sent, what was not taken may be an
+/// the record in flight; since records are gathered before they are sent, what was not taken may be an
 /// earlier one. After an error the sink has got a beginning of their text.
 pub fn write_script<W: Write>(alloc: Global, sink: &mut W, script: &Script) -> Result<(), FileError>
     ensures written { OnOk result (Writes (W.contents sink.old) (W.contents sink.new) (IsScript script.now)) }

@@ -5,8 +5,8 @@ use Rattle.std.proofs.lemmas.Cmp.{tied_itself}
 use Rattle.std.specs.Ordering.{nat_cmp, ordering_then}
 use Rattle.requests.specs.declared.group.Group.{Group}
 use Rattle.groups.specs.Groups.{kind_of, warehouse_of, number_of, is_same, group_cmp}
-use Rattle.groups.specs.declared.wishes.Mode.{Mode}
-use Rattle.groups.specs.declared.wishes.Mode.TheVariants.{Shared, Exclusive}
+use Rattle.groups.specs.declared.group_wants.Mode.{Mode}
+use Rattle.groups.specs.declared.group_wants.Mode.TheVariants.{Shared, Exclusive}
 use Rattle.groups.proofs.SameGroups.{is_same-itself, groups_total, groups_exact}
 
 pub is_same-equal : (a b : Group) → is_same a b ≡ true → a ≡ b

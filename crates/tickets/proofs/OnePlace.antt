@@ -9,8 +9,8 @@ use Rattle.requests.specs.declared.group.Group.{Group}
 use Rattle.groups.proofs.SameGroups.{is_same-itself, is_same-other}
 use Rattle.requests.specs.declared.group.Group.TheVariants.{Warehouse, District, Customers, Orders, History, Stock}
 use Rattle.groups.specs.Groups.{is_same, warehouse_of}
-use Rattle.tickets.specs.Claims.{Claiming, committed_by}
-use Rattle.tickets.specs.LogSeats.{Committed, with_content, after_one}
+use Rattle.tickets.specs.Claims.{ClaimView, committed_by}
+use Rattle.tickets.specs.LogSeats.{CommittedGroup, with_content, after_one}
 use Rattle.tickets.specs.Places.{IsBetween, IsGroupOf, place_of, AreAtPlaces, AreInPlace}
 
 -- no two groups have one place
@@ -21,16 +21,16 @@ pub place_inside : (warehouses : ℕ) (group : Group) → IsGroupOf warehouses g
 place_inside warehouses group is = grind arith
 
 -- the seat at a group's place is the group's
-pub group_at : (warehouses : ℕ) (seats : List Committed) (group : Group) (place : ℕ) (seat : Committed) → AreInPlace warehouses seats → IsGroupOf warehouses group → place ≡ place_of group
+pub group_at : (warehouses : ℕ) (seats : List CommittedGroup) (group : Group) (place : ℕ) (seat : CommittedGroup) → AreInPlace warehouses seats → IsGroupOf warehouses group → place ≡ place_of group
     → seat ≡ get_or seats place seat → (place < length seats) × (group ≡ seat.group)
 group_at warehouses seats group place seat in_place is is_place at =
     let here : place < length seats = omega (arith, place_inside warehouses group is, is_place, in_place.all_there) in
-    let P : Committed → Type 0 = λ s. IsGroupOf warehouses s.group in
-    let Q : Committed → Type 0 = λ s. place_of s.group ≡ place in
+    let P : CommittedGroup → Type 0 = λ s. IsGroupOf warehouses s.group in
+    let Q : CommittedGroup → Type 0 = λ s. place_of s.group ≡ place in
     (here, place_injective warehouses group seat.group is (subst P (sym at) (in_place.at_places.groups place seat here)) (sym is_place ∙ sym (subst Q (sym at) (in_place.at_places.places place seat here))))
 
 -- what a claim leaves becomes the content of its group's seat, and all others stay
-pub settled_seats : (warehouses : ℕ) (seats : List Committed) (claim : Claiming) (seat new : Committed) (place : ℕ) → AreInPlace warehouses seats → place < length seats → place ≡ place_of claim.group
+pub settled_seats : (warehouses : ℕ) (seats : List CommittedGroup) (claim : ClaimView) (seat new : CommittedGroup) (place : ℕ) → AreInPlace warehouses seats → place < length seats → place ≡ place_of claim.group
     → claim.group ≡ seat.group → seat ≡ get_or seats place seat → new ≡ with_content seat (committed_by claim.mode claim.left seat.content) → set seats place new ≡ map (after_one claim) seats
 settled_seats warehouses seats claim seat new place in_place here is_place group at is =
     same_lists (set seats place new) (map (after_one claim) seats) (length-set seats place new ∙ sym (length-map seats (after_one claim))) each
@@ -38,7 +38,7 @@ settled_seats warehouses seats claim seat new place in_place here is_place group
     own : after_one claim seat ≡ new
     own = ap (λ (b : Bool). with_content seat (if b then committed_by claim.mode claim.left seat.content else seat.content)) ((λ i. is_same claim.group (sym group i)) ∙ is_same-itself claim.group) ∙ sym is
 
-    each : (k : ℕ) (d : Committed) → k < length (set seats place new) → get_or (set seats place new) k d ≡ get_or (map (after_one claim) seats) k d
+    each : (k : ℕ) (d : CommittedGroup) → k < length (set seats place new) → get_or (set seats place new) k d ≡ get_or (map (after_one claim) seats) k d
     each k d small =
         let inside : k < length seats = omega (arith, small, length-set seats place new) in
         let mapped = get_or-map (after_one claim) seats k d d inside in
@@ -55,13 +55,13 @@ settled_seats warehouses seats claim seat new place in_place here is_place group
         (eqb_tells k place)
 
 -- one seat more, at the next place
-pub places_push : (warehouses : ℕ) (seats : List Committed) (seat : Committed) → AreAtPlaces warehouses seats → IsGroupOf warehouses seat.group → place_of seat.group ≡ length seats → AreAtPlaces warehouses (seats ++ seat ∷ [])
+pub places_push : (warehouses : ℕ) (seats : List CommittedGroup) (seat : CommittedGroup) → AreAtPlaces warehouses seats → IsGroupOf warehouses seat.group → place_of seat.group ≡ length seats → AreAtPlaces warehouses (seats ++ seat ∷ [])
 places_push warehouses seats seat all known place = record {
   groups = λ k d small. each k d small (λ _ s. IsGroupOf warehouses s.group) (all.groups k d) known;
   places = λ k d small. each k d small (λ j s. place_of s.group ≡ j) (all.places k d) place;
 }
   where
-    each : (k : ℕ) (d : Committed) → k < length (seats ++ seat ∷ []) → (P : ℕ → Committed → Type 0) → (k < length seats → P k (get_or seats k d)) → P (length seats) seat → P k (get_or (seats ++ seat ∷ []) k d)
+    each : (k : ℕ) (d : CommittedGroup) → k < length (seats ++ seat ∷ []) → (P : ℕ → CommittedGroup → Type 0) → (k < length seats → P k (get_or seats k d)) → P (length seats) seat → P k (get_or (seats ++ seat ∷ []) k d)
     each k d small P before last =
         let at_most : k ≤ length seats = omega (arith, small, length-append seats (seat ∷ [])) in
         ⊎_elim

@@ -1,22 +1,22 @@
 -- The slice's side of a group's tickets: what a contract sees of it, and what it holds.
 use Rattle.std.specs.Prelude.{◌≡◌, ◌+◌, ◌-◌, ℕ, List, [], ◌∷◌, if◌then◌else◌}
 use Rattle.atomic_table.specs.Seated.{TableId}
-use Rattle.agreement.specs.Telling.{Telling, IsSpent}
+use Rattle.agreement.specs.SeatView.{SeatView, IsSpent}
 use Rattle.requests.specs.declared.group.Group.{Group}
 use Rattle.groups.specs.Content.{Content}
 use Rattle.groups.specs.Groups.{is_same}
-use Rattle.groups.specs.declared.wishes.Mode.{Mode}
-use Rattle.groups.specs.declared.wishes.Mode.TheVariants.{Shared, Exclusive}
-use Rattle.tickets.specs.declared.work.Told.{Told}
+use Rattle.groups.specs.declared.group_wants.Mode.{Mode}
+use Rattle.groups.specs.declared.group_wants.Mode.TheVariants.{Shared, Exclusive}
+use Rattle.tickets.specs.declared.work.CommittedContent.{CommittedContent}
 use Rattle.tickets.specs.declared.work.Work.{Work}
-use Rattle.tickets.specs.Claims.{Claiming}
-use Rattle.tickets.specs.Committed.{Standing, KeepsCommitted}
+use Rattle.tickets.specs.Claims.{ClaimView}
+use Rattle.tickets.specs.Committed.{GroupsOfSlice, KeepsCommitted}
 use Rattle.tickets.specs.Unset.{nothing}
 use Rattle.tickets.specs.Seats.{committed_seat, work_seat, untouched}
 
 -- The group; exclusive while an exclusive claim is out; how many shared claims are out; what is in the group now, and
 -- what is there again once all that was done under the exclusive claim is taken back.
-pub record Boxed : Type 0 where
+pub record TicketBoxView : Type 0 where
   pub group : Group
   pub mode : Mode
   pub shared : ℕ
@@ -24,38 +24,38 @@ pub record Boxed : Type 0 where
   pub back : Content
 
 -- the slice's side of a group: so many shared claims are out, or an exclusive one, and this is done there
-abbrev pub boxed : Group → Mode → ℕ → Work → Boxed
-boxed group mode shared work = record { group = group; mode = mode; shared = shared; left = work.left; back = work.back }
+abbrev pub ticket_box_view : Group → Mode → ℕ → Work → TicketBoxView
+ticket_box_view group mode shared work = record { group = group; mode = mode; shared = shared; left = work.left; back = work.back }
 
 -- the box of a group with this content, of which so many shared claims and no exclusive one are out
-abbrev pub sharing : Group → Content → ℕ → Boxed
+abbrev pub sharing : Group → Content → ℕ → TicketBoxView
 sharing group content shared = record { group = group; mode = Shared; shared = shared; left = content; back = content }
 
 -- the box of a group with this content whose exclusive claim has gone out
-abbrev pub lent : Group → Content → Boxed
+abbrev pub lent : Group → Content → TicketBoxView
 lent group content = record { group = group; mode = Exclusive; shared = 0; left = content; back = content }
 
 -- the box once this is left in the group
-abbrev pub with_left : Boxed → Content → Boxed
+abbrev pub with_left : TicketBoxView → Content → TicketBoxView
 with_left b content = record { group = b.group; mode = b.mode; shared = b.shared; left = content; back = b.back }
 
 -- the box once a claim is back: the shared claims are one fewer, or no claim is out
-abbrev pub taken_back : Boxed → Boxed
+abbrev pub taken_back : TicketBoxView → TicketBoxView
 taken_back b = sharing b.group b.left (b.shared - 1)
 
 -- a pair of seats of the two agreements that have no share
-abbrev pub IsSpentPair : TableId → TableId → Telling Told × Telling Work → Type 0
+abbrev pub IsSpentPair : TableId → TableId → SeatView CommittedContent × SeatView Work → Type 0
 IsSpentPair committed done pair =
     IsSpent (record { table = committed; count = 10 }) pair.0 × IsSpent (record { table = done; count = 9 }) pair.1
 
 -- so are all of these pairs
-abbrev pub AreSpent : TableId → TableId → List (Telling Told × Telling Work) → Type 0
+abbrev pub AreSpent : TableId → TableId → List (SeatView CommittedContent × SeatView Work) → Type 0
 AreSpent committed done [] = Unit {0}
 AreSpent committed done (pair ∷ pairs) = IsSpentPair committed done pair × AreSpent committed done pairs
 
 -- The seats of the box. The shares that are not out are here, and there is a pair of spent seats for each claim that
 -- may go out.
-abbrev pub HoldsBox : TableId → TableId → Mode → ℕ → Telling Told → Telling Work → ℕ → Type 0
+abbrev pub HoldsBox : TableId → TableId → Mode → ℕ → SeatView CommittedContent → SeatView Work → ℕ → Type 0
 HoldsBox committed done Shared shared tickets work spare =
     (tickets ≡ committed_seat committed tickets.value.content (9 - shared))
     × (work ≡ work_seat done (untouched Shared tickets.value.content) (9 - shared))
@@ -73,12 +73,12 @@ tickets_home Shared shared = 8 - shared
 tickets_home Exclusive shared = 0
 
 -- a slice that has the box's group and no other
-abbrev pub standing : Boxed → Standing
+abbrev pub standing : TicketBoxView → GroupsOfSlice
 standing b = record {
   rows = λ group. if is_same b.group group then b.left else nothing;
   free = λ group. if is_same b.group group then tickets_home b.mode b.shared else 0;
 }
 
 -- with these claims where those were, the box keeps what is committed in its group
-abbrev pub BoxKeepsCommitted : List Claiming → Boxed → List Claiming → Boxed → Type 0
+abbrev pub BoxKeepsCommitted : List ClaimView → TicketBoxView → List ClaimView → TicketBoxView → Type 0
 BoxKeepsCommitted before old after new = KeepsCommitted (is_same old.group) before (standing old) after (standing new)

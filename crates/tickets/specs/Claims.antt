@@ -1,33 +1,33 @@
 -- What a contract sees of a claim, and what it holds.
 use Rattle.std.specs.Prelude.{◌≡◌, List, [], ◌∷◌, ◌++◌}
 use Rattle.atomic_table.specs.Seated.{TableId}
-use Rattle.agreement.specs.Telling.{Telling}
+use Rattle.agreement.specs.SeatView.{SeatView}
 use Rattle.requests.specs.declared.group.Group.{Group}
 use Rattle.groups.specs.Content.{Content}
-use Rattle.groups.specs.declared.wishes.Mode.{Mode}
-use Rattle.groups.specs.declared.wishes.Mode.TheVariants.{Shared, Exclusive}
-use Rattle.tickets.specs.declared.work.Told.{Told}
+use Rattle.groups.specs.declared.group_wants.Mode.{Mode}
+use Rattle.groups.specs.declared.group_wants.Mode.TheVariants.{Shared, Exclusive}
+use Rattle.tickets.specs.declared.work.CommittedContent.{CommittedContent}
 use Rattle.tickets.specs.declared.work.Work.{Work}
-use Rattle.tickets.specs.Seats.{committed_seat, work_seat, told_shares, work_shares, untouched}
+use Rattle.tickets.specs.Seats.{committed_seat, work_seat, recorded_shares, work_shares, untouched}
 use Rattle.wait_die.specs.declared.deciding.Holder.{Holder}
 
 -- Who it was granted to, its group, how it is claimed, what its tickets tell as committed, what it left in the group, and
 -- what is in the group again once that is taken back.
-pub record Claiming : Type 0 where
+pub record ClaimView : Type 0 where
   pub by : Holder
   pub group : Group
   pub mode : Mode
-  pub told : Content
+  pub recorded : Content
   pub left : Content
   pub back : Content
 
 -- this one's claim on the group, which tells this, and under which that was done
-abbrev pub claiming : Holder → Group → Mode → Content → Work → Claiming
-claiming by group mode told work = record { by = by; group = group; mode = mode; told = told; left = work.left; back = work.back }
+abbrev pub claim_view : Holder → Group → Mode → Content → Work → ClaimView
+claim_view by group mode recorded work = record { by = by; group = group; mode = mode; recorded = recorded; left = work.left; back = work.back }
 
 -- this one's claim of this mode on a group with this content, under which nothing was done yet
-abbrev pub fresh : Holder → Group → Mode → Content → Claiming
-fresh by group mode content = record { by = by; group = group; mode = mode; told = content; left = content; back = content }
+abbrev pub fresh : Holder → Group → Mode → Content → ClaimView
+fresh by group mode content = record { by = by; group = group; mode = mode; recorded = content; left = content; back = content }
 
 -- What is committed in a group once a claim of this mode is settled: what it left, where it is exclusive. A shared claim
 -- changes nothing.
@@ -36,28 +36,28 @@ committed_by Shared left before = before
 committed_by Exclusive left before = left
 
 -- the claim once what it left is committed: it tells that
-abbrev pub settled : Claiming → Claiming
-settled c = record { by = c.by; group = c.group; mode = c.mode; told = committed_by c.mode c.left c.told; left = c.left; back = c.back }
+abbrev pub settled : ClaimView → ClaimView
+settled c = record { by = c.by; group = c.group; mode = c.mode; recorded = committed_by c.mode c.left c.recorded; left = c.left; back = c.back }
 
 -- the claim once it left this in the group
-abbrev pub leaving : Claiming → Content → Claiming
-leaving c content = record { by = c.by; group = c.group; mode = c.mode; told = c.told; left = content; back = c.back }
+abbrev pub leaving : ClaimView → Content → ClaimView
+leaving c content = record { by = c.by; group = c.group; mode = c.mode; recorded = c.recorded; left = content; back = c.back }
 
 -- what a shared claim tells is all there is: nothing is done in the group
 abbrev pub IsUntouched : Mode → Content → Work → Type 0
-IsUntouched Shared told work = work ≡ untouched Shared told
-IsUntouched Exclusive told work = work.mode ≡ Exclusive
+IsUntouched Shared recorded work = work ≡ untouched Shared recorded
+IsUntouched Exclusive recorded work = work.mode ≡ Exclusive
 
 -- the tickets of a claim, and its seat of the agreement on what is done
-abbrev pub HoldsClaim : TableId → TableId → Mode → Telling Told → Telling Work → Type 0
+abbrev pub HoldsClaim : TableId → TableId → Mode → SeatView CommittedContent → SeatView Work → Type 0
 HoldsClaim committed done mode tickets work =
-    (tickets ≡ committed_seat committed tickets.value.content (told_shares mode))
+    (tickets ≡ committed_seat committed tickets.value.content (recorded_shares mode))
     × (work ≡ work_seat done work.value (work_shares mode))
     × IsUntouched mode tickets.value.content work.value
 
 -- ---- the claims of several actions
 
 -- the claims of all actions, by place
-abbrev pub all_claims : List (List Claiming) → List Claiming
+abbrev pub all_claims : List (List ClaimView) → List ClaimView
 all_claims [] = []
 all_claims (held ∷ claims) = held ++ all_claims claims

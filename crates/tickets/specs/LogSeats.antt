@@ -3,36 +3,36 @@ use Rattle.std.specs.Prelude.{◌≡◌, List, All}
 use Rattle.std.specs.List.{Contains}
 use Rattle.requests.specs.declared.group.Group.{Group}
 use Rattle.groups.specs.Content.{Content}
-use Rattle.tickets.specs.Claims.{Claiming}
+use Rattle.tickets.specs.Claims.{ClaimView}
 use Rattle.tickets.specs.Committed.{content_after, contents_after}
 
 -- the group and its committed content
-pub record Committed : Type 0 where
+pub record CommittedGroup : Type 0 where
   pub group : Group
   pub content : Content
 
 -- the log's seat of the group, with this content
-abbrev pub committed : Group → Content → Committed
+abbrev pub committed : Group → Content → CommittedGroup
 committed group content = record { group = group; content = content }
 
 -- the same group with another content
-abbrev pub with_content : Committed → Content → Committed
+abbrev pub with_content : CommittedGroup → Content → CommittedGroup
 with_content c content = committed c.group content
 
 -- ---- the seats of all groups
 
 -- the claim's group and what it tells stand among the seats
-abbrev pub IsToldIn : List Committed → Claiming → Type 0
-IsToldIn seats claim = Contains seats (committed claim.group claim.told)
+abbrev pub IsRecordedIn : List CommittedGroup → ClaimView → Type 0
+IsRecordedIn seats claim = Contains seats (committed claim.group claim.recorded)
 
 -- the seat once a claim is settled: where that is an exclusive one on its group, the content is what the claim left
-abbrev pub after_one : Claiming → Committed → Committed
+abbrev pub after_one : ClaimView → CommittedGroup → CommittedGroup
 after_one claim seat = with_content seat (content_after seat.group seat.content claim)
 
 -- the seat once these claims are, one after another
-abbrev pub after_all : List Claiming → Committed → Committed
+abbrev pub after_all : List ClaimView → CommittedGroup → CommittedGroup
 after_all claims seat = with_content seat (contents_after seat.group seat.content claims)
 
 -- each seat tells what the tables have in its group
-abbrev pub SeatsTell : (Group → Content) → List Committed → Type 0
-SeatsTell tables seats = All (λ (seat : Committed). tables seat.group ≡ seat.content) seats
+abbrev pub SeatsRecord : (Group → Content) → List CommittedGroup → Type 0
+SeatsRecord tables seats = All (λ (seat : CommittedGroup). tables seat.group ≡ seat.content) seats

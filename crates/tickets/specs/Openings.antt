@@ -1,29 +1,29 @@
 -- What a contract sees of the seats of a new group, and what they are.
 use Rattle.std.specs.Prelude.{◌≡◌, ℕ, List, map, slice_index_or}
 use Rattle.atomic_table.specs.Seated.{TableId}
-use Rattle.agreement.specs.Telling.{Telling}
+use Rattle.agreement.specs.SeatView.{SeatView}
 use Rattle.requests.specs.declared.group.Group.{Group}
 use Rattle.groups.specs.Content.{Content}
-use Rattle.groups.specs.declared.wishes.Mode.TheVariants.{Shared}
-use Rattle.tickets.specs.declared.work.Told.{Told}
+use Rattle.groups.specs.declared.group_wants.Mode.TheVariants.{Shared}
+use Rattle.tickets.specs.declared.work.CommittedContent.{CommittedContent}
 use Rattle.tickets.specs.declared.work.Work.{Work}
-use Rattle.tickets.specs.Boxes.{Boxed, sharing}
-use Rattle.tickets.specs.LogSeats.{Committed}
+use Rattle.tickets.specs.Boxes.{TicketBoxView, sharing}
+use Rattle.tickets.specs.LogSeats.{CommittedGroup}
 use Rattle.tickets.specs.Places.{IsGroupOf, place_of}
 use Rattle.tickets.specs.Seats.{committed_seat, work_seat, untouched}
 
 -- the group's two agreements, and its content
-pub record Opened : Type 0 where
+pub record OpenedGroup : Type 0 where
   pub committed : TableId
   pub work : TableId
   pub content : Content
 
 -- the seats of a group, in these tables of agreements, with this content
-abbrev pub opened : TableId → TableId → Content → Opened
+abbrev pub opened : TableId → TableId → Content → OpenedGroup
 opened committed work content = record { committed = committed; work = work; content = content }
 
 -- the log's seat, the box's seats, and how many pairs of spent seats there are
-abbrev pub AreOpened : TableId → TableId → Content → Telling Told → Telling Told → Telling Work → ℕ → Type 0
+abbrev pub AreOpened : TableId → TableId → Content → SeatView CommittedContent → SeatView CommittedContent → SeatView Work → ℕ → Type 0
 AreOpened committed done content log tickets work spare =
     (log ≡ committed_seat committed content 1)
     × (tickets ≡ committed_seat committed content 9)
@@ -33,23 +33,23 @@ AreOpened committed done content log tickets work spare =
 -- ---- the openings of all groups
 
 -- The agreements of each group of so many warehouses are those that were opened for its place.
-abbrev pub AreNamed : ℕ → (Group → TableId) → (Group → TableId) → List Opened → Type 0
+abbrev pub AreNamed : ℕ → (Group → TableId) → (Group → TableId) → List OpenedGroup → Type 0
 AreNamed warehouses committed work openings =
-    (group : Group) (d : Opened) → IsGroupOf warehouses group
+    (group : Group) (d : OpenedGroup) → IsGroupOf warehouses group
     → (committed group ≡ (slice_index_or openings (place_of group) d).committed) × (work group ≡ (slice_index_or openings (place_of group) d).work)
 
 -- the contents that were opened, and those of seats
-abbrev pub contents_opened : List Opened → List Content
-contents_opened openings = map (λ (o : Opened). o.content) openings
+abbrev pub contents_opened : List OpenedGroup → List Content
+contents_opened openings = map (λ (o : OpenedGroup). o.content) openings
 
 -- what the log's seats have, in order
-abbrev pub contents_committed : List Committed → List Content
-contents_committed seats = map (λ (seat : Committed). seat.content) seats
+abbrev pub contents_committed : List CommittedGroup → List Content
+contents_committed seats = map (λ (seat : CommittedGroup). seat.content) seats
 
 -- the box of a seat's group with the seat's content, while no claim is out
-abbrev pub box_beside : Committed → Boxed
+abbrev pub box_beside : CommittedGroup → TicketBoxView
 box_beside seat = sharing seat.group seat.content 0
 
 -- the ticket boxes beside the log's seats, with no claim out
-abbrev pub boxes_beside : List Committed → List Boxed
+abbrev pub boxes_beside : List CommittedGroup → List TicketBoxView
 boxes_beside seats = map box_beside seats

@@ -3,7 +3,7 @@ use Rattle.std.specs.Prelude.{◌≡◌, ℕ, ◌+◌, ◌-◌, ◌*◌, ◌<◌
 use Rattle.requests.specs.declared.group.Group.{Group}
 use Rattle.requests.specs.declared.group.Group.TheVariants.{Warehouse, District, Customers, Orders, History, Stock}
 use Rattle.groups.specs.Groups.{warehouse_of}
-use Rattle.tickets.specs.LogSeats.{Committed}
+use Rattle.tickets.specs.LogSeats.{CommittedGroup}
 
 -- from low to high, both included
 abbrev pub IsBetween : ℕ → ℕ → ℕ → Type 0
@@ -33,11 +33,11 @@ abbrev pub place_of : Group → ℕ
 place_of group = 105 * (warehouse_of group - 1) + place_in_warehouse group
 
 -- each seat is of one of these groups, and stands at its place
-pub record AreAtPlaces (warehouses : ℕ) (seats : List Committed) : Type 0 where
-  pub groups : (place : ℕ) (d : Committed) → place < length seats → IsGroupOf warehouses (slice_index_or seats place d).group
-  pub places : (place : ℕ) (d : Committed) → place < length seats → place_of (slice_index_or seats place d).group ≡ place
+pub record AreAtPlaces (warehouses : ℕ) (seats : List CommittedGroup) : Type 0 where
+  pub groups : (place : ℕ) (d : CommittedGroup) → place < length seats → IsGroupOf warehouses (slice_index_or seats place d).group
+  pub places : (place : ℕ) (d : CommittedGroup) → place < length seats → place_of (slice_index_or seats place d).group ≡ place
 
 -- there is a seat for each group of so many warehouses, at its place
-pub record AreInPlace (warehouses : ℕ) (seats : List Committed) : Type 0 where
+pub record AreInPlace (warehouses : ℕ) (seats : List CommittedGroup) : Type 0 where
   pub all_there : length seats ≡ 105 * warehouses
   pub at_places : AreAtPlaces warehouses seats

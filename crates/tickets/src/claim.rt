@@ -1,9 +1,9 @@
 ghost use Rattle.std.specs.Prelude.{◌≡◌};
-ghost use Rattle.groups.specs.declared.wishes.Mode.TheVariants.{Shared};
+ghost use Rattle.groups.specs.declared.group_wants.Mode.TheVariants.{Shared};
 ghost use Rattle.groups.specs.Groups.{warehouse_of};
 ghost use Rattle.tickets.specs.Places.{place_of, IsBetween, IsGroupOf};
 
-use crate::work::{Told, Work};
+use crate::work::{CommittedContent, Work};
 use crate::{GroupNames, places};
 use agreement::Seat;
 use groups::{Mode, warehouse_of};
@@ -21,7 +21,7 @@ pub struct Claim<J: GroupNames> {
     pub(crate) by: Holder,
     pub(crate) group: Group,
     pub(crate) mode: Mode,
-    pub(crate) tickets: Seat<Told>,
+    pub(crate) tickets: Seat<CommittedContent>,
     pub(crate) work: Seat<Work>,
     pub(crate) names: PhantomData<J>,
 }
@@ -29,16 +29,16 @@ pub struct Claim<J: GroupNames> {
 impl<J: GroupNames> Model for Claim<J> {
     ghost use Rattle.std.specs.Coded.{codes};
     ghost use Rattle.groups.specs.contracts.content.Content as content;
-    ghost use Rattle.tickets.specs.Claims.{Claiming};
+    ghost use Rattle.tickets.specs.Claims.{ClaimView};
 
-    ghost Value = { Claiming };
+    ghost Value = { ClaimView };
 
     ghost coded = { Prim.hlevel (codes, content.the_row.coded) };
 
-    ghost use Rattle.tickets.specs.Claims.{claiming, HoldsClaim};
+    ghost use Rattle.tickets.specs.Claims.{claim_view, HoldsClaim};
     ghost use Rattle.tickets.specs.Places.{IsGroupOf};
 
-    ghost view = { λ c. claiming c.by c.group c.mode c.tickets.value.content c.work.value };
+    ghost view = { λ c. claim_view c.by c.group c.mode c.tickets.value.content c.work.value };
 
     ghost invariant = { λ c. HoldsClaim (J.committed c.group) (J.work c.group) c.mode c.tickets c.work × IsGroupOf J.warehouses c.group };
 }
@@ -83,8 +83,8 @@ impl<J: GroupNames> Claim<J> {
 
     /// Learns of a shared claim that it left, and leaves once all is taken back, what it tells.
     pub fn look_untouched(&self)
-        ensures left { self.now.mode ≡ Shared → self.now.left ≡ self.now.told }
-        ensures back { self.now.mode ≡ Shared → self.now.back ≡ self.now.told }
+        ensures left { self.now.mode ≡ Shared → self.now.left ≡ self.now.recorded }
+        ensures back { self.now.mode ≡ Shared → self.now.back ≡ self.now.recorded }
     {
         let _ = &self.work;
     }

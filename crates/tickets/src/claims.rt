@@ -1,6 +1,6 @@
 ghost use Rattle.std.specs.Prelude.{◌≡◌, ◌≤◌, length, slice_index_or};
 ghost use Rattle.groups.specs.Groups.{warehouse_of};
-ghost use Rattle.tickets.specs.Claims.{Claiming};
+ghost use Rattle.tickets.specs.Claims.{ClaimView};
 ghost use Rattle.tickets.specs.Places.{IsBetween};
 
 use crate::{Claim, GroupNames};
@@ -18,9 +18,9 @@ impl<J: GroupNames> Model for Claims<J> {
     ghost use Rattle.std.specs.Coded.{codes};
     ghost use Rattle.std.specs.Prelude.{List};
     ghost use Rattle.groups.specs.contracts.content.Content as content;
-    ghost use Rattle.tickets.specs.Claims.{Claiming};
+    ghost use Rattle.tickets.specs.Claims.{ClaimView};
 
-    ghost Value = { List Claiming };
+    ghost Value = { List ClaimView };
 
     ghost coded = { Prim.hlevel (codes, content.the_row.coded) };
 
@@ -45,7 +45,7 @@ impl<J: GroupNames> Claims<J> {
     /// The warehouse of the first one's group, 1 to the number of warehouses.
     pub fn home(&self) -> u32
         requires some { 1 ≤ length self.now }
-        ensures home { (d : Claiming) → result ≡ warehouse_of (slice_index_or self.now 0 d).group }
+        ensures home { (d : ClaimView) → result ≡ warehouse_of (slice_index_or self.now 0 d).group }
         ensures known { IsBetween 1 J.warehouses result }
     {
         self.claims[0].home()

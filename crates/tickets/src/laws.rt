@@ -1,5 +1,5 @@
 //! Laws of what is committed in a slice: functions that do nothing, and are proved.
-ghost use Rattle.tickets.specs.Laws.{ClaimElsewhereSaysNothing, ClaimsTellWhatIsCommitted, CommitMakesTheNextTables, ExclusiveClaimIsAlone, GiveBackKeepsCommitted, GrantKeepsCommitted, OnlyWhatIsHereCounts, OrderDoesNotMatter, RestIsCommitted, SeatsTellClaims, SettledSeatsTellTheNextTables, StayingKeepsCommitted, StepElsewhereKeepsCommitted, StepsKeepBesideOthers, StepsKeepClaimsOut, StepsKeepInAnyOrder, TwoStepsKeepCommitted, UndoKeepsCommitted, WriteKeepsCommitted};
+ghost use Rattle.tickets.specs.Laws.{ClaimElsewhereSaysNothing, ClaimsRecordWhatIsCommitted, CommitMakesTheNextTables, ExclusiveClaimIsAlone, GiveBackKeepsCommitted, GrantKeepsCommitted, OnlyWhatIsHereCounts, OrderDoesNotMatter, RestIsCommitted, SeatsRecordClaims, SettledSeatsRecordTheNextTables, StayingKeepsCommitted, StepElsewhereKeepsCommitted, StepsKeepBesideOthers, StepsKeepClaimsOut, StepsKeepInAnyOrder, TwoStepsKeepCommitted, UndoKeepsCommitted, WriteKeepsCommitted};
 
 /// It makes no difference to what is committed in which order the claims are that are out.
 pub fn order_does_not_matter()
@@ -43,8 +43,8 @@ pub fn commits_make_the_next_tables()
 {}
 
 /// A claim that is out tells what is committed in its group.
-pub fn claims_tell_what_is_committed()
-    ensures { ClaimsTellWhatIsCommitted }
+pub fn claims_record_what_is_committed()
+    ensures { ClaimsRecordWhatIsCommitted }
 {}
 
 /// An exclusive claim that is out is the only one on its group.
@@ -69,7 +69,7 @@ pub fn steps_keep_committed()
 
 /// What the log's seats tell is what the claims do that are told in them, and the next tables once claims
 /// are settled.
-pub fn seats_tell_the_tables()
-    ensures claims { SeatsTellClaims }
-    ensures settled { SettledSeatsTellTheNextTables }
+pub fn seats_record_the_tables()
+    ensures claims { SeatsRecordClaims }
+    ensures settled { SettledSeatsRecordTheNextTables }
 {}

@@ -2,7 +2,7 @@ ghost use Rattle.std.specs.Prelude.{◌≡◌};
 ghost use Rattle.tickets.specs.Claims.{committed_by, settled};
 ghost use Rattle.tickets.specs.LogSeats.{with_content};
 
-use crate::work::Told;
+use crate::work::CommittedContent;
 use crate::{Claim, GroupNames};
 use agreement::Seat;
 use groups::Mode;
@@ -13,16 +13,16 @@ use std::marker::{Model, PhantomData};
 #[derive(Drop)]
 pub struct LogSeat<J: GroupNames> {
     pub(crate) group: Group,
-    pub(crate) seat: Seat<Told>,
+    pub(crate) seat: Seat<CommittedContent>,
     pub(crate) names: PhantomData<J>,
 }
 
 impl<J: GroupNames> Model for LogSeat<J> {
     ghost use Rattle.std.specs.Coded.{codes};
     ghost use Rattle.groups.specs.contracts.content.Content as content;
-    ghost use Rattle.tickets.specs.LogSeats.{Committed};
+    ghost use Rattle.tickets.specs.LogSeats.{CommittedGroup};
 
-    ghost Value = { Committed };
+    ghost Value = { CommittedGroup };
 
     ghost coded = { Prim.hlevel (codes, content.the_row.coded) };
 
@@ -47,7 +47,7 @@ impl<J: GroupNames> LogSeat<J> {
     /// Learns that a claim on the group tells what is committed.
     pub fn look(&mut self, claim: &mut Claim<J>)
         requires group { claim.old.group ≡ self.old.group }
-        ensures told { claim.old.told ≡ self.old.content }
+        ensures recorded { claim.old.recorded ≡ self.old.content }
         ensures same { (self.new ≡ self.old) × (claim.new ≡ claim.old) }
     {
         self.seat.look(&mut claim.tickets);
@@ -56,7 +56,7 @@ impl<J: GroupNames> LogSeat<J> {
     /// What an exclusive claim left in the group is committed from now on. A shared claim changes nothing.
     pub fn settle(&mut self, claim: &mut Claim<J>)
         requires group { claim.old.group ≡ self.old.group }
-        ensures told { claim.old.told ≡ self.old.content }
+        ensures recorded { claim.old.recorded ≡ self.old.content }
         ensures content { self.new ≡ with_content self.old (committed_by claim.old.mode claim.old.left self.old.content) }
         ensures claim { claim.new ≡ settled claim.old }
     {

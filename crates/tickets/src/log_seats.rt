@@ -2,7 +2,7 @@
 ghost use Rattle.std.specs.Prelude.{◌≡◌, ℕ, ◌+◌, ◌-◌, ◌*◌, ◌<◌, ◌≤◌, All, map};
 ghost use Rattle.tickets.specs.Claims.{settled, all_claims};
 ghost use Rattle.tickets.specs.Committed.{all_settled};
-ghost use Rattle.tickets.specs.LogSeats.{after_all, after_one, IsToldIn};
+ghost use Rattle.tickets.specs.LogSeats.{after_all, after_one, IsRecordedIn};
 ghost use Rattle.tickets.specs.Places as spec;
 
 use crate::places::place_of;
@@ -22,9 +22,9 @@ impl<J: GroupNames> Model for LogSeats<J> {
     ghost use Rattle.std.specs.Coded.{codes};
     ghost use Rattle.std.specs.Prelude.{List};
     ghost use Rattle.groups.specs.contracts.content.Content as content;
-    ghost use Rattle.tickets.specs.LogSeats.{Committed};
+    ghost use Rattle.tickets.specs.LogSeats.{CommittedGroup};
 
-    ghost Value = { List Committed };
+    ghost Value = { List CommittedGroup };
 
     ghost coded = { Prim.hlevel (codes, content.the_row.coded) };
 
@@ -46,7 +46,7 @@ impl<J: GroupNames> LogSeats<J> {
 
     /// Learns that a claim tells what is committed in its group.
     pub fn look(&mut self, claim: &mut Claim<J>)
-        ensures told { IsToldIn self.old claim.old }
+        ensures recorded { IsRecordedIn self.old claim.old }
         ensures same { (self.new ≡ self.old) × (claim.new ≡ claim.old) }
     {
         let place = place_of::<J>(claim.group);
@@ -55,7 +55,7 @@ impl<J: GroupNames> LogSeats<J> {
 
     /// What an exclusive claim left in its group is committed from now on. A shared claim changes nothing.
     pub fn settle(&mut self, claim: &mut Claim<J>)
-        ensures told { IsToldIn self.old claim.old }
+        ensures recorded { IsRecordedIn self.old claim.old }
         ensures contents { self.new ≡ map (after_one claim.old) self.old }
         ensures claim { claim.new ≡ settled claim.old }
     {
@@ -65,7 +65,7 @@ impl<J: GroupNames> LogSeats<J> {
 
     /// Learns that claims tell what is committed in their groups.
     pub fn look_all(&mut self, claims: &mut [Claim<J>])
-        ensures told { All (IsToldIn self.old) claims.old }
+        ensures recorded { All (IsRecordedIn self.old) claims.old }
         ensures same { (self.new ≡ self.old) × (claims.new ≡ claims.old) }
     {
         for k in 0..claims.len() {
@@ -86,7 +86,7 @@ impl<J: GroupNames> LogSeats<J> {
 
     /// Learns that the claims of these actions tell what is committed in their groups.
     pub fn look_each(&mut self, held: &mut [Claims<J>])
-        ensures told { All (IsToldIn self.old) (all_claims held.old) }
+        ensures recorded { All (IsRecordedIn self.old) (all_claims held.old) }
         ensures same { (self.new ≡ self.old) × (held.new ≡ held.old) }
     {
         for k in 0..held.len() {
@@ -106,7 +106,7 @@ impl<J: GroupNames> LogSeats<J> {
     }
 
     fn look_action(&mut self, action: &mut Claims<J>)
-        ensures told { All (IsToldIn self.old) action.old }
+        ensures recorded { All (IsRecordedIn self.old) action.old }
         ensures same { (self.new ≡ self.old) × (action.new ≡ action.old) }
     {
         self.look_all(action.claims.as_mut_slice());

@@ -5,7 +5,7 @@ ghost use Rattle.tickets.specs.Openings.{AreNamed, boxes_beside, contents_commit
 ghost use Rattle.tickets.specs.Places.{AreInPlace, IsGroupOf};
 ghost use Rattle.tickets.specs.Unset.{nothing};
 
-use crate::work::{Leaves, Told, Work};
+use crate::work::{Leaves, CommittedContent, Work};
 use crate::{GroupNames, LogSeat, LogSeats, TicketBox, group_at};
 use agreement::{Change, Seat};
 use groups::{Content, Mode};
@@ -16,18 +16,18 @@ use std::marker::{Model, PhantomData};
 /// The seats of a new group, before its agreements have a name.
 #[derive(Drop)]
 pub struct GroupSeats {
-    log: Seat<Told>,
-    tickets: Seat<Told>,
+    log: Seat<CommittedContent>,
+    tickets: Seat<CommittedContent>,
     work: Seat<Work>,
-    spare: Vec<(Seat<Told>, Seat<Work>)>,
+    spare: Vec<(Seat<CommittedContent>, Seat<Work>)>,
 }
 
 impl Model for GroupSeats {
     ghost use Rattle.std.specs.Coded.{codes};
     ghost use Rattle.groups.specs.contracts.content.Content as content;
-    ghost use Rattle.tickets.specs.Openings.{Opened};
+    ghost use Rattle.tickets.specs.Openings.{OpenedGroup};
 
-    ghost Value = { Opened };
+    ghost Value = { OpenedGroup };
 
     ghost coded = { Prim.hlevel (codes, content.the_row.coded) };
 
@@ -122,9 +122,9 @@ pub fn named_all<J: GroupNames>(
 // A pair of spent seats for each ticket.
 fn spent_pairs(
     alloc: Global,
-    tickets: &mut Seat<Told>,
+    tickets: &mut Seat<CommittedContent>,
     work: &mut Seat<Work>,
-) -> Result<Vec<(Seat<Told>, Seat<Work>)>, AllocError>
+) -> Result<Vec<(Seat<CommittedContent>, Seat<Work>)>, AllocError>
     requires tickets { tickets.old.agreement.count ≡ 10 }
     requires work { work.old.agreement.count ≡ 9 }
     ensures same { (tickets.new ≡ tickets.old) × (work.new ≡ work.old) }

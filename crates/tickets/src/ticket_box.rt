@@ -1,9 +1,9 @@
 ghost use Rattle.std.specs.Prelude.{◌≡◌, ◌<◌, ◌≤◌, ◌+◌, ◌⊎◌, List, [], ◌∷◌, IfSome, IfNone};
-ghost use Rattle.groups.specs.declared.wishes.Mode.TheVariants.{Shared, Exclusive};
+ghost use Rattle.groups.specs.declared.group_wants.Mode.TheVariants.{Shared, Exclusive};
 ghost use Rattle.tickets.specs.Claims.{fresh, leaving, HoldsClaim};
 ghost use Rattle.tickets.specs.Boxes.{BoxKeepsCommitted, sharing, lent, taken_back, with_left};
 
-use crate::work::{Leaves, Told, Undone, Work};
+use crate::work::{Leaves, CommittedContent, Undone, Work};
 use crate::{Claim, GroupNames};
 use agreement::{Change, Seat};
 use groups::{Content, Mode};
@@ -23,26 +23,26 @@ pub struct TicketBox<J: GroupNames> {
     pub(crate) group: Group,
     pub(crate) mode: Mode,
     pub(crate) shared: u32,
-    pub(crate) tickets: Seat<Told>,
+    pub(crate) tickets: Seat<CommittedContent>,
     pub(crate) work: Seat<Work>,
-    pub(crate) spare: Vec<(Seat<Told>, Seat<Work>)>,
+    pub(crate) spare: Vec<(Seat<CommittedContent>, Seat<Work>)>,
     pub(crate) names: PhantomData<J>,
 }
 
 impl<J: GroupNames> Model for TicketBox<J> {
     ghost use Rattle.std.specs.Coded.{codes};
     ghost use Rattle.groups.specs.contracts.content.Content as content;
-    ghost use Rattle.tickets.specs.Boxes.{Boxed};
+    ghost use Rattle.tickets.specs.Boxes.{TicketBoxView};
 
-    ghost Value = { Boxed };
+    ghost Value = { TicketBoxView };
 
     ghost coded = { Prim.hlevel (codes, content.the_row.coded) };
 
     ghost use Rattle.std.specs.Prelude.{◌≤◌, vec_len, vec_capacity};
-    ghost use Rattle.tickets.specs.Boxes.{boxed, HoldsBox, AreSpent};
+    ghost use Rattle.tickets.specs.Boxes.{ticket_box_view, HoldsBox, AreSpent};
     ghost use Rattle.tickets.specs.Places.{IsGroupOf};
 
-    ghost view = { λ b. boxed b.group b.mode b.shared b.work.value };
+    ghost view = { λ b. ticket_box_view b.group b.mode b.shared b.work.value };
 
     ghost invariant = { λ b. HoldsBox (J.committed b.group) (J.work b.group) b.mode b.shared b.tickets b.work (vec_len b.spare)
         × ((8 ≤ vec_capacity b.spare) × AreSpent (J.committed b.group) (J.work b.group) b.spare.items)
@@ -165,11 +165,11 @@ impl<J: GroupNames> TicketBox<J> {
     /// Takes a claim on the group back, once what it left is committed. A shared claim left nothing.
     pub fn take_back(&mut self, claim: Claim<J>)
         requires group { claim.group ≡ self.old.group }
-        requires committed { claim.mode ≡ Exclusive → claim.told ≡ claim.left }
+        requires committed { claim.mode ≡ Exclusive → claim.recorded ≡ claim.left }
         ensures mode { claim.mode ≡ self.old.mode }
         ensures some { claim.mode ≡ Shared → (0 < self.old.shared) × (self.old.shared ≤ 8) }
         ensures alone { claim.mode ≡ Exclusive → self.old.shared ≡ 0 }
-        ensures told { claim.told ≡ self.old.left }
+        ensures recorded { claim.recorded ≡ self.old.left }
         ensures ticket_box { self.new ≡ taken_back self.old }
         ensures kept { BoxKeepsCommitted (claim ∷ []) self.old [] self.new }
     {
@@ -188,11 +188,11 @@ impl<J: GroupNames> TicketBox<J> {
     }
 
     // Takes back the seats of a shared claim.
-    fn take_shared(&mut self, mut tickets: Seat<Told>, mut work: Seat<Work>)
+    fn take_shared(&mut self, mut tickets: Seat<CommittedContent>, mut work: Seat<Work>)
         requires { HoldsClaim (J.committed self.old.group) (J.work self.old.group) Shared tickets work }
         ensures mode { self.old.mode ≡ Shared }
         ensures some { (0 < self.old.shared) × (self.old.shared ≤ 8) }
-        ensures told { tickets.value.content ≡ self.old.left }
+        ensures recorded { tickets.value.content ≡ self.old.left }
         ensures ticket_box { self.new ≡ taken_back self.old }
     {
         self.work.gather(&mut work);
@@ -202,12 +202,12 @@ impl<J: GroupNames> TicketBox<J> {
     }
 
     // Takes back the seats of an exclusive claim, which left what is committed.
-    fn take_exclusive(&mut self, mut tickets: Seat<Told>, mut work: Seat<Work>)
+    fn take_exclusive(&mut self, mut tickets: Seat<CommittedContent>, mut work: Seat<Work>)
         requires holds { HoldsClaim (J.committed self.old.group) (J.work self.old.group) Exclusive tickets work }
         requires committed { tickets.value.content ≡ work.value.left }
         ensures mode { self.old.mode ≡ Exclusive }
         ensures alone { self.old.shared ≡ 0 }
-        ensures told { tickets.value.content ≡ self.old.left }
+        ensures recorded { tickets.value.content ≡ self.old.left }
         ensures ticket_box { self.new ≡ taken_back self.old }
     {
         self.work.gather(&mut work);

@@ -2,12 +2,12 @@ use agreement::{Change, Seat, Value};
 use groups::{Content, Mode};
 
 /// What the tickets of a group tell. No value of it is made.
-pub struct Told {
+pub struct CommittedContent {
     /// What is committed in the group.
     pub content: Content,
 }
 
-impl Value for Told {
+impl Value for CommittedContent {
     ghost use Rattle.tickets.specs.Unset.{nothing};
 
     ghost initial = { record { content = nothing } };
@@ -25,13 +25,13 @@ pub struct Work {
 
 impl Value for Work {
     ghost use Rattle.tickets.specs.Unset.{nothing};
-    ghost use Rattle.groups.specs.declared.wishes.Mode.TheVariants.{Shared};
+    ghost use Rattle.groups.specs.declared.group_wants.Mode.TheVariants.{Shared};
 
     ghost initial = { record { mode = Shared; left = nothing; back = nothing } };
 }
 
 /// What a claim left is committed.
-impl Change<Told> for Seat<Work> {
+impl Change<CommittedContent> for Seat<Work> {
     ghost changed = { λ seat before. record { content = seat.value.left } };
 }
 

@@ -6,16 +6,16 @@ use Rattle.command_line.specs.declared.settings.check.CheckSettings.{CheckSettin
 use Rattle.command_line.specs.declared.status.Status.{Status}
 use Rattle.tpcc.specs.Check.{CheckEnds, ChecksSome}
 use Rattle.tpcc.specs.EarlyEnds.{IsOfChecking}
-use Rattle.tpcc.specs.Faults.{Tells, status_of}
+use Rattle.tpcc.specs.Faults.{Reports, status_of}
 use Rattle.tpcc.proofs.EarlyTellings.{ends_early}
 
-module _ (s : CheckSettings) (source : Option (List ℕ)) (lasts : Type 0) (before after : Option (List ℕ)) (told told' : Option (List CommandFault)) where
+module _ (s : CheckSettings) (source : Option (List ℕ)) (lasts : Type 0) (before after : Option (List ℕ)) (reported told' : Option (List CommandFault)) where
   no_condition : (condition : ℕ) → IsOfChecking s source lasts (fault.NotConsistent condition) → ⊥
   no_condition condition (inl a) = a
   no_condition condition (inr a) = a
 
-  pub check_ends_early : (of : CommandFault) (ended : Status) → ended ≡ status_of of → ChecksSome s.fresh source before after → IsOfChecking s source lasts of → Tells told told' of
-      → CheckEnds s source lasts before after told told' ended
-  check_ends_early of ended is some said tells =
-      ends_early (IsOfChecking s source lasts) told told' (CheckEnds s source lasts before after told told') no_condition
-      (λ early. (some, early)) (λ early. (some, early)) (λ early. (some, early)) of ended is said tells
+  pub check_ends_early : (of : CommandFault) (ended : Status) → ended ≡ status_of of → ChecksSome s.fresh source before after → IsOfChecking s source lasts of → Reports reported told' of
+      → CheckEnds s source lasts before after reported told' ended
+  check_ends_early of ended is some said reports =
+      ends_early (IsOfChecking s source lasts) reported told' (CheckEnds s source lasts before after reported told') no_condition
+      (λ early. (some, early)) (λ early. (some, early)) (λ early. (some, early)) of ended is said reports

@@ -5,8 +5,8 @@ use Rattle.files.specs.declared.fault.FileError.{FileError}
 use Rattle.files.specs.declared.fault.FileError.TheVariants.{NoMemory, Failed, File}
 use Rattle.files.specs.declared.fault.FileFault.{FileFault}
 use Rattle.files.specs.Failure.{IsOfText, IsOfWriting as IsOfSink}
-use Rattle.files.specs.FirstFault.{TellsFault}
-use Rattle.dataset.specs.FirstFault.{IsFaultOf, Tells}
+use Rattle.files.specs.FirstFault.{ReportsFault}
+use Rattle.dataset.specs.FirstFault.{IsFaultOf, Reports}
 use Rattle.tpcc.specs.declared.command_fault.CommandFault.{CommandFault}
 use Rattle.terminals.specs.FirstFault.{moves_fault}
 use Rattle.tpcc.specs.EarlyEnds.{IsOfMoves}
@@ -15,18 +15,18 @@ use Rattle.tpcc.specs.Faults.{IsFirst, IsOfReading, IsOfWriting, IsOfWritingSome
 module _ (path : Bor (List ℕ)) (source : Option (List ℕ)) (lasts : Type 0) where
   of_read : (IsFault : List (List (List ℕ)) → FileFault → Type 0) (error : FileError) (f : CommandFault) → f ≡ fault_of_file path error → (lasts → IsOfText error)
       → ((of : FileFault) → error ≡ File of → OfRecords source (λ rows. IsFault rows of)) → IsOfReading path.now source lasts IsFault f
-  of_read IsFault NoMemory f is fine told = subst (IsOfReading path.now source lasts IsFault) (sym is) tt
-  of_read IsFault (Failed number) f is fine told = subst (IsOfReading path.now source lasts IsFault) (sym is) (refl, fine)
-  of_read IsFault (File of) f is fine told = subst (IsOfReading path.now source lasts IsFault) (sym is) (refl, told of refl)
+  of_read IsFault NoMemory f is fine reported = subst (IsOfReading path.now source lasts IsFault) (sym is) tt
+  of_read IsFault (Failed number) f is fine reported = subst (IsOfReading path.now source lasts IsFault) (sym is) (refl, fine)
+  of_read IsFault (File of) f is fine reported = subst (IsOfReading path.now source lasts IsFault) (sym is) (refl, reported of refl)
 
   -- of a dataset
-  pub of_tables : (error : FileError) (f : CommandFault) → f ≡ fault_of_file path error → (lasts → IsOfText error) → OfRecords source (λ rows. Tells rows error) → IsOfReading path.now source lasts IsFaultOf f
-  of_tables error f is fine told = of_read IsFaultOf error f is fine (λ of e text rows known csv few. subst (Tells rows) e (told text rows known csv few))
+  pub of_tables : (error : FileError) (f : CommandFault) → f ≡ fault_of_file path error → (lasts → IsOfText error) → OfRecords source (λ rows. Reports rows error) → IsOfReading path.now source lasts IsFaultOf f
+  of_tables error f is fine reported = of_read IsFaultOf error f is fine (λ of e text rows known csv few. subst (Reports rows) e (reported text rows known csv few))
 
   -- of records whose first fault is such
   pub of_records : (first : List (List (List ℕ)) → Option FileFault) (error : FileError) (f : CommandFault) → f ≡ fault_of_file path error → (lasts → IsOfText error)
-      → OfRecords source (λ rows. TellsFault error (first rows)) → IsOfReading path.now source lasts (IsFirst first) f
-  of_records first error f is fine told = of_read (IsFirst first) error f is fine (λ of e text rows known csv few. subst (λ x. TellsFault x (first rows)) e (told text rows known csv few))
+      → OfRecords source (λ rows. ReportsFault error (first rows)) → IsOfReading path.now source lasts (IsFirst first) f
+  of_records first error f is fine reported = of_read (IsFirst first) error f is fine (λ of e text rows known csv few. subst (λ x. ReportsFault x (first rows)) e (reported text rows known csv few))
 
 -- of a file that is written
 pub of_sink : (path : Bor (List ℕ)) (error : FileError) (f : CommandFault) → f ≡ fault_of_file path error → IsOfSink error → IsOfWriting path.now f

@@ -14,7 +14,7 @@ use Rattle.history.specs.declared.schedule.Output.TheVariants as output
 use Rattle.history.specs.History.{Step, step}
 use Rattle.history.specs.Fits.{IsLoggedBelow}
 use Rattle.history.specs.Schedules.{Turn, Round, Plays, Follows, EndAs, outputs_in_round, outputs_of_turn, outputs_of_round, steps_from, steps_of_round}
-use Rattle.terminals.specs.Outputs.{IsToldBelow, NameEntries}
+use Rattle.terminals.specs.Outputs.{IsReportedBelow, NameEntries}
 use Rattle.world.specs.declared.simulating.Simulation.{Simulation}
 use Rattle.world.specs.Openings.{Simulates}
 
@@ -29,70 +29,70 @@ module _ (n : ℕ) where
   abbrev IsStepBelow : Step → Type 0
   IsStepBelow s = IsLoggedBelow n s.answer
 
-  told_in_round : (answer : EventAnswer) → IsLoggedBelow n answer → All (IsToldBelow n) (outputs_in_round answer)
-  told_in_round Took h = All-nil (IsToldBelow n)
-  told_in_round Sent h = All-nil (IsToldBelow n)
-  told_in_round Full h = All-nil (IsToldBelow n)
-  told_in_round Nothing h = All-nil (IsToldBelow n)
-  told_in_round (Accepted age) h = All-cons (IsToldBelow n) (output.Event (Accepted age)) [] h (All-nil (IsToldBelow n))
-  told_in_round Ordered h = All-cons (IsToldBelow n) (output.Event Ordered) [] h (All-nil (IsToldBelow n))
-  told_in_round (Logged place) h = All-cons (IsToldBelow n) (output.Event (Logged place)) [] h (All-nil (IsToldBelow n))
-  told_in_round Moved h = All-cons (IsToldBelow n) (output.Event Moved) [] h (All-nil (IsToldBelow n))
-  told_in_round (Answered session number answer) h = All-cons (IsToldBelow n) (output.Event (Answered session number answer)) [] h (All-nil (IsToldBelow n))
+  reported_in_round : (answer : EventAnswer) → IsLoggedBelow n answer → All (IsReportedBelow n) (outputs_in_round answer)
+  reported_in_round Took h = All-nil (IsReportedBelow n)
+  reported_in_round Sent h = All-nil (IsReportedBelow n)
+  reported_in_round Full h = All-nil (IsReportedBelow n)
+  reported_in_round Nothing h = All-nil (IsReportedBelow n)
+  reported_in_round (Accepted age) h = All-cons (IsReportedBelow n) (output.Event (Accepted age)) [] h (All-nil (IsReportedBelow n))
+  reported_in_round Ordered h = All-cons (IsReportedBelow n) (output.Event Ordered) [] h (All-nil (IsReportedBelow n))
+  reported_in_round (Logged place) h = All-cons (IsReportedBelow n) (output.Event (Logged place)) [] h (All-nil (IsReportedBelow n))
+  reported_in_round Moved h = All-cons (IsReportedBelow n) (output.Event Moved) [] h (All-nil (IsReportedBelow n))
+  reported_in_round (Answered session number answer) h = All-cons (IsReportedBelow n) (output.Event (Answered session number answer)) [] h (All-nil (IsReportedBelow n))
 
-  told_of_turns : (executor : ℕ) (turns : List Turn) → All IsStepBelow (steps_from executor turns) → All (IsToldBelow n) (flat_map outputs_of_turn turns)
-  told_of_turns executor [] h = All-nil (IsToldBelow n)
-  told_of_turns executor (t ∷ turns) h =
+  reported_of_turns : (executor : ℕ) (turns : List Turn) → All IsStepBelow (steps_from executor turns) → All (IsReportedBelow n) (flat_map outputs_of_turn turns)
+  reported_of_turns executor [] h = All-nil (IsReportedBelow n)
+  reported_of_turns executor (t ∷ turns) h =
       let take = step (event.Take executor) t.took in
       let send = step (event.Send executor) t.sent in
       let rest = steps_from (executor + 1) turns in
       let later = All-tail IsStepBelow take (send ∷ rest) h in
-      All-append (IsToldBelow n) (outputs_of_turn t) (flat_map outputs_of_turn turns)
-      (All-append (IsToldBelow n) (outputs_in_round t.took) (outputs_in_round t.sent)
-      (told_in_round t.took (All-head IsStepBelow take (send ∷ rest) h)) (told_in_round t.sent (All-head IsStepBelow send rest later)))
-      (told_of_turns (executor + 1) turns (All-tail IsStepBelow send rest later))
+      All-append (IsReportedBelow n) (outputs_of_turn t) (flat_map outputs_of_turn turns)
+      (All-append (IsReportedBelow n) (outputs_in_round t.took) (outputs_in_round t.sent)
+      (reported_in_round t.took (All-head IsStepBelow take (send ∷ rest) h)) (reported_in_round t.sent (All-head IsStepBelow send rest later)))
+      (reported_of_turns (executor + 1) turns (All-tail IsStepBelow send rest later))
 
-  told_of_rounds : (rounds : List Round) → All IsStepBelow (flat_map steps_of_round rounds) → All (IsToldBelow n) (flat_map outputs_of_round rounds)
-  told_of_rounds [] h = All-nil (IsToldBelow n)
-  told_of_rounds (r ∷ rounds) h =
+  reported_of_rounds : (rounds : List Round) → All IsStepBelow (flat_map steps_of_round rounds) → All (IsReportedBelow n) (flat_map outputs_of_round rounds)
+  reported_of_rounds [] h = All-nil (IsReportedBelow n)
+  reported_of_rounds (r ∷ rounds) h =
       let both = of_both IsStepBelow (steps_of_round r) (flat_map steps_of_round rounds) h in
-      All-append (IsToldBelow n) (outputs_of_round r) (flat_map outputs_of_round rounds) (told_of_turns 0 r both.0) (told_of_rounds rounds both.1)
+      All-append (IsReportedBelow n) (outputs_of_round r) (flat_map outputs_of_round rounds) (reported_of_turns 0 r both.0) (reported_of_rounds rounds both.1)
 
-  told_of_ending : (rounds : List Round) (ending : Output) → EndAs rounds ending → IsToldBelow n ending
-  told_of_ending rounds output.Quiet h = tt
-  told_of_ending rounds output.Limit h = tt
-  told_of_ending rounds (output.Event answer) h = absurd h
+  reported_of_ending : (rounds : List Round) (ending : Output) → EndAs rounds ending → IsReportedBelow n ending
+  reported_of_ending rounds output.Quiet h = tt
+  reported_of_ending rounds output.Limit h = tt
+  reported_of_ending rounds (output.Event answer) h = absurd h
 
-  told_of_item : (executors : ℕ) (item : Scheduled) (outputs : List Output) (steps : List Step) → Follows executors item outputs steps → All IsStepBelow steps → All (IsToldBelow n) outputs
-  told_of_item executors (scheduled.Event event) outputs steps follows h =
+  reported_of_item : (executors : ℕ) (item : Scheduled) (outputs : List Output) (steps : List Step) → Follows executors item outputs steps → All IsStepBelow steps → All (IsReportedBelow n) outputs
+  reported_of_item executors (scheduled.Event event) outputs steps follows h =
       let answer = follows.0 in
       let one : IsLoggedBelow n answer = All-head IsStepBelow (step event answer) [] (subst (All IsStepBelow) follows.1.1 h) in
-      subst (All (IsToldBelow n)) (sym follows.1.0) (All-cons (IsToldBelow n) (output.Event answer) [] one (All-nil (IsToldBelow n)))
-  told_of_item executors scheduled.Rounds outputs steps follows h =
+      subst (All (IsReportedBelow n)) (sym follows.1.0) (All-cons (IsReportedBelow n) (output.Event answer) [] one (All-nil (IsReportedBelow n)))
+  reported_of_item executors scheduled.Rounds outputs steps follows h =
       let rounds = follows.0 in
       let ending = follows.1.0 in
       let rest = follows.1.1 in
-      subst (All (IsToldBelow n)) (sym rest.0) (
-      All-append (IsToldBelow n) (flat_map outputs_of_round rounds) (ending ∷ [])
-      (told_of_rounds rounds (subst (All IsStepBelow) rest.1.0 h))
-      (All-cons (IsToldBelow n) ending [] (told_of_ending rounds ending rest.1.1.1) (All-nil (IsToldBelow n)))
+      subst (All (IsReportedBelow n)) (sym rest.0) (
+      All-append (IsReportedBelow n) (flat_map outputs_of_round rounds) (ending ∷ [])
+      (reported_of_rounds rounds (subst (All IsStepBelow) rest.1.0 h))
+      (All-cons (IsReportedBelow n) ending [] (reported_of_ending rounds ending rest.1.1.1) (All-nil (IsReportedBelow n)))
       )
 
-  told_of_all : (executors : ℕ) (schedule : List Scheduled) (outputs : List Output) (steps : List Step) → Plays executors schedule outputs steps → All IsStepBelow steps → All (IsToldBelow n) outputs
-  told_of_all executors [] outputs steps plays h = subst (All (IsToldBelow n)) (sym plays.0) (All-nil (IsToldBelow n))
-  told_of_all executors (item ∷ schedule) outputs steps plays h =
+  reported_of_all : (executors : ℕ) (schedule : List Scheduled) (outputs : List Output) (steps : List Step) → Plays executors schedule outputs steps → All IsStepBelow steps → All (IsReportedBelow n) outputs
+  reported_of_all executors [] outputs steps plays h = subst (All (IsReportedBelow n)) (sym plays.0) (All-nil (IsReportedBelow n))
+  reported_of_all executors (item ∷ schedule) outputs steps plays h =
       let first = plays.0 in
       let rest = plays.1.0 in
       let begun = plays.1.1.0 in
       let later = plays.1.1.1.0 in
       let all = plays.1.1.1.1 in
       let both = of_both IsStepBelow begun later (subst (All IsStepBelow) all.1.0 h) in
-      subst (All (IsToldBelow n)) (sym all.0) (
-      All-append (IsToldBelow n) first rest (told_of_item executors item first begun all.1.1.0 both.0) (told_of_all executors schedule rest later all.1.1.1 both.1)
+      subst (All (IsReportedBelow n)) (sym all.0) (
+      All-append (IsReportedBelow n) first rest (reported_of_item executors item first begun all.1.1.0 both.0) (reported_of_all executors schedule rest later all.1.1.1 both.1)
       )
 
 -- so does what is told of a simulation
 pub outputs_named : (opening : Database) (executors : ℕ) (schedule : List Scheduled) (s : Simulation) → Simulates Brand opening executors schedule s → NameEntries s.log.items s.outputs.items
 outputs_named opening executors schedule s simulates =
-    told_of_all (length s.log.items) executors schedule s.outputs.items simulates.steps simulates.plays
-    (subst (λ log. All (λ x. IsLoggedBelow (length log) x.answer) simulates.steps) (sym simulates.log) simulates.fits.told.named)
+    reported_of_all (length s.log.items) executors schedule s.outputs.items simulates.steps simulates.plays
+    (subst (λ log. All (λ x. IsLoggedBelow (length log) x.answer) simulates.steps) (sym simulates.log) simulates.fits.reported.named)

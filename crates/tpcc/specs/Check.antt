@@ -30,19 +30,19 @@ module _ (fresh : Bool) where
   abbrev pub ChecksSome : Option (List ℕ) → Option (List ℕ) → Option (List ℕ) → Type 0
   ChecksSome «data» before after = (after ≡ before) ⊎ ((answers : List Bool) × IsChecked «data» answers × Begins before after (verdicts_text answers))
 
-module _ (fresh : Bool) («data» before after : Option (List ℕ)) (told told' : Option (List CommandFault)) where
+module _ (fresh : Bool) («data» before after : Option (List ℕ)) (reported told' : Option (List CommandFault)) where
   -- of the tables that the source gives each condition was told, line by line; one of them is broken, or none
   pub record Checks (broken : Bool) : Type 0 where
     pub answers : List Bool
     pub is_checked : IsChecked «data» answers
     pub printed : Appends before after (verdicts_text fresh answers)
     pub any_broken : broken ≡ list_any (λ verdict. is_broken verdict.found) (verdicts_of fresh 1 answers)
-    pub no_fault : told' ≡ told
+    pub no_fault : told' ≡ reported
 
-module _ (s : CheckSettings) («data» : Option (List ℕ)) (lasts : Type 0) (before after : Option (List ℕ)) (told told' : Option (List CommandFault)) where
+module _ (s : CheckSettings) («data» : Option (List ℕ)) (lasts : Type 0) (before after : Option (List ℕ)) (reported told' : Option (List CommandFault)) where
   -- by the exit status: none is broken; one is; or a fault was told, that of the dataset, or that printing failed, and of the lines a beginning
   -- at most
   abbrev pub CheckEnds : Status → Type 0
-  CheckEnds status.Success = Checks s.fresh «data» before after told told' false
-  CheckEnds status.NotConsistent = Checks s.fresh «data» before after told told' true
-  CheckEnds ended = ChecksSome s.fresh «data» before after × EndsEarly (IsOfChecking s «data» lasts) told told' ended
+  CheckEnds status.Success = Checks s.fresh «data» before after reported told' false
+  CheckEnds status.NotConsistent = Checks s.fresh «data» before after reported told' true
+  CheckEnds ended = ChecksSome s.fresh «data» before after × EndsEarly (IsOfChecking s «data» lasts) reported told' ended

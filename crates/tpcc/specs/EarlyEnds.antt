@@ -41,15 +41,15 @@ IsOfChecking s source lasts of = IsOfReading s.«data».now source lasts IsFault
 -- ---- replay
 
 -- what is printed, or the file of the last tables
-abbrev pub IsOfTelling : ReplaySettings → CommandFault → Type 0
-IsOfTelling s of = IsOfWriting standard_output of ⊎ IsOfWritingSome s.tables of
+abbrev pub ReplayMayReport : ReplaySettings → CommandFault → Type 0
+ReplayMayReport s of = IsOfWriting standard_output of ⊎ IsOfWritingSome s.tables of
 
 -- the dataset; or, as that are tables, the log; or what is written
 abbrev pub IsOfReplaying : ReplaySettings → Option (List ℕ) → Type 0 → Option (List ℕ) → Type 0 → CommandFault → Type 0
 IsOfReplaying s «data» data_lasts log log_lasts of =
     IsOfReading s.«data».now «data» data_lasts IsFaultOf of
     ⊎ (GivesTables «data» × IsOfReading s.log.now log log_lasts (IsFirst log_fault) of)
-    ⊎ IsOfTelling s of
+    ⊎ ReplayMayReport s of
 
 -- ---- run
 
@@ -77,8 +77,8 @@ module _ {S : Type 0} (remaining : S → Option (List ℕ)) (lasts : S → Type 
   IsOfMoves (Some path) (Some source) of = IsOfReading path.now (remaining source) (lasts source) (IsFirst moves_fault) of
 
   -- What is read: the dataset; or, as that are tables, a script; or, as all are scripts, the moves.
-  abbrev pub IsOfAsking : RunSettings → Option (List ℕ) → Type 0 → List S → Option S → CommandFault → Type 0
-  IsOfAsking s «data» data_lasts scripts moves of =
+  abbrev pub RunMayReport : RunSettings → Option (List ℕ) → Type 0 → List S → Option S → CommandFault → Type 0
+  RunMayReport s «data» data_lasts scripts moves of =
       IsOfReading s.«data».now «data» data_lasts IsFaultOf of
       ⊎ (GivesTables «data» × (IsOfScripts s.scripts.items scripts of ⊎ (GiveScripts scripts × IsOfMoves s.moves moves of)))
 
@@ -106,7 +106,7 @@ module _ {S : Type 0} (remaining : S → Option (List ℕ)) (lasts : S → Type 
   -- what is read, what is served, or what is written
   abbrev pub IsOfRunning : RunSettings → Option (List ℕ) → Type 0 → List S → Option S → CommandFault → Type 0
   IsOfRunning s «data» data_lasts scripts moves of =
-      IsOfAsking remaining lasts s «data» data_lasts scripts moves of
+      RunMayReport remaining lasts s «data» data_lasts scripts moves of
       ⊎ IsOfServing «data» s.executors (option_map remaining moves) of
       ⊎ IsOfAnswering s of
 

@@ -2,7 +2,7 @@
 use Rattle.std.specs.Prelude.{◌≡◌, ℕ, List, [], ◌∷◌, ◌++◌, Option, None, Some}
 use Rattle.files.specs.Place.{IsCsv}
 use Rattle.files.specs.Sending.{Writes}
-use Rattle.tpcc.specs.Shelf.{Shelves}
+use Rattle.tpcc.specs.OutputFiles.{Shelves}
 
 -- where it is known what a source gives, that is the text of records of which this is said
 abbrev pub Gives : Option (List ℕ) → (List (List (List ℕ)) → Type 0) → Type 0

@@ -81,28 +81,28 @@ abbrev pub standard_output : List ℕ
 standard_output = codes "standard output"
 
 -- how a fault is told, and the line that tells it; that reading or writing failed has the number 10
-abbrev pub told_text : CommandFault → List ℕ
-told_text fault.NoMemory = codes "no memory"
-told_text (fault.File path of) = shown path.now ++ (codes ": " ++ fault_text (fault_number of.kind) of.«record»)
-told_text (fault.Failed path number) = shown path.now ++ (codes ": " ++ fault_text 10 number)
-told_text (fault.NotConsistent condition) = codes "not consistent: " ++ decimal condition
-told_text (fault.BadMove place) = codes "bad move: " ++ decimal place
-told_text (fault.NoWarehouse warehouse) = codes "no warehouse: " ++ decimal warehouse
-told_text fault.NoThread = codes "no thread"
-told_text fault.Unsettled = codes "unsettled"
-told_text fault.NotIdle = codes "not idle"
+abbrev pub reported_text : CommandFault → List ℕ
+reported_text fault.NoMemory = codes "no memory"
+reported_text (fault.File path of) = shown path.now ++ (codes ": " ++ fault_text (fault_number of.kind) of.«record»)
+reported_text (fault.Failed path number) = shown path.now ++ (codes ": " ++ fault_text 10 number)
+reported_text (fault.NotConsistent condition) = codes "not consistent: " ++ decimal condition
+reported_text (fault.BadMove place) = codes "bad move: " ++ decimal place
+reported_text (fault.NoWarehouse warehouse) = codes "no warehouse: " ++ decimal warehouse
+reported_text fault.NoThread = codes "no thread"
+reported_text fault.Unsettled = codes "unsettled"
+reported_text fault.NotIdle = codes "not idle"
 
-abbrev pub told_line : CommandFault → List ℕ
-told_line of = codes "tpcc: " ++ (told_text of ++ (10 ∷ []))
+abbrev pub reported_line : CommandFault → List ℕ
+reported_line of = codes "tpcc: " ++ (reported_text of ++ (10 ∷ []))
 
 -- where it is known which faults were told, this one was told after them
-abbrev pub Tells : Option (List CommandFault) → Option (List CommandFault) → CommandFault → Type 0
-Tells None told' fault = Unit {0}
-Tells (Some faults) told' fault = told' ≡ Some (faults ++ fault ∷ [])
+abbrev pub Reports : Option (List CommandFault) → Option (List CommandFault) → CommandFault → Type 0
+Reports None told' fault = Unit {0}
+Reports (Some faults) told' fault = told' ≡ Some (faults ++ fault ∷ [])
 
 -- a command ended early for a fault of which this is said: it was told, and the status is the fault's
-pub record EndsEarly (IsSaid : CommandFault → Type 0) (told told' : Option (List CommandFault)) (status : Status) : Type 0 where
+pub record EndsEarly (IsSaid : CommandFault → Type 0) (reported told' : Option (List CommandFault)) (status : Status) : Type 0 where
   pub fault : CommandFault
   pub said : IsSaid fault
-  pub tells : Tells told told' fault
+  pub reports : Reports reported told' fault
   pub ends : status ≡ status_of fault

@@ -1,5 +1,5 @@
 pub mod OtherName
-pub mod Shelf
+pub mod OutputFiles
 pub mod Tally
 pub mod Edges
 pub mod Sim

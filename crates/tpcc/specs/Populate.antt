@@ -7,13 +7,13 @@ use Rattle.dataset.specs.Records.{AreRecords}
 use Rattle.tpcc.specs.declared.command_fault.CommandFault.{CommandFault}
 use Rattle.command_line.specs.declared.status.Status.{Status}
 use Rattle.command_line.specs.declared.status.Status.TheVariants as status
-use Rattle.tpcc.specs.Shelf.{Shelves}
+use Rattle.tpcc.specs.OutputFiles.{Shelves}
 use Rattle.files.specs.Sending.{Writes}
 use Rattle.command_line.specs.declared.settings.populate.PopulateSettings.{PopulateSettings}
 use Rattle.tpcc.specs.Faults.{IsOfWriting, EndsEarly}
 
 module _ {F : Type 0} (contents : F → Option (List ℕ)) (scale : Scale) (seed now : ℕ) (file : F)
-    (named named' : Option (List (Option (List ℕ)))) (told told' : Option (List CommandFault)) where
+    (named named' : Option (List (Option (List ℕ)))) (reported told' : Option (List CommandFault)) where
   -- the file has got its name, with the records of the tables that the benchmark begins with, of that scale, seed and moment
   pub record Populates : Type 0 where
     pub tables : Database
@@ -21,10 +21,10 @@ module _ {F : Type 0} (contents : F → Option (List ℕ)) (scale : Scale) (seed
     pub text : Option (List ℕ)
     pub written : Writes (contents file) text (AreRecords tables)
     pub shelved : Shelves named named' text
-    pub no_fault : told' ≡ told
+    pub no_fault : told' ≡ reported
 
-module _ {F : Type 0} (contents : F → Option (List ℕ)) (s : PopulateSettings) (file : F) (named named' : Option (List (Option (List ℕ)))) (told told' : Option (List CommandFault)) where
+module _ {F : Type 0} (contents : F → Option (List ℕ)) (s : PopulateSettings) (file : F) (named named' : Option (List (Option (List ℕ)))) (reported told' : Option (List CommandFault)) where
   -- by the exit status: the file is there; or it has not got its name, and a fault was told
   abbrev pub PopulateEnds : Status → Type 0
-  PopulateEnds status.Success = Populates contents s.scale s.seed s.now file named named' told told'
-  PopulateEnds ended = (named' ≡ named) × EndsEarly (IsOfWriting s.file.now) told told' ended
+  PopulateEnds status.Success = Populates contents s.scale s.seed s.now file named named' reported told'
+  PopulateEnds ended = (named' ≡ named) × EndsEarly (IsOfWriting s.file.now) reported told' ended

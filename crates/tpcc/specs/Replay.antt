@@ -33,10 +33,10 @@ found_of entries (Differs place) = found.Differs place
 module _ {F : Type 0} (contents : F → Option (List ℕ)) (file : Option F) (before after : Option (List ℕ)) (named named' : Option (List (Option (List ℕ)))) where
   -- what a replay of the entries came to was told, with this exit status; where all are equal, the file, if there is one, has got its
   -- name with the records of the last tables, and else no file has got a name
-  abbrev pub TellsReplay : List Entry → Replay → Status → Type 0
-  TellsReplay entries (Equal last) ended =
+  abbrev pub ReportsReplay : List Entry → Replay → Status → Type 0
+  ReportsReplay entries (Equal last) ended =
       (ended ≡ status.Success) × Appends before after (lines_text (found_text (found.Equal (length entries)) ∷ [])) × NamesFile contents file named named' (AreRecords last)
-  TellsReplay entries (Differs place) ended =
+  ReportsReplay entries (Differs place) ended =
       (ended ≡ status.NotConsistent) × Appends before after (lines_text (found_text (found.Differs place) ∷ [])) × (named' ≡ named)
 
 -- the log's requests, which are those of these entries, were carried out from the tables on that the source gives, with this result
@@ -48,11 +48,11 @@ pub record IsReplayed («data» log : Option (List ℕ)) (entries : List Entry) 
 
 module _ («data» log before after : Option (List ℕ)) where
   -- they were, and that was told
-  pub record Replays (told told' : Option (List CommandFault)) (replay : Replay) : Type 0 where
+  pub record Replays (reported told' : Option (List CommandFault)) (replay : Replay) : Type 0 where
     pub entries : List Entry
     pub is_replayed : IsReplayed «data» log entries replay
     pub printed : Appends before after (lines_text (found_text (found_of entries replay) ∷ []))
-    pub no_fault : told' ≡ told
+    pub no_fault : told' ≡ reported
 
   -- nothing was told; or they were carried out, and of the line that tells it a beginning was told
   abbrev pub ReplaysSome : Type 0
@@ -61,11 +61,11 @@ module _ («data» log before after : Option (List ℕ)) where
       ⊎ ((entries : List Entry) × (replay : Replay) × IsReplayed «data» log entries replay × Begins before after (lines_text (found_text (found_of entries replay) ∷ [])))
 
 module _ {F : Type 0} (contents : F → Option (List ℕ)) (file : Option F) (s : ReplaySettings) («data» : Option (List ℕ)) (data_lasts : Type 0) (log : Option (List ℕ)) (log_lasts : Type 0)
-    (before after : Option (List ℕ)) (named named' : Option (List (Option (List ℕ)))) (told told' : Option (List CommandFault)) where
+    (before after : Option (List ℕ)) (named named' : Option (List (Option (List ℕ)))) (reported told' : Option (List CommandFault)) where
   -- By the exit status: every entry is equal, and the file, if there is one, has got its name with the records of the machine's
   -- last tables; an entry differs, and no file has got a name; or so it is, and a fault was told, that of
   -- the dataset, of the log, or of what is written, and of the line a beginning at most.
   abbrev pub ReplayEnds : Status → Type 0
-  ReplayEnds status.Success = (last : Database) × Replays «data» log before after told told' (Equal last) × NamesFile contents file named named' (AreRecords last)
-  ReplayEnds status.NotConsistent = (place : ℕ) × Replays «data» log before after told told' (Differs place) × (named' ≡ named)
-  ReplayEnds ended = (named' ≡ named) × ReplaysSome «data» log before after × EndsEarly (IsOfReplaying s «data» data_lasts log log_lasts) told told' ended
+  ReplayEnds status.Success = (last : Database) × Replays «data» log before after reported told' (Equal last) × NamesFile contents file named named' (AreRecords last)
+  ReplayEnds status.NotConsistent = (place : ℕ) × Replays «data» log before after reported told' (Differs place) × (named' ≡ named)
+  ReplayEnds ended = (named' ≡ named) × ReplaysSome «data» log before after × EndsEarly (IsOfReplaying s «data» data_lasts log log_lasts) reported told' ended

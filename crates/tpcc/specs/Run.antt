@@ -20,20 +20,20 @@ use Rattle.tpcc.specs.Edges.{Gives, NamesFile}
 
 -- wherever a place answers a request, the log has an entry there
 abbrev pub AreAllInLog : List Entry → List (List (Result ℕ Refusal)) → Type 0
-AreAllInLog log answers = (session : ℕ) (told : List (Result ℕ Refusal)) → slice_get answers session ≡ Some told → AreInLog log told
+AreAllInLog log answers = (session : ℕ) (reported : List (Result ℕ Refusal)) → slice_get answers session ≡ Some reported → AreInLog log reported
 
 -- the records of the answers to each session from this one on, with the replies of this log: by sessions, and those of a session by number
 abbrev pub AreAllAnswers : List Entry → ℕ → List (List (Result ℕ Refusal)) → List (List (List ℕ)) → Type 0
 AreAllAnswers log session [] rows = rows ≡ []
-AreAllAnswers log session (told ∷ others) rows =
-    (these : List (List (List ℕ))) × (rest : List (List (List ℕ))) × AreAnswers log session told these × AreAllAnswers log (session + 1) others rest × (rows ≡ these ++ rest)
+AreAllAnswers log session (reported ∷ others) rows =
+    (these : List (List (List ℕ))) × (rest : List (List (List ℕ))) × AreAnswers log session reported these × AreAllAnswers log (session + 1) others rest × (rows ≡ these ++ rest)
 
 -- the records of the first of these answers: those of some sessions, and some number of the first of the next
 abbrev pub BeginAllAnswers : List Entry → ℕ → List (List (Result ℕ Refusal)) → List (List (List ℕ)) → Type 0
 BeginAllAnswers log session [] rows = rows ≡ []
-BeginAllAnswers log session (told ∷ others) rows =
-    OfFirst (AreAnswers log session) told rows
-    ⊎ ((these : List (List (List ℕ))) × (rest : List (List (List ℕ))) × AreAnswers log session told these × BeginAllAnswers log (session + 1) others rest × (rows ≡ these ++ rest))
+BeginAllAnswers log session (reported ∷ others) rows =
+    OfFirst (AreAnswers log session) reported rows
+    ⊎ ((these : List (List (List ℕ))) × (rest : List (List (List ℕ))) × AreAnswers log session reported these × BeginAllAnswers log (session + 1) others rest × (rows ≡ these ++ rest))
 
 -- these are the moves that the source gives; if there is none, there are none
 abbrev pub GivesMoves : Option (Option (List ℕ)) → List MoveOrder → Type 0
@@ -79,10 +79,10 @@ module _ {F : Type 0} (contents : F → Option (List ℕ)) («data» : Option (L
       × HandsOutSome contents file tables before after named named' log answers)
 
   -- The scripts that the sources give were served from the tables that `data` gives, and all that came of it was handed out.
-  pub record Serves (told told' : Option (List CommandFault)) : Type 0 where
+  pub record Serves (reported told' : Option (List CommandFault)) : Type 0 where
     pub log : List Entry
     pub last : Database
     pub answers : List (List (Result ℕ Refusal))
     pub are_served : AreServed «data» sources executors moving log last answers
     pub handed_out : HandsOut contents file tables before after named named' log last answers
-    pub no_fault : told' ≡ told
+    pub no_fault : told' ≡ reported

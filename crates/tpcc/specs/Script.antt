@@ -77,5 +77,5 @@ module _ {F : Type 0} (contents : F → Option (List ℕ)) where
   module _ (settings : ScriptSettings) («data» : Option (List ℕ)) (lasts : Type 0) (files : List F) (named named' : Option (List (Option (List ℕ)))) where
     -- by the exit status: all files are there; or the first of them are at most, and a fault was told
     abbrev pub ScriptEnds : Option (List CommandFault) → Option (List CommandFault) → Status → Type 0
-    ScriptEnds told told' status.Success = MakesAll settings «data» files named named' × (told' ≡ told)
-    ScriptEnds told told' ended = MakesSome settings «data» files named named' × EndsEarly (IsOfMaking settings «data» lasts) told told' ended
+    ScriptEnds reported told' status.Success = MakesAll settings «data» files named named' × (told' ≡ reported)
+    ScriptEnds reported told' ended = MakesSome settings «data» files named named' × EndsEarly (IsOfMaking settings «data» lasts) reported told' ended

@@ -18,7 +18,7 @@ use Rattle.terminals.specs.LogRecord.{IsLog}
 use Rattle.terminals.specs.Outputs.{AreOutputs}
 use Rattle.terminals.specs.Schedule.{IsSchedule}
 use Rattle.tpcc.specs.declared.command_fault.CommandFault.{CommandFault}
-use Rattle.tpcc.specs.Shelf.{Shelves}
+use Rattle.tpcc.specs.OutputFiles.{Shelves}
 use Rattle.files.specs.Sending.{BeginsToWrite, OfFirst, Writes}
 use Rattle.tpcc.specs.Edges.{Gives, NamesFile}
 
@@ -71,9 +71,9 @@ module _ {F : Type 0} (contents : F → Option (List ℕ)) where
         × ShowsSome executors schedule simulation log picture tables before after named named')
 
     -- The schedule that its source gives was simulated on the tables that `data` gives, and all that came of it was shown.
-    pub record SimulatesAll (told told' : Option (List CommandFault)) : Type 0 where
+    pub record SimulatesAll (reported told' : Option (List CommandFault)) : Type 0 where
       pub schedule : List Scheduled
       pub simulation : Simulation
       pub is_simulation : IsSimulation «data» source executors schedule simulation
       pub shows : Shows executors schedule simulation log picture tables before after named named'
-      pub no_fault : told' ≡ told
+      pub no_fault : told' ≡ reported

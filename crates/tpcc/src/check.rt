@@ -26,7 +26,7 @@ pub fn check_over<D: Input + Drop, A: Write, E: Report>(
     found: &mut A,
     errors: &mut E,
 ) -> Status
-    ensures { CheckEnds settings.entry.now (D.remaining «data») (D.lasts «data») (A.contents found.old) (A.contents found.new) (E.told errors.old) (E.told errors.new) result }
+    ensures { CheckEnds settings.entry.now (D.remaining «data») (D.lasts «data») (A.contents found.old) (A.contents found.new) (E.reported errors.old) (E.reported errors.new) result }
 {
     match check(alloc, settings, data, found) {
         Ok(false) => Status::Success,
@@ -42,7 +42,7 @@ fn check<'a, D: Input + Drop, A: Write>(
     data: D,
     found: &mut A,
 ) -> Result<bool, CommandFault<'a>>
-    ensures checks { IfOk result (λ broken. (told : Option (List command_fault.CommandFault)) → Checks settings.entry.now.fresh (D.remaining «data») (A.contents found.old) (A.contents found.new) told told broken) }
+    ensures checks { IfOk result (λ broken. (reported : Option (List command_fault.CommandFault)) → Checks settings.entry.now.fresh (D.remaining «data») (A.contents found.old) (A.contents found.new) reported reported broken) }
     ensures some { OnErr result (ChecksSome settings.entry.now.fresh (D.remaining «data») (A.contents found.old) (A.contents found.new)) }
     ensures fault { IfErr result (IsOfChecking settings.entry.now (D.remaining «data») (D.lasts «data»)) }
 {

@@ -91,9 +91,9 @@ impl<'a> CommandFault<'a> {
 
 impl fmt::Display for CommandFault<'_> {
     ghost use Rattle.std.specs.Prelude.{Some};
-    ghost use Rattle.tpcc.specs.Faults.{told_text};
+    ghost use Rattle.tpcc.specs.Faults.{reported_text};
 
-    ghost output = { λ fault. Some (told_text fault) };
+    ghost output = { λ fault. Some (reported_text fault) };
 
     fn fmt<W: fmt::Write>(&self, f: &mut fmt::Formatter<W>) -> fmt::Result {
         match self {

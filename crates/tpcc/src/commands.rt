@@ -3,7 +3,7 @@ ghost use Rattle.command_line.specs.Settings.{IsWithinLimits};
 
 use crate::meaning::Inputs;
 use crate::progress::NotingWriter;
-use crate::report::{Report, Teller};
+use crate::report::{Report, FaultReporter};
 use crate::streams::STANDARD_OUTPUT;
 use crate::trouble::Trouble;
 use command_line::{Settings, Status};
@@ -65,7 +65,7 @@ fn print_text<R: Files + AllocGlobal>(
         Ok(()) => Status::Success,
         Err(error) => {
             let fault = trouble.not_opened(STANDARD_OUTPUT, &error);
-            Teller::new(rt, stderr, false, false, Inputs::none(), &trouble).report(fault)
+            FaultReporter::new(rt, stderr, false, false, Inputs::none(), &trouble).report(fault)
         }
     }
 }

@@ -17,7 +17,7 @@ mod replay;
 mod report;
 mod run;
 mod script;
-mod shelf;
+mod output_files;
 mod sim;
 mod stopwatch;
 mod streams;
@@ -34,15 +34,15 @@ fn main(rt: HostRuntime) -> ExitCode {
     let status = match words_of(&rt) {
         Ok(words) => match read_words(rt.alloc(), words.as_slice()) {
             Ok(settings) => commands::carry_out(&rt, rt.stdout(), rt.stderr(), &settings),
-            Err(fault) => told(&rt, fault),
+            Err(fault) => reported(&rt, fault),
         },
-        Err(fault) => told(&rt, fault),
+        Err(fault) => reported(&rt, fault),
     };
     ExitCode::from(status.code())
 }
 
 // Tells of a mistake in the words, and gives the exit status.
-fn told(rt: &impl Eprint, fault: UsageFault) -> Status {
+fn reported(rt: &impl Eprint, fault: UsageFault) -> Status {
     let _ = rt.eprint(&fault);
     fault.status()
 }

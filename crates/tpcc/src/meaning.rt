@@ -27,7 +27,7 @@ const MOST_FIELDS: usize = 12;
 const MOST_BYTES: usize = 24;
 
 /// Tells what the fault means. That it can't be told changes nothing.
-pub fn tell_meaning<R: Files + AllocGlobal, W: Write>(
+pub fn report_meaning<R: Files + AllocGlobal, W: Write>(
     rt: &R,
     sink: &mut W,
     fault: CommandFault<'_>,
@@ -35,51 +35,51 @@ pub fn tell_meaning<R: Files + AllocGlobal, W: Write>(
     trouble: &Trouble,
 ) {
     match fault {
-        CommandFault::NoMemory => tell(
+        CommandFault::NoMemory => print(
             sink,
             "more memory is needed, or a smaller scale: docs/COSTS.md",
         ),
-        CommandFault::NoThread => tell(
+        CommandFault::NoThread => print(
             sink,
             "fewer executors are needed, or more threads for the process",
         ),
-        CommandFault::Unsettled => tell(
+        CommandFault::Unsettled => print(
             sink,
             "not all was back when the executors had ended, so nothing that they did is shown",
         ),
-        CommandFault::NotIdle => tell(
+        CommandFault::NotIdle => print(
             sink,
             "a transaction is active or a move outstanding at the end, so there are no tables: end the schedule with R",
         ),
-        CommandFault::NotConsistent(_) => tell(
+        CommandFault::NotConsistent(_) => print(
             sink,
             "the condition of TPC-C 5.11, clause 3.3.2: `tpcc check` tells of all that are broken",
         ),
-        CommandFault::BadMove(_) => tell(
+        CommandFault::BadMove(_) => print(
             sink,
             "moves count from 0; each is lo,hi,to: from warehouse lo, 1 or more, to hi, and an executor from 0",
         ),
-        CommandFault::NoWarehouse(_) => tell(
+        CommandFault::NoWarehouse(_) => print(
             sink,
             "the dataset's first record tells how many warehouses there are: its third field",
         ),
-        CommandFault::Failed { path, record: _ } => tell_trouble(sink, path, trouble),
+        CommandFault::Failed { path, record: _ } => report_trouble(sink, path, trouble),
         CommandFault::File { path, fault } => {
             let before = Before::new(inputs.format(path));
-            if tell_place(rt, sink, path, fault, before).is_err() {
+            if report_place(rt, sink, path, fault, before).is_err() {
                 return;
             }
-            tell(sink, meaning(fault));
+            print(sink, meaning(fault));
         }
     }
 }
 
-fn tell<W: Write>(sink: &mut W, words: &str) {
+fn print<W: Write>(sink: &mut W, words: &str) {
     let _ = writeln!(sink, "  {words}");
 }
 
 // Tells the system's words, and where a log was left.
-fn tell_trouble<W: Write>(sink: &mut W, path: &str, trouble: &Trouble) {
+fn report_trouble<W: Write>(sink: &mut W, path: &str, trouble: &Trouble) {
     if let Some(code) = trouble.code() {
         let error = io::Error::from_raw_os_error(code);
         let path = Escaped(path);
@@ -95,7 +95,7 @@ fn tell_trouble<W: Write>(sink: &mut W, path: &str, trouble: &Trouble) {
 
 // Tells the line where the record begins, as an editor counts, what stands there, and which field has the
 // fault. Of the file no more is in memory than a record that can be read.
-fn tell_place<R: Files + AllocGlobal, W: Write>(
+fn report_place<R: Files + AllocGlobal, W: Write>(
     rt: &R,
     sink: &mut W,
     path: &str,
@@ -126,12 +126,12 @@ fn tell_place<R: Files + AllocGlobal, W: Write>(
     }
     let line = line_of(rt, path, record)?;
     write!(sink, "  line {line}: ")?;
-    tell_fields(sink, records.fields())?;
+    report_fields(sink, records.fields())?;
     let first = records.fields().word();
     let mut search = Search::new(records.fields(), fault.kind);
     before.search(&mut search, first);
     if let Some(found) = search.found() {
-        tell_found(sink, records.fields(), found)
+        report_found(sink, records.fields(), found)
     } else if let Some(place) = search.first_too_many() {
         writeln!(sink, "  field {place} is one too many")
     } else if let Some(names) = before.key_names(fault.kind, first) {
@@ -162,13 +162,13 @@ fn line_of<R: Files>(rt: &R, path: &str, record: u64) -> io::Result<u64> {
 }
 
 // Tells the first fields of a record.
-fn tell_fields<W: Write>(sink: &mut W, mut fields: Fields<'_>) -> io::Result<()> {
+fn report_fields<W: Write>(sink: &mut W, mut fields: Fields<'_>) -> io::Result<()> {
     let count = fields.count();
     for place in 0..count.min(MOST_FIELDS) {
         if place > 0 {
             write!(sink, ",")?;
         }
-        tell_field(sink, fields.bytes())?;
+        report_field(sink, fields.bytes())?;
     }
     if count > MOST_FIELDS {
         write!(sink, ",..")?;
@@ -177,7 +177,7 @@ fn tell_fields<W: Write>(sink: &mut W, mut fields: Fields<'_>) -> io::Result<()>
 }
 
 // Tells which field of the record has the fault, what is there, and what would be right.
-fn tell_found<W: Write>(sink: &mut W, mut fields: Fields<'_>, found: Found) -> io::Result<()> {
+fn report_found<W: Write>(sink: &mut W, mut fields: Fields<'_>, found: Found) -> io::Result<()> {
     let Found {
         place,
         name,
@@ -192,13 +192,13 @@ fn tell_found<W: Write>(sink: &mut W, mut fields: Fields<'_>, found: Found) -> i
     } else if fields.next_is_empty() {
         write!(sink, "empty")?;
     } else {
-        tell_field(sink, fields.bytes())?;
+        report_field(sink, fields.bytes())?;
     }
     writeln!(sink, ": it should be {spelling}")
 }
 
 // Tells the first bytes of a field.
-fn tell_field<W: Write>(sink: &mut W, field: &[u8]) -> io::Result<()> {
+fn report_field<W: Write>(sink: &mut W, field: &[u8]) -> io::Result<()> {
     match str::from_utf8(&field[..field.len().min(MOST_BYTES)]) {
         Ok(text) => {
             let text = Escaped(text);

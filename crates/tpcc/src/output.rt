@@ -5,7 +5,7 @@ ghost use Rattle.std.specs.Prelude.{None};
 use crate::command_fault::CommandFault;
 use crate::other_name::other_name;
 use crate::progress::Meter;
-use crate::shelf::Shelf;
+use crate::output_files::OutputFiles;
 use crate::trouble::Trouble;
 use std::fs::{OpenFile, OpenOptions, Permissions};
 use std::io::{ErrorKind, Stderr, Write};
@@ -71,7 +71,7 @@ impl<R: Files> Write for NewFile<'_, R> {
 #[derive(Clone, Copy, Debug)]
 pub struct Folders;
 
-impl<'a, R: Files> Shelf<NewFile<'a, R>> for Folders {
+impl<'a, R: Files> OutputFiles<NewFile<'a, R>> for Folders {
     ghost named = { λ _. None };
 
     fn settle(&mut self, file: &mut NewFile<'a, R>) -> io::Result<()> {

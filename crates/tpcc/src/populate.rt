@@ -4,7 +4,7 @@ ghost use Rattle.tpcc.specs.Populate.{Populates, PopulateEnds};
 
 use crate::command_fault::CommandFault;
 use crate::report::Report;
-use crate::shelf::Shelf;
+use crate::output_files::OutputFiles;
 use crate::streams::name_tables;
 use command_line::{PopulateSettings, Status};
 use population::populate;
@@ -12,41 +12,41 @@ use std::alloc::Global;
 use std::io::Write;
 use std::mem;
 
-/// Makes the dataset that the benchmark begins with, writes it to `file`, which gets its name on `shelf`,
+/// Makes the dataset that the benchmark begins with, writes it to `file`, which gets its name on `output_files`,
 /// and gives the exit status. Why it ended early is told to `errors`: a fault of the file, or no memory.
-pub fn populate_over<T: Write + Drop, N: Shelf<T>, E: Report>(
+pub fn populate_over<T: Write + Drop, N: OutputFiles<T>, E: Report>(
     alloc: Global,
     settings: &PopulateSettings,
     file: T,
-    shelf: &mut N,
+    output_files: &mut N,
     errors: &mut E,
 ) -> Status
-    ensures { PopulateEnds T.contents settings.entry.now file (N.named shelf.old) (N.named shelf.new) (E.told errors.old) (E.told errors.new) result }
+    ensures { PopulateEnds T.contents settings.entry.now file (N.named output_files.old) (N.named output_files.new) (E.reported errors.old) (E.reported errors.new) result }
 {
-    match make(alloc, settings, file, shelf, errors) {
+    match make(alloc, settings, file, output_files, errors) {
         Ok(()) => Status::Success,
         Err(fault) => errors.report(fault),
     }
 }
 
 // Where it ends early the tables have not got their name.
-fn make<'a, T: Write + Drop, N: Shelf<T>, E: Report>(
+fn make<'a, T: Write + Drop, N: OutputFiles<T>, E: Report>(
     alloc: Global,
     settings: &PopulateSettings<'a>,
     file: T,
-    shelf: &mut N,
+    output_files: &mut N,
     errors: &mut E,
 ) -> Result<(), CommandFault<'a>>
-    ensures populates { OnOk result (Populates T.contents settings.entry.now.scale settings.entry.now.seed settings.entry.now.now file (N.named shelf.old) (N.named shelf.new) (E.told errors.old) (E.told errors.new)) }
-    ensures named { OnErr result (N.named shelf.new ≡ N.named shelf.old) }
-    ensures told { OnErr result (E.told errors.new ≡ E.told errors.old) }
+    ensures populates { OnOk result (Populates T.contents settings.entry.now.scale settings.entry.now.seed settings.entry.now.now file (N.named output_files.old) (N.named output_files.new) (E.reported errors.old) (E.reported errors.new)) }
+    ensures named { OnErr result (N.named output_files.new ≡ N.named output_files.old) }
+    ensures reported { OnErr result (E.reported errors.new ≡ E.reported errors.old) }
     ensures fault { IfErr result (IsOfWriting settings.entry.now.file.now) }
 {
     let scale = settings.scale;
     let customers = scale.warehouses as usize * 10 * scale.customers as usize;
     errors.begin("making", customers, "customers, and what belongs to them");
     let tables = populate(alloc, settings.scale, settings.seed, settings.now)?;
-    name_tables(alloc, settings.file, file, &tables, shelf)?;
+    name_tables(alloc, settings.file, file, &tables, output_files)?;
     // The end of the process gives all rows back at once.
     mem::forget(tables);
     Ok(())

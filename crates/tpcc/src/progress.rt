@@ -17,7 +17,7 @@ pub struct Meter<'a, W> {
     terminal: Option<W>,
     bytes: u64,
     // How many bytes there were when it was told last.
-    told: u64,
+    reported: u64,
 }
 
 impl<'a, W: Write + Drop> Meter<'a, W> {
@@ -28,29 +28,29 @@ impl<'a, W: Write + Drop> Meter<'a, W> {
             done,
             terminal,
             bytes: 0,
-            told: 0,
+            reported: 0,
         }
     }
 
     /// Counts bytes, and tells of them where it is time. That it can't be told is no fault.
     pub fn count(&mut self, bytes: u64) {
         self.bytes = self.bytes.saturating_add(bytes);
-        if self.bytes.saturating_sub(self.told) >= STRIDE {
-            self.tell("");
-            self.told = self.bytes;
+        if self.bytes.saturating_sub(self.reported) >= STRIDE {
+            self.print("");
+            self.reported = self.bytes;
         }
     }
 
     /// Ends the line, if there is one.
     pub fn end(&mut self) {
-        if self.told > 0 {
-            self.tell("\n");
-            self.told = 0;
+        if self.reported > 0 {
+            self.print("\n");
+            self.reported = 0;
             self.bytes = 0;
         }
     }
 
-    fn tell(&mut self, end: &str) {
+    fn print(&mut self, end: &str) {
         let Some(terminal) = &mut self.terminal else {
             return;
         };

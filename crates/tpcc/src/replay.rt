@@ -3,15 +3,15 @@ ghost use Rattle.files.specs.Sending.{Begins};
 ghost use Rattle.terminals.specs.FirstFault.{log_fault};
 ghost use Rattle.terminals.specs.LogRecord.{IsLog};
 ghost use Rattle.tpcc.specs.Edges.{Gives, lines_text};
-ghost use Rattle.tpcc.specs.EarlyEnds.{IsOfReplaying, IsOfTelling};
+ghost use Rattle.tpcc.specs.EarlyEnds.{IsOfReplaying, ReplayMayReport};
 ghost use Rattle.tpcc.specs.Faults.{IsFirst, IsOfReading};
 ghost use Rattle.schema.specs.Database.{Database};
 ghost use Rattle.commit_log.specs.Replay.{IsReplayOf};
-ghost use Rattle.tpcc.specs.Replay.{TellsReplay, ReplayEnds, ReplaysSome, found_of, found_text};
+ghost use Rattle.tpcc.specs.Replay.{ReportsReplay, ReplayEnds, ReplaysSome, found_of, found_text};
 
 use crate::command_fault::CommandFault;
 use crate::report::Report;
-use crate::shelf::Shelf;
+use crate::output_files::OutputFiles;
 use crate::stopwatch::Stopwatch;
 use crate::streams::{print_lines, read_tables, write_tables};
 use crate::summary::Summary;
@@ -30,7 +30,7 @@ use terminals::read_log;
 ///
 /// `data` is read first, and then the log; the first fault decides, and then nothing was carried out. On
 /// `found` comes `equal N` where every entry is what the engine does, of which there are N, and then the
-/// tables are written to `tables` and get their name on `shelf`; else `differs P`, with the first place
+/// tables are written to `tables` and get their name on `output_files`; else `differs P`, with the first place
 /// whose request is refused or whose reply is another; a beginning of this line at most where a replay ends
 /// early. Why it does is told to `errors`: a fault of a file, or no memory.
 pub fn replay_over<
@@ -39,7 +39,7 @@ pub fn replay_over<
     L: Input + Drop,
     A: Write,
     T: Write + Drop,
-    N: Shelf<T>,
+    N: OutputFiles<T>,
     E: Report,
 >(
     rt: &R,
@@ -49,13 +49,13 @@ pub fn replay_over<
     log: L,
     found: &mut A,
     tables: Option<T>,
-    shelf: &mut N,
+    output_files: &mut N,
     errors: &mut E,
 ) -> Status
     requires { is_some tables ≡ is_some settings.now.tables }
-    ensures { ReplayEnds T.contents tables settings.entry.now (D.remaining «data») (D.lasts «data») (L.remaining log) (L.lasts log) (A.contents found.old) (A.contents found.new) (N.named shelf.old) (N.named shelf.new) (E.told errors.old) (E.told errors.new) result }
+    ensures { ReplayEnds T.contents tables settings.entry.now (D.remaining «data») (D.lasts «data») (L.remaining log) (L.lasts log) (A.contents found.old) (A.contents found.new) (N.named output_files.old) (N.named output_files.new) (E.reported errors.old) (E.reported errors.new) result }
 {
-    match replay_log(rt, alloc, settings, data, log, found, tables, shelf, errors) {
+    match replay_log(rt, alloc, settings, data, log, found, tables, output_files, errors) {
         Ok(status) => status,
         Err(fault) => errors.report(fault),
     }
@@ -69,7 +69,7 @@ fn replay_log<
     L: Input + Drop,
     A: Write,
     T: Write + Drop,
-    N: Shelf<T>,
+    N: OutputFiles<T>,
     E: Report,
 >(
     rt: &R,
@@ -79,14 +79,14 @@ fn replay_log<
     log: L,
     found: &mut A,
     tables: Option<T>,
-    shelf: &mut N,
+    output_files: &mut N,
     errors: &mut E,
 ) -> Result<Status, CommandFault<'a>>
     requires { is_some tables ≡ is_some settings.now.tables }
-    ensures ends { IfOk result (ReplayEnds T.contents tables settings.entry.now (D.remaining «data») (D.lasts «data») (L.remaining log) (L.lasts log) (A.contents found.old) (A.contents found.new) (N.named shelf.old) (N.named shelf.new) (E.told errors.old) (E.told errors.new)) }
-    ensures named { OnErr result (N.named shelf.new ≡ N.named shelf.old) }
+    ensures ends { IfOk result (ReplayEnds T.contents tables settings.entry.now (D.remaining «data») (D.lasts «data») (L.remaining log) (L.lasts log) (A.contents found.old) (A.contents found.new) (N.named output_files.old) (N.named output_files.new) (E.reported errors.old) (E.reported errors.new)) }
+    ensures named { OnErr result (N.named output_files.new ≡ N.named output_files.old) }
     ensures some { OnErr result (ReplaysSome (D.remaining «data») (L.remaining log) (A.contents found.old) (A.contents found.new)) }
-    ensures told { OnErr result (E.told errors.new ≡ E.told errors.old) }
+    ensures reported { OnErr result (E.reported errors.new ≡ E.reported errors.old) }
     ensures fault { IfErr result (IsOfReplaying settings.entry.now (D.remaining «data») (D.lasts «data») (L.remaining log) (L.lasts log)) }
 {
     let opening = read_tables(alloc, settings.data, data)?;
@@ -96,14 +96,14 @@ fn replay_log<
     let came_to = replay(alloc, opening, entries.as_slice())?;
     let replayed_for = stopwatch.nanoseconds().unwrap_or(0);
     let equal = equal_entries(&came_to, entries.as_slice());
-    let status = tell(
+    let status = print(
         alloc,
         settings,
         came_to,
         entries.as_slice(),
         found,
         tables,
-        shelf,
+        output_files,
     )?;
     sum_up(alloc, equal, replayed_for, errors);
     Ok(status)
@@ -120,25 +120,25 @@ fn equal_entries<'a>(came_to: &Replay, entries: &'a [Entry]) -> &'a [Entry]
 }
 
 // Tells what the replay of the entries came to, writes the last tables, and gives the exit status.
-fn tell<'a, A: Write, T: Write + Drop, N: Shelf<T>>(
+fn print<'a, A: Write, T: Write + Drop, N: OutputFiles<T>>(
     alloc: Global,
     settings: &ReplaySettings<'a>,
     came_to: Replay,
     entries: &[Entry],
     found: &mut A,
     tables: Option<T>,
-    shelf: &mut N,
+    output_files: &mut N,
 ) -> Result<Status, CommandFault<'a>>
     requires { is_some tables ≡ is_some settings.now.tables }
-    ensures tells { IfOk result (TellsReplay T.contents tables (A.contents found.old) (A.contents found.new) (N.named shelf.old) (N.named shelf.new) entries.now came_to) }
-    ensures named { OnErr result (N.named shelf.new ≡ N.named shelf.old) }
+    ensures reports { IfOk result (ReportsReplay T.contents tables (A.contents found.old) (A.contents found.new) (N.named output_files.old) (N.named output_files.new) entries.now came_to) }
+    ensures named { OnErr result (N.named output_files.new ≡ N.named output_files.old) }
     ensures begun { OnErr result (Begins (A.contents found.old) (A.contents found.new) (lines_text (found_text (found_of entries.now came_to) ∷ []))) }
-    ensures fault { IfErr result (IsOfTelling settings.entry.now) }
+    ensures fault { IfErr result (ReplayMayReport settings.entry.now) }
 {
     match came_to {
         Replay::Equal(last) => {
             print_lines(alloc, found, &[Found::Equal(entries.len())])?;
-            write_tables(alloc, settings.tables, tables, &last, shelf)?;
+            write_tables(alloc, settings.tables, tables, &last, output_files)?;
             // The end of the process gives all rows back at once.
             mem::forget(last);
             Ok(Status::Success)
@@ -152,7 +152,7 @@ fn tell<'a, A: Write, T: Write + Drop, N: Shelf<T>>(
 
 // Tells of these entries, if that sums up.
 fn sum_up<E: Report>(alloc: Global, entries: &[Entry], served_for: u64, errors: &mut E)
-    ensures { E.told errors.new ≡ E.told errors.old }
+    ensures { E.reported errors.new ≡ E.reported errors.old }
 {
     if !errors.sums_up() {
         return;

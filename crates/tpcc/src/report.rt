@@ -1,11 +1,11 @@
 ghost use Rattle.std.specs.Prelude.{◌≡◌, List, Option, None, OnOk};
 ghost use Rattle.std.specs.Io.KnownBytes.{Appends};
 ghost use Rattle.tpcc.specs.declared.command_fault.CommandFault as command_fault;
-ghost use Rattle.tpcc.specs.Faults.{status_of, told_line, Tells};
+ghost use Rattle.tpcc.specs.Faults.{status_of, reported_line, Reports};
 
 use crate::command_fault::CommandFault;
-use crate::meaning::{Inputs, tell_meaning};
-use crate::summary::{Summary, tell_summary};
+use crate::meaning::{Inputs, report_meaning};
+use crate::summary::{Summary, report_summary};
 use crate::trouble::Trouble;
 use command_line::Status;
 use std::io;
@@ -15,23 +15,23 @@ use std::rt::Files;
 /// Who is told what a command does, what it came to, or why it ended early.
 pub trait Report {
     // The faults that were told here, in turn, where that is known.
-    ghost told: { Self → Option (List command_fault.CommandFault) };
+    ghost reported: { Self → Option (List command_fault.CommandFault) };
 
     /// Tells of the fault, and gives the exit status. That it can't be told changes nothing.
     fn report(&mut self, fault: CommandFault<'_>) -> Status
         ensures status { result ≡ status_of fault.entry }
-        ensures tells { Tells (told self.old) (told self.new) fault.entry };
+        ensures reports { Reports (reported self.old) (reported self.new) fault.entry };
 
     /// Tells that work begins on so many of these, where that may take a while.
     fn begin(&mut self, doing: &'static str, count: usize, of: &'static str)
-        ensures { told self.new ≡ told self.old };
+        ensures { reported self.new ≡ reported self.old };
 
     /// Whether it is to be summed up what was done.
     fn sums_up(&self) -> bool;
 
     /// Tells what was done.
     fn sum_up(&mut self, summary: &Summary)
-        ensures { told self.new ≡ told self.old };
+        ensures { reported self.new ≡ reported self.old };
 }
 
 // Of fewer it is not told that work on them begins.
@@ -39,7 +39,7 @@ const MANY: usize = 20_000;
 
 /// Tells on the standard error: a line that other programs can read and, on a terminal, what it means.
 #[derive(Clone, Copy, Drop)]
-pub struct Teller<'a, R> {
+pub struct FaultReporter<'a, R> {
     rt: &'a R,
     stderr: Stderr,
     // Where it is told that work begins, if anywhere.
@@ -49,7 +49,7 @@ pub struct Teller<'a, R> {
     trouble: &'a Trouble,
 }
 
-impl<'a, R: Files + AllocGlobal> Teller<'a, R> {
+impl<'a, R: Files + AllocGlobal> FaultReporter<'a, R> {
     /// Tells on the standard error; of the work only where that is a terminal, and not if it is to be
     /// `quiet`; and then also what it came to, as where `summary` asks for it. These files are read.
     pub fn new(
@@ -61,7 +61,7 @@ impl<'a, R: Files + AllocGlobal> Teller<'a, R> {
         trouble: &'a Trouble,
     ) -> Self {
         let is_shown = !quiet && stderr.is_terminal();
-        Teller {
+        FaultReporter {
             rt,
             stderr,
             terminal: if is_shown { Some(stderr) } else { None },
@@ -73,19 +73,19 @@ impl<'a, R: Files + AllocGlobal> Teller<'a, R> {
 }
 
 // Tells the fault in a line.
-fn tell<W: Write>(sink: &mut W, fault: CommandFault<'_>) -> io::Result<()>
-    ensures { OnOk result (Appends (W.contents sink.old) (W.contents sink.new) (told_line fault.entry)) }
+fn print<W: Write>(sink: &mut W, fault: CommandFault<'_>) -> io::Result<()>
+    ensures { OnOk result (Appends (W.contents sink.old) (W.contents sink.new) (reported_line fault.entry)) }
 {
     writeln!(sink, "tpcc: {fault}")
 }
 
-impl<R: Files + AllocGlobal> Report for Teller<'_, R> {
-    ghost told = { λ _. None };
+impl<R: Files + AllocGlobal> Report for FaultReporter<'_, R> {
+    ghost reported = { λ _. None };
 
     fn report(&mut self, fault: CommandFault<'_>) -> Status {
-        let _ = tell(&mut self.stderr, fault);
+        let _ = print(&mut self.stderr, fault);
         if self.stderr.is_terminal() {
-            tell_meaning(self.rt, &mut self.stderr, fault, self.inputs, self.trouble);
+            report_meaning(self.rt, &mut self.stderr, fault, self.inputs, self.trouble);
         }
         fault.status()
     }
@@ -104,7 +104,7 @@ impl<R: Files + AllocGlobal> Report for Teller<'_, R> {
 
     fn sum_up(&mut self, summary: &Summary) {
         if self.sums_up {
-            tell_summary(&mut self.stderr, summary);
+            report_summary(&mut self.stderr, summary);
         }
     }
 }

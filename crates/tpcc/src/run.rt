@@ -12,7 +12,7 @@ ghost use Rattle.command_line.specs.Settings.{IsRunnable};
 
 use crate::command_fault::CommandFault;
 use crate::report::Report;
-use crate::shelf::Shelf;
+use crate::output_files::OutputFiles;
 use crate::streams::{STANDARD_OUTPUT, name_printed, read_tables, write_entries, write_tables};
 use crate::summary::Summary;
 use crate::tally::Tally;
@@ -37,7 +37,7 @@ use terminals::{read_moves, read_script, write_answers};
 /// `data` is read first, then the scripts in turn, and then the moves; the first fault decides, and then
 /// nothing was run.
 /// The log is written to `log` and is on the disk first; then the answers go to `answers`, by session and
-/// number, with the replies of the log; then the log gets its name on `shelf`, and then the tables as they are left are written to `tables`
+/// number, with the replies of the log; then the log gets its name on `output_files`, and then the tables as they are left are written to `tables`
 /// and get theirs. `watch` looks on while they are served, and what it all came to is summed up to `errors`,
 /// if that sums up. Why a run ended early is told to `errors`: a fault of a file, a move that there can't be,
 /// tables that are not consistent, no thread, something that was not back at the end, or no memory.
@@ -47,7 +47,7 @@ pub fn run_over<
     S: Input + Drop,
     A: Write,
     F: Write + Drop,
-    N: Shelf<F>,
+    N: OutputFiles<F>,
     E: Report,
 >(
     rt: &R,
@@ -59,7 +59,7 @@ pub fn run_over<
     answers: &mut A,
     log: Option<F>,
     tables: Option<F>,
-    shelf: &mut N,
+    output_files: &mut N,
     watch: Watch<'_, R>,
     errors: &mut E,
 ) -> Result<(), Status>
@@ -68,12 +68,12 @@ pub fn run_over<
     requires moves { is_some moves ≡ is_some settings.now.moves }
     requires log { is_some log ≡ is_some settings.now.log }
     requires tables { is_some tables ≡ is_some settings.now.tables }
-    ensures serves { OnOk result (Serves F.contents (D.remaining «data») (map S.remaining scripts.old) settings.now.executors (option_map S.remaining moves) log tables (A.contents answers.old) (A.contents answers.new) (N.named shelf.old) (N.named shelf.new) (E.told errors.old) (E.told errors.new)) }
-    ensures some { OnErr result (ServesSome F.contents (D.remaining «data») (map S.remaining scripts.old) settings.now.executors (option_map S.remaining moves) log tables (A.contents answers.old) (A.contents answers.new) (N.named shelf.old) (N.named shelf.new)) }
-    ensures early { IfErr result (EndsEarly (IsOfRunning S.remaining S.lasts settings.now (D.remaining «data») (D.lasts «data») scripts.old moves) (E.told errors.old) (E.told errors.new)) }
+    ensures serves { OnOk result (Serves F.contents (D.remaining «data») (map S.remaining scripts.old) settings.now.executors (option_map S.remaining moves) log tables (A.contents answers.old) (A.contents answers.new) (N.named output_files.old) (N.named output_files.new) (E.reported errors.old) (E.reported errors.new)) }
+    ensures some { OnErr result (ServesSome F.contents (D.remaining «data») (map S.remaining scripts.old) settings.now.executors (option_map S.remaining moves) log tables (A.contents answers.old) (A.contents answers.new) (N.named output_files.old) (N.named output_files.new)) }
+    ensures early { IfErr result (EndsEarly (IsOfRunning S.remaining S.lasts settings.now (D.remaining «data») (D.lasts «data») scripts.old moves) (E.reported errors.old) (E.reported errors.new)) }
 {
     match run(
-        rt, alloc, settings, data, scripts, moves, answers, log, tables, shelf, watch, errors,
+        rt, alloc, settings, data, scripts, moves, answers, log, tables, output_files, watch, errors,
     ) {
         Ok(()) => Ok(()),
         Err(fault) => Err(errors.report(fault)),
@@ -87,7 +87,7 @@ fn run<
     S: Input + Drop,
     A: Write,
     F: Write + Drop,
-    N: Shelf<F>,
+    N: OutputFiles<F>,
     E: Report,
 >(
     rt: &R,
@@ -99,7 +99,7 @@ fn run<
     answers: &mut A,
     log: Option<F>,
     tables: Option<F>,
-    shelf: &mut N,
+    output_files: &mut N,
     mut watch: Watch<'_, R>,
     errors: &mut E,
 ) -> Result<(), CommandFault<'a>>
@@ -108,9 +108,9 @@ fn run<
     requires moves { is_some moves ≡ is_some settings.now.moves }
     requires log { is_some log ≡ is_some settings.now.log }
     requires tables { is_some tables ≡ is_some settings.now.tables }
-    ensures serves { OnOk result (Serves F.contents (D.remaining «data») (map S.remaining scripts.old) settings.now.executors (option_map S.remaining moves) log tables (A.contents answers.old) (A.contents answers.new) (N.named shelf.old) (N.named shelf.new) (E.told errors.old) (E.told errors.new)) }
-    ensures some { OnErr result (ServesSome F.contents (D.remaining «data») (map S.remaining scripts.old) settings.now.executors (option_map S.remaining moves) log tables (A.contents answers.old) (A.contents answers.new) (N.named shelf.old) (N.named shelf.new)) }
-    ensures told { OnErr result (E.told errors.new ≡ E.told errors.old) }
+    ensures serves { OnOk result (Serves F.contents (D.remaining «data») (map S.remaining scripts.old) settings.now.executors (option_map S.remaining moves) log tables (A.contents answers.old) (A.contents answers.new) (N.named output_files.old) (N.named output_files.new) (E.reported errors.old) (E.reported errors.new)) }
+    ensures some { OnErr result (ServesSome F.contents (D.remaining «data») (map S.remaining scripts.old) settings.now.executors (option_map S.remaining moves) log tables (A.contents answers.old) (A.contents answers.new) (N.named output_files.old) (N.named output_files.new)) }
+    ensures reported { OnErr result (E.reported errors.new ≡ E.reported errors.old) }
     ensures fault { IfErr result (IsOfRunning S.remaining S.lasts settings.now (D.remaining «data») (D.lasts «data») scripts.old moves) }
 {
     let opening = read_tables(alloc, settings.data, data)?;
@@ -131,7 +131,7 @@ fn run<
         Err(fault) => return Err(CommandFault::of_serving(fault)),
     };
     watch.end();
-    hand_out(alloc, settings, &outcome, answers, log, tables, shelf)?;
+    hand_out(alloc, settings, &outcome, answers, log, tables, output_files)?;
     sum_up(alloc, &watch, scripts.as_slice(), &outcome, errors);
     // The end of the process gives all rows, entries and answers back at once.
     mem::forget(outcome);
@@ -140,28 +140,28 @@ fn run<
 
 // Writes the log, prints the answers, gives the log its name, and then writes the tables and gives them
 // theirs.
-fn hand_out<'a, A: Write, F: Write + Drop, N: Shelf<F>>(
+fn hand_out<'a, A: Write, F: Write + Drop, N: OutputFiles<F>>(
     alloc: Global,
     settings: &RunSettings<'a>,
     outcome: &Outcome,
     answers: &mut A,
     log: Option<F>,
     tables: Option<F>,
-    shelf: &mut N,
+    output_files: &mut N,
 ) -> Result<(), CommandFault<'a>>
     requires few { length outcome.now.answers.items ≤ 64 }
     requires placed { AreAllInLog outcome.now.log.items outcome.now.answers.items }
     requires log { is_some log ≡ is_some settings.now.log }
     requires tables { is_some tables ≡ is_some settings.now.tables }
-    ensures all { OnOk result (HandsOut F.contents log tables (A.contents answers.old) (A.contents answers.new) (N.named shelf.old) (N.named shelf.new) outcome.now.log.items outcome.now.tables outcome.now.answers.items) }
-    ensures some { OnErr result (HandsOutSome F.contents log tables (A.contents answers.old) (A.contents answers.new) (N.named shelf.old) (N.named shelf.new) outcome.now.log.items outcome.now.answers.items) }
+    ensures all { OnOk result (HandsOut F.contents log tables (A.contents answers.old) (A.contents answers.new) (N.named output_files.old) (N.named output_files.new) outcome.now.log.items outcome.now.tables outcome.now.answers.items) }
+    ensures some { OnErr result (HandsOutSome F.contents log tables (A.contents answers.old) (A.contents answers.new) (N.named output_files.old) (N.named output_files.new) outcome.now.log.items outcome.now.answers.items) }
     ensures fault { IfErr result (IsOfAnswering settings.now) }
 {
     let entries = outcome.log.as_slice();
-    let log = write_entries(alloc, settings.log, log, entries, shelf)?;
+    let log = write_entries(alloc, settings.log, log, entries, output_files)?;
     let printed = print_answers(alloc, answers, outcome.answers.as_slice(), entries);
-    name_printed(printed, log, shelf)?;
-    write_tables(alloc, settings.tables, tables, &outcome.tables, shelf)
+    name_printed(printed, log, output_files)?;
+    write_tables(alloc, settings.tables, tables, &outcome.tables, output_files)
 }
 
 // The scripts of these paths.
@@ -218,8 +218,8 @@ fn print_answers<A: Write>(
     ensures begun { OnErr result (BeginsToWrite (A.contents sink.old) (A.contents sink.new) (BeginAllAnswers log.now 0 answers.now)) }
     ensures fault { IfErr result (IsOfWriting standard_output) }
 {
-    for (session, told) in answers.iter().enumerate() {
-        print_session(alloc, sink, session as u32, told, log)?;
+    for (session, reported) in answers.iter().enumerate() {
+        print_session(alloc, sink, session as u32, reported, log)?;
     }
     Ok(())
 }
@@ -229,15 +229,15 @@ fn print_session<A: Write>(
     alloc: Global,
     sink: &mut A,
     session: u32,
-    told: &Answers,
+    reported: &Answers,
     log: &[Entry],
 ) -> Result<(), CommandFault<'static>>
-    requires { AreInLog log.now told.now }
-    ensures printed { OnOk result (Writes (A.contents sink.old) (A.contents sink.new) (AreAnswers log.now session told.now)) }
-    ensures begun { OnErr result (BeginsToWrite (A.contents sink.old) (A.contents sink.new) (OfFirst (AreAnswers log.now session) told.now)) }
+    requires { AreInLog log.now reported.now }
+    ensures printed { OnOk result (Writes (A.contents sink.old) (A.contents sink.new) (AreAnswers log.now session reported.now)) }
+    ensures begun { OnErr result (BeginsToWrite (A.contents sink.old) (A.contents sink.new) (OfFirst (AreAnswers log.now session) reported.now)) }
     ensures fault { IfErr result (IsOfWriting standard_output) }
 {
-    match write_answers(alloc, sink, session, told.as_slice(), log) {
+    match write_answers(alloc, sink, session, reported.as_slice(), log) {
         Ok(()) => Ok(()),
         Err(error) => Err(CommandFault::of_file(STANDARD_OUTPUT, error)),
     }
@@ -251,7 +251,7 @@ fn sum_up<R: Clock, E: Report>(
     outcome: &Outcome,
     errors: &mut E,
 )
-    ensures { E.told errors.new ≡ E.told errors.old }
+    ensures { E.reported errors.new ≡ E.reported errors.old }
 {
     if !errors.sums_up() {
         return;
@@ -272,11 +272,11 @@ fn sum_up<R: Clock, E: Report>(
 // How the requests of all scripts ended.
 fn tally_of(alloc: Global, scripts: &[Script], outcome: &Outcome) -> Result<Tally, NoMemory> {
     let mut tally = Tally::new(alloc);
-    for (script, told) in scripts.iter().zip(outcome.answers.as_slice()) {
+    for (script, reported) in scripts.iter().zip(outcome.answers.as_slice()) {
         tally.add(&Tally::of_answers(
             alloc,
             script.requests(),
-            told.as_slice(),
+            reported.as_slice(),
             outcome.log.as_slice(),
         )?)?;
     }

@@ -6,7 +6,7 @@ ghost use Rattle.command_line.specs.Settings.{HasFiles};
 
 use crate::command_fault::CommandFault;
 use crate::report::Report;
-use crate::shelf::Shelf;
+use crate::output_files::OutputFiles;
 use crate::streams::write_requests;
 use command_line::{ScriptSettings, Status};
 use dataset::read_scale;
@@ -17,38 +17,38 @@ use std::io::Write;
 use workload::{Workload, draw_script};
 
 /// Makes a script for each session, of the scale that `data` begins with, writes them to `files`, one after
-/// the other, each of which then gets its name on `shelf`, and gives the exit status. Why it ended early is
+/// the other, each of which then gets its name on `output_files`, and gives the exit status. Why it ended early is
 /// told to `errors`: a fault of a file, a home warehouse that the scale has not, or no memory.
-pub fn script_over<D: Input + Drop, T: Write + Drop, N: Shelf<T>, E: Report>(
+pub fn script_over<D: Input + Drop, T: Write + Drop, N: OutputFiles<T>, E: Report>(
     alloc: Global,
     settings: &ScriptSettings,
     data: D,
     files: Vec<T>,
-    shelf: &mut N,
+    output_files: &mut N,
     errors: &mut E,
 ) -> Status
     requires settings { HasFiles settings.now }
     requires files { length files.items ≡ length settings.now.files.items }
-    ensures { ScriptEnds T.contents settings.entry.now (D.remaining «data») (D.lasts «data») files.items (N.named shelf.old) (N.named shelf.new) (E.told errors.old) (E.told errors.new) result }
+    ensures { ScriptEnds T.contents settings.entry.now (D.remaining «data») (D.lasts «data») files.items (N.named output_files.old) (N.named output_files.new) (E.reported errors.old) (E.reported errors.new) result }
 {
-    match make(alloc, settings, data, files, shelf) {
+    match make(alloc, settings, data, files, output_files) {
         Ok(()) => Status::Success,
         Err(fault) => errors.report(fault),
     }
 }
 
 // Reads the scale, draws the scripts at it, and gives their files their names.
-fn make<'a, D: Input + Drop, T: Write + Drop, N: Shelf<T>>(
+fn make<'a, D: Input + Drop, T: Write + Drop, N: OutputFiles<T>>(
     alloc: Global,
     settings: &ScriptSettings<'a>,
     data: D,
     files: Vec<T>,
-    shelf: &mut N,
+    output_files: &mut N,
 ) -> Result<(), CommandFault<'a>>
     requires settings { HasFiles settings.now }
     requires files { length files.items ≡ length settings.now.files.items }
-    ensures all { OnOk result (MakesAll T.contents settings.entry.now (D.remaining «data») files.items (N.named shelf.old) (N.named shelf.new)) }
-    ensures some { OnErr result (MakesSome T.contents settings.entry.now (D.remaining «data») files.items (N.named shelf.old) (N.named shelf.new)) }
+    ensures all { OnOk result (MakesAll T.contents settings.entry.now (D.remaining «data») files.items (N.named output_files.old) (N.named output_files.new)) }
+    ensures some { OnErr result (MakesSome T.contents settings.entry.now (D.remaining «data») files.items (N.named output_files.old) (N.named output_files.new)) }
     ensures fault { IfErr result (IsOfMaking settings.entry.now (D.remaining «data») (D.lasts «data»)) }
 {
     let scale = read_header(alloc, settings.data, data)?;
@@ -56,7 +56,7 @@ fn make<'a, D: Input + Drop, T: Write + Drop, N: Shelf<T>>(
         Ok(workload) => workload,
         Err(fault) => return Err(fault),
     };
-    write_scripts(alloc, &settings.files, &workload, files, shelf)
+    write_scripts(alloc, &settings.files, &workload, files, output_files)
 }
 
 // The scale of the dataset of that path.
@@ -96,23 +96,23 @@ fn workload<'a>(settings: &ScriptSettings<'a>, scale: Scale) -> Result<Workload,
 }
 
 // Draws the script of each session, and writes it to its file, which then gets its name.
-fn write_scripts<'a, T: Write + Drop, N: Shelf<T>>(
+fn write_scripts<'a, T: Write + Drop, N: OutputFiles<T>>(
     alloc: Global,
     paths: &[&'a str],
     workload: &Workload,
     mut files: Vec<T>,
-    shelf: &mut N,
+    output_files: &mut N,
 ) -> Result<(), CommandFault<'a>>
     requires few { length paths.now ≤ 64 }
     requires files { length files.items ≡ length paths.now }
-    ensures all { OnOk result (NamesScripts T.contents workload.now 0 files.items (N.named shelf.old) (N.named shelf.new)) }
-    ensures some { OnErr result (NamesFirstScripts T.contents workload.now files.items (N.named shelf.old) (N.named shelf.new)) }
+    ensures all { OnOk result (NamesScripts T.contents workload.now 0 files.items (N.named output_files.old) (N.named output_files.new)) }
+    ensures some { OnErr result (NamesFirstScripts T.contents workload.now files.items (N.named output_files.old) (N.named output_files.new)) }
     ensures fault { IfErr result (λ fault. (fault ≡ CommandFault.NoMemory) ⊎ IsOfWritingOneOf paths.now fault) }
 {
     for (session, path) in paths.iter().enumerate() {
         let file = files.remove(0);
         let script = draw_script(alloc, workload, session as u32)?;
-        write_requests(alloc, path, file, &script, shelf)?;
+        write_requests(alloc, path, file, &script, output_files)?;
     }
     Ok(())
 }

@@ -11,7 +11,7 @@ ghost use Rattle.tpcc.specs.Sim.{NamesPicture, NamesTables, Shows, ShowsSome, Si
 
 use crate::command_fault::CommandFault;
 use crate::report::Report;
-use crate::shelf::Shelf;
+use crate::output_files::OutputFiles;
 use crate::streams::{
     STANDARD_OUTPUT, finished, name_printed, read_tables, write_entries, write_tables,
 };
@@ -29,8 +29,8 @@ use world::{GatherFault, OpenFault, Simulation, simulate};
 /// Simulates a schedule on the dataset, event by event. An error is the exit status.
 ///
 /// `data` is read first, and then the schedule; the first fault decides, and then nothing was run. The log
-/// is written to `log` and is on the disk first; then what is printed of the schedule goes to `told`, one
-/// record for each event; then the log gets its name on `shelf`, then the picture of what was printed is
+/// is written to `log` and is on the disk first; then what is printed of the schedule goes to `reported`, one
+/// record for each event; then the log gets its name on `output_files`, then the picture of what was printed is
 /// written to `picture` and gets its name, and so do the tables. There are none while a transaction is
 /// active or a move outstanding, or where there is no memory for them, which is no fault where none are asked
 /// for. Why a simulation ended early is told to `errors`: a fault of a file, tables that
@@ -40,55 +40,55 @@ pub fn sim_over<
     S: Input + Drop,
     A: Write,
     F: Write + Drop,
-    N: Shelf<F>,
+    N: OutputFiles<F>,
     E: Report,
 >(
     alloc: Global,
     settings: &SimSettings,
     data: D,
     schedule: S,
-    told: &mut A,
+    reported: &mut A,
     log: Option<F>,
     picture: Option<F>,
     tables: Option<F>,
-    shelf: &mut N,
+    output_files: &mut N,
     errors: &mut E,
 ) -> Result<(), Status>
     requires executors { HasExecutors settings.now }
     requires log { is_some log ≡ is_some settings.now.log }
     requires picture { is_some picture ≡ is_some settings.now.picture }
     requires tables { is_some tables ≡ is_some settings.now.tables }
-    ensures simulates { OnOk result (SimulatesAll F.contents (D.remaining «data») (S.remaining schedule) settings.entry.now.executors log picture tables (A.contents told.old) (A.contents told.new) (N.named shelf.old) (N.named shelf.new) (E.told errors.old) (E.told errors.new)) }
-    ensures some { OnErr result (SimulatesSome F.contents (D.remaining «data») (S.remaining schedule) settings.entry.now.executors log picture tables (A.contents told.old) (A.contents told.new) (N.named shelf.old) (N.named shelf.new)) }
-    ensures early { IfErr result (EndsEarly (IsOfSimulating settings.entry.now (D.remaining «data») (D.lasts «data») (S.remaining schedule) (S.lasts schedule)) (E.told errors.old) (E.told errors.new)) }
+    ensures simulates { OnOk result (SimulatesAll F.contents (D.remaining «data») (S.remaining schedule) settings.entry.now.executors log picture tables (A.contents reported.old) (A.contents reported.new) (N.named output_files.old) (N.named output_files.new) (E.reported errors.old) (E.reported errors.new)) }
+    ensures some { OnErr result (SimulatesSome F.contents (D.remaining «data») (S.remaining schedule) settings.entry.now.executors log picture tables (A.contents reported.old) (A.contents reported.new) (N.named output_files.old) (N.named output_files.new)) }
+    ensures early { IfErr result (EndsEarly (IsOfSimulating settings.entry.now (D.remaining «data») (D.lasts «data») (S.remaining schedule) (S.lasts schedule)) (E.reported errors.old) (E.reported errors.new)) }
 {
     match sim(
-        alloc, settings, data, schedule, told, log, picture, tables, shelf, errors,
+        alloc, settings, data, schedule, reported, log, picture, tables, output_files, errors,
     ) {
         Ok(()) => Ok(()),
         Err(fault) => Err(errors.report(fault)),
     }
 }
 
-fn sim<'a, D: Input + Drop, S: Input + Drop, A: Write, F: Write + Drop, N: Shelf<F>, E: Report>(
+fn sim<'a, D: Input + Drop, S: Input + Drop, A: Write, F: Write + Drop, N: OutputFiles<F>, E: Report>(
     alloc: Global,
     settings: &SimSettings<'a>,
     data: D,
     schedule: S,
-    told: &mut A,
+    reported: &mut A,
     log: Option<F>,
     picture: Option<F>,
     tables: Option<F>,
-    shelf: &mut N,
+    output_files: &mut N,
     errors: &mut E,
 ) -> Result<(), CommandFault<'a>>
     requires executors { HasExecutors settings.now }
     requires log { is_some log ≡ is_some settings.now.log }
     requires picture { is_some picture ≡ is_some settings.now.picture }
     requires tables { is_some tables ≡ is_some settings.now.tables }
-    ensures simulates { OnOk result (SimulatesAll F.contents (D.remaining «data») (S.remaining schedule) settings.entry.now.executors log picture tables (A.contents told.old) (A.contents told.new) (N.named shelf.old) (N.named shelf.new) (E.told errors.old) (E.told errors.new)) }
-    ensures some { OnErr result (SimulatesSome F.contents (D.remaining «data») (S.remaining schedule) settings.entry.now.executors log picture tables (A.contents told.old) (A.contents told.new) (N.named shelf.old) (N.named shelf.new)) }
-    ensures told { OnErr result (E.told errors.new ≡ E.told errors.old) }
+    ensures simulates { OnOk result (SimulatesAll F.contents (D.remaining «data») (S.remaining schedule) settings.entry.now.executors log picture tables (A.contents reported.old) (A.contents reported.new) (N.named output_files.old) (N.named output_files.new) (E.reported errors.old) (E.reported errors.new)) }
+    ensures some { OnErr result (SimulatesSome F.contents (D.remaining «data») (S.remaining schedule) settings.entry.now.executors log picture tables (A.contents reported.old) (A.contents reported.new) (N.named output_files.old) (N.named output_files.new)) }
+    ensures reported { OnErr result (E.reported errors.new ≡ E.reported errors.old) }
     ensures fault { IfErr result (IsOfSimulating settings.entry.now (D.remaining «data») (D.lasts «data») (S.remaining schedule) (S.lasts schedule)) }
 {
     let opening = read_tables(alloc, settings.data, data)?;
@@ -107,46 +107,46 @@ fn sim<'a, D: Input + Drop, S: Input + Drop, A: Write, F: Write + Drop, N: Shelf
         schedule.as_slice(),
         &scale,
         &simulation,
-        told,
+        reported,
         log,
         picture,
         tables,
-        shelf,
+        output_files,
     )
 }
 
 // Writes the log, prints what came of the schedule, gives the log its name, and then draws the picture and
 // writes the tables and gives them theirs.
-fn show<'a, A: Write, F: Write + Drop, N: Shelf<F>>(
+fn show<'a, A: Write, F: Write + Drop, N: OutputFiles<F>>(
     alloc: Global,
     settings: &SimSettings<'a>,
     schedule: &[Scheduled],
     scale: &Scale,
     simulation: &Simulation,
-    told: &mut A,
+    reported: &mut A,
     log: Option<F>,
     picture: Option<F>,
     tables: Option<F>,
-    shelf: &mut N,
+    output_files: &mut N,
 ) -> Result<(), CommandFault<'a>>
     requires executors { HasExecutors settings.now }
     requires entries { NameEntries simulation.now.log.items simulation.now.outputs.items }
     requires log { is_some log ≡ is_some settings.now.log }
     requires picture { is_some picture ≡ is_some settings.now.picture }
     requires tables { is_some tables ≡ is_some settings.now.tables }
-    ensures all { OnOk result (Shows F.contents settings.entry.now.executors schedule.now simulation.now log picture tables (A.contents told.old) (A.contents told.new) (N.named shelf.old) (N.named shelf.new)) }
-    ensures some { OnErr result (ShowsSome F.contents settings.entry.now.executors schedule.now simulation.now log picture tables (A.contents told.old) (A.contents told.new) (N.named shelf.old) (N.named shelf.new)) }
+    ensures all { OnOk result (Shows F.contents settings.entry.now.executors schedule.now simulation.now log picture tables (A.contents reported.old) (A.contents reported.new) (N.named output_files.old) (N.named output_files.new)) }
+    ensures some { OnErr result (ShowsSome F.contents settings.entry.now.executors schedule.now simulation.now log picture tables (A.contents reported.old) (A.contents reported.new) (N.named output_files.old) (N.named output_files.new)) }
     ensures fault { IfErr result (λ fault. IsOfGathering (is_some settings.now.tables) simulation.now.tables fault ⊎ IsOfShowing settings.now fault) }
 {
     let entries = simulation.log.as_slice();
     let outputs = simulation.outputs.as_slice();
-    let log = write_entries(alloc, settings.log, log, entries, shelf)?;
-    let printed = print_outputs(alloc, told, outputs, entries);
-    name_printed(printed, log, shelf)?;
+    let log = write_entries(alloc, settings.log, log, entries, output_files)?;
+    let printed = print_outputs(alloc, reported, outputs, entries);
+    name_printed(printed, log, output_files)?;
     draw(
-        alloc, settings, picture, schedule, outputs, entries, scale, shelf,
+        alloc, settings, picture, schedule, outputs, entries, scale, output_files,
     )?;
-    name_gathered(alloc, settings.tables, tables, &simulation.tables, shelf)
+    name_gathered(alloc, settings.tables, tables, &simulation.tables, output_files)
 }
 
 // The items of the schedule of that path.
@@ -183,20 +183,20 @@ fn print_outputs<A: Write>(
 }
 
 // Writes the tables that were gathered, if there is a file for them, and gives it its name.
-fn name_gathered<'a, F: Write + Drop, N: Shelf<F>>(
+fn name_gathered<'a, F: Write + Drop, N: OutputFiles<F>>(
     alloc: Global,
     path: Option<&'a str>,
     tables: Option<F>,
     gathered: &Result<Tables, GatherFault>,
-    shelf: &mut N,
+    output_files: &mut N,
 ) -> Result<(), CommandFault<'a>>
     requires { is_some tables ≡ is_some path }
-    ensures named { OnOk result (NamesTables F.contents tables (N.named shelf.old) (N.named shelf.new) gathered.now) }
-    ensures err { OnErr result (N.named shelf.new ≡ N.named shelf.old) }
+    ensures named { OnOk result (NamesTables F.contents tables (N.named output_files.old) (N.named output_files.new) gathered.now) }
+    ensures err { OnErr result (N.named output_files.new ≡ N.named output_files.old) }
     ensures fault { IfErr result (λ fault. IsOfWritingSome path.entry fault ⊎ IsOfGathering (is_some path.entry) gathered.now fault) }
 {
     match gathered {
-        Ok(last) => Ok(write_tables(alloc, path, tables, last, shelf)?),
+        Ok(last) => Ok(write_tables(alloc, path, tables, last, output_files)?),
         Err(_) if tables.is_none() => Ok(()),
         Err(GatherFault::NotIdle) => Err(CommandFault::NotIdle),
         Err(GatherFault::NoMemory) => Err(CommandFault::NoMemory),
@@ -204,7 +204,7 @@ fn name_gathered<'a, F: Write + Drop, N: Shelf<F>>(
 }
 
 // Draws the picture of the schedule, if there is a file for it, and gives it its name.
-fn draw<'a, F: Write + Drop, N: Shelf<F>>(
+fn draw<'a, F: Write + Drop, N: OutputFiles<F>>(
     alloc: Global,
     settings: &SimSettings<'a>,
     picture: Option<F>,
@@ -212,12 +212,12 @@ fn draw<'a, F: Write + Drop, N: Shelf<F>>(
     outputs: &[Output],
     entries: &[Entry],
     scale: &Scale,
-    shelf: &mut N,
+    output_files: &mut N,
 ) -> Result<(), CommandFault<'a>>
     requires executors { HasExecutors settings.now }
     requires asked { is_some picture ≡ is_some settings.now.picture }
-    ensures named { OnOk result (NamesPicture F.contents picture (N.named shelf.old) (N.named shelf.new) settings.entry.now.executors schedule.now outputs.now entries.now) }
-    ensures err { OnErr result (N.named shelf.new ≡ N.named shelf.old) }
+    ensures named { OnOk result (NamesPicture F.contents picture (N.named output_files.old) (N.named output_files.new) settings.entry.now.executors schedule.now outputs.now entries.now) }
+    ensures err { OnErr result (N.named output_files.new ≡ N.named output_files.old) }
     ensures fault { IfErr result (IsOfWritingSome settings.now.picture) }
 {
     let Some(sink) = picture else {
@@ -236,7 +236,7 @@ fn draw<'a, F: Write + Drop, N: Shelf<F>>(
         scale,
         settings.executors,
     ) {
-        Ok(()) => finished(path, whole, shelf),
+        Ok(()) => finished(path, whole, output_files),
         Err(error) => Err(CommandFault::of_file(path, error)),
     }
 }

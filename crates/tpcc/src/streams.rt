@@ -6,12 +6,12 @@ ghost use Rattle.dataset.specs.Records.{AreRecords};
 ghost use Rattle.files.specs.Sending.{Begins, Writes};
 ghost use Rattle.terminals.specs.LogRecord.{IsLog};
 ghost use Rattle.terminals.specs.Script.{IsScript};
-ghost use Rattle.tpcc.specs.Shelf.{Shelves};
+ghost use Rattle.tpcc.specs.OutputFiles.{Shelves};
 ghost use Rattle.tpcc.specs.Edges.{Gives, NamesFile, HasWritten, IsNamed, lines_text};
 ghost use Rattle.tpcc.specs.Faults.{IsOfReading, IsOfWriting, IsOfWritingSome, standard_output};
 
 use crate::command_fault::CommandFault;
-use crate::shelf::Shelf;
+use crate::output_files::OutputFiles;
 use commit_log::Entry;
 use files::{Input, send};
 use requests::Script;
@@ -40,149 +40,149 @@ pub fn read_tables<'a, D: Input + Drop>(
 }
 
 /// The whole text of the log on the disk, if there is one, and its path; it has no name yet.
-pub fn write_entries<'a, L: Write + Drop, N: Shelf<L>>(
+pub fn write_entries<'a, L: Write + Drop, N: OutputFiles<L>>(
     alloc: Global,
     path: Option<&'a str>,
     log: Option<L>,
     entries: &[Entry],
-    shelf: &mut N,
+    output_files: &mut N,
 ) -> Result<Option<(&'a str, L)>, CommandFault<'a>>
     requires { is_some log ≡ is_some path }
     ensures path { IfOk result (λ whole. option_map (λ named. named.0) whole ≡ path.entry) }
     ensures written { IfOk result (HasWritten L.contents log (IsLog entries.now)) }
-    ensures same { N.named shelf.new ≡ N.named shelf.old }
+    ensures same { N.named output_files.new ≡ N.named output_files.old }
     ensures fault { IfErr result (IsOfWritingSome path.entry) }
 {
     let Some(sink) = log else {
         return Ok(None);
     };
     let Some(path) = path else { unreachable!() };
-    let whole = whole_log(alloc, path, sink, entries, shelf)?;
+    let whole = whole_log(alloc, path, sink, entries, output_files)?;
     Ok(Some((path, whole)))
 }
 
 // The log, all of which is on the disk then.
-fn whole_log<'a, L: Write + Drop, N: Shelf<L>>(
+fn whole_log<'a, L: Write + Drop, N: OutputFiles<L>>(
     alloc: Global,
     path: &'a str,
     sink: L,
     entries: &[Entry],
-    shelf: &mut N,
+    output_files: &mut N,
 ) -> Result<L, CommandFault<'a>>
     ensures text { IfOk result (λ whole. Writes (L.contents sink) (L.contents whole) (IsLog entries.now)) }
-    ensures same { N.named shelf.new ≡ N.named shelf.old }
+    ensures same { N.named output_files.new ≡ N.named output_files.old }
     ensures fault { IfErr result (IsOfWriting path.now) }
 {
     let mut whole = sink;
     match write_log(alloc, &mut whole, entries) {
-        Ok(()) => settled(path, whole, shelf),
+        Ok(()) => settled(path, whole, output_files),
         Err(error) => Err(CommandFault::of_file(path, error)),
     }
 }
 
 /// Writes the tables to their file, if there is one, and gives it its name. After an error it has not got
 /// it.
-pub fn write_tables<'a, T: Write + Drop, N: Shelf<T>>(
+pub fn write_tables<'a, T: Write + Drop, N: OutputFiles<T>>(
     alloc: Global,
     path: Option<&'a str>,
     sink: Option<T>,
     tables: &Tables,
-    shelf: &mut N,
+    output_files: &mut N,
 ) -> Result<(), CommandFault<'a>>
     requires { is_some sink ≡ is_some path }
     ensures asked { OnErr result (is_some sink ≡ true) }
-    ensures named { OnOk result (NamesFile T.contents sink (N.named shelf.old) (N.named shelf.new) (AreRecords tables.now)) }
-    ensures err { OnErr result (N.named shelf.new ≡ N.named shelf.old) }
+    ensures named { OnOk result (NamesFile T.contents sink (N.named output_files.old) (N.named output_files.new) (AreRecords tables.now)) }
+    ensures err { OnErr result (N.named output_files.new ≡ N.named output_files.old) }
     ensures fault { IfErr result (IsOfWritingSome path.entry) }
 {
     let Some(sink) = sink else {
         return Ok(());
     };
     let Some(path) = path else { unreachable!() };
-    name_tables(alloc, path, sink, tables, shelf)
+    name_tables(alloc, path, sink, tables, output_files)
 }
 
 /// Writes the tables and gives the file its name, all of which is on the disk then. After an error it has
 /// not got it.
-pub fn name_tables<'a, T: Write + Drop, N: Shelf<T>>(
+pub fn name_tables<'a, T: Write + Drop, N: OutputFiles<T>>(
     alloc: Global,
     path: &'a str,
     sink: T,
     tables: &Tables,
-    shelf: &mut N,
+    output_files: &mut N,
 ) -> Result<(), CommandFault<'a>>
-    ensures ok { OnOk result (NamesFile T.contents (Some sink) (N.named shelf.old) (N.named shelf.new) (AreRecords tables.now)) }
-    ensures err { OnErr result (N.named shelf.new ≡ N.named shelf.old) }
+    ensures ok { OnOk result (NamesFile T.contents (Some sink) (N.named output_files.old) (N.named output_files.new) (AreRecords tables.now)) }
+    ensures err { OnErr result (N.named output_files.new ≡ N.named output_files.old) }
     ensures fault { IfErr result (IsOfWriting path.now) }
 {
     let mut whole = sink;
     match dataset::write(alloc, &mut whole, tables) {
-        Ok(()) => finished(path, whole, shelf),
+        Ok(()) => finished(path, whole, output_files),
         Err(error) => Err(CommandFault::of_file(path, error)),
     }
 }
 
 /// Writes the script and gives the file its name, all of which is on the disk then. After an error it has
 /// not got it.
-pub fn write_requests<'a, T: Write + Drop, N: Shelf<T>>(
+pub fn write_requests<'a, T: Write + Drop, N: OutputFiles<T>>(
     alloc: Global,
     path: &'a str,
     sink: T,
     script: &Script,
-    shelf: &mut N,
+    output_files: &mut N,
 ) -> Result<(), CommandFault<'a>>
-    ensures ok { OnOk result (NamesFile T.contents (Some sink) (N.named shelf.old) (N.named shelf.new) (IsScript script.now)) }
-    ensures err { OnErr result (N.named shelf.new ≡ N.named shelf.old) }
+    ensures ok { OnOk result (NamesFile T.contents (Some sink) (N.named output_files.old) (N.named output_files.new) (IsScript script.now)) }
+    ensures err { OnErr result (N.named output_files.new ≡ N.named output_files.old) }
     ensures fault { IfErr result (IsOfWriting path.now) }
 {
     let mut whole = sink;
     match write_script(alloc, &mut whole, script) {
-        Ok(()) => finished(path, whole, shelf),
+        Ok(()) => finished(path, whole, output_files),
         Err(error) => Err(CommandFault::of_file(path, error)),
     }
 }
 
 // The file, all of which is on the disk then.
-fn settled<'a, F: Write + Drop, N: Shelf<F>>(
+fn settled<'a, F: Write + Drop, N: OutputFiles<F>>(
     path: &'a str,
     mut file: F,
-    shelf: &mut N,
+    output_files: &mut N,
 ) -> Result<F, CommandFault<'a>>
     ensures text { IfOk result (λ whole. F.contents whole ≡ F.contents file) }
-    ensures same { N.named shelf.new ≡ N.named shelf.old }
+    ensures same { N.named output_files.new ≡ N.named output_files.old }
     ensures fault { IfErr result (IsOfWriting path.now) }
 {
-    match shelf.settle(&mut file) {
+    match output_files.settle(&mut file) {
         Ok(()) => Ok(file),
         Err(_) => Err(CommandFault::not_opened(path)),
     }
 }
 
 /// Gives the file its name, all of which is on the disk then. After an error it has not got it.
-pub fn finished<'a, F: Write + Drop, N: Shelf<F>>(
+pub fn finished<'a, F: Write + Drop, N: OutputFiles<F>>(
     path: &'a str,
     file: F,
-    shelf: &mut N,
+    output_files: &mut N,
 ) -> Result<(), CommandFault<'a>>
-    ensures ok { OnOk result (Shelves (N.named shelf.old) (N.named shelf.new) (F.contents file)) }
-    ensures err { OnErr result (N.named shelf.new ≡ N.named shelf.old) }
+    ensures ok { OnOk result (Shelves (N.named output_files.old) (N.named output_files.new) (F.contents file)) }
+    ensures err { OnErr result (N.named output_files.new ≡ N.named output_files.old) }
     ensures fault { IfErr result (IsOfWriting path.now) }
 {
-    let whole = settled(path, file, shelf)?;
-    named(path, whole, shelf)
+    let whole = settled(path, file, output_files)?;
+    named(path, whole, output_files)
 }
 
 // Gives the file its name.
-fn named<'a, F: Write + Drop, N: Shelf<F>>(
+fn named<'a, F: Write + Drop, N: OutputFiles<F>>(
     path: &'a str,
     file: F,
-    shelf: &mut N,
+    output_files: &mut N,
 ) -> Result<(), CommandFault<'a>>
-    ensures ok { OnOk result (Shelves (N.named shelf.old) (N.named shelf.new) (F.contents file)) }
-    ensures err { OnErr result (N.named shelf.new ≡ N.named shelf.old) }
+    ensures ok { OnOk result (Shelves (N.named output_files.old) (N.named output_files.new) (F.contents file)) }
+    ensures err { OnErr result (N.named output_files.new ≡ N.named output_files.old) }
     ensures fault { IfErr result (IsOfWriting path.now) }
 {
-    match shelf.give_name(file) {
+    match output_files.give_name(file) {
         Ok(()) => Ok(()),
         Err(_) => Err(CommandFault::not_opened(path)),
     }
@@ -190,20 +190,20 @@ fn named<'a, F: Write + Drop, N: Shelf<F>>(
 
 /// Gives the log its name, if there is one, where all was printed that it answers; else leaves it under
 /// its other name, since some of it may have been seen.
-pub fn name_printed<'a, L: Write + Drop, N: Shelf<L>>(
+pub fn name_printed<'a, L: Write + Drop, N: OutputFiles<L>>(
     printed: Result<(), CommandFault<'a>>,
     log: Option<(&'a str, L)>,
-    shelf: &mut N,
+    output_files: &mut N,
 ) -> Result<(), CommandFault<'a>>
     ensures printed { OnOk result (printed.entry ≡ Ok tt) }
-    ensures named { OnOk result (IsNamed L.contents log.entry (N.named shelf.old) (N.named shelf.new)) }
-    ensures err { OnErr result (N.named shelf.new ≡ N.named shelf.old) }
+    ensures named { OnOk result (IsNamed L.contents log.entry (N.named output_files.old) (N.named output_files.new)) }
+    ensures err { OnErr result (N.named output_files.new ≡ N.named output_files.old) }
     ensures fault { IfErr result (λ fault. (printed.entry ≡ Err fault) ⊎ IsOfWritingSome (option_map (λ named. named.0) log.entry) fault) }
 {
     match (printed, log) {
-        (Ok(()), Some((path, log))) => named(path, log, shelf),
+        (Ok(()), Some((path, log))) => named(path, log, output_files),
         (Err(fault), Some((_, log))) => {
-            shelf.leave(log);
+            output_files.leave(log);
             Err(fault)
         }
         (printed, None) => printed,

@@ -16,7 +16,7 @@ pub struct Summary<'a> {
 }
 
 /// Tells it. That it can't be told changes nothing.
-pub fn tell_summary<W: Write>(sink: &mut W, summary: &Summary) {
+pub fn report_summary<W: Write>(sink: &mut W, summary: &Summary) {
     let tally = summary.tally;
     let count = tally.len();
     let _ = writeln!(sink, "tpcc: summary: {count} requests");

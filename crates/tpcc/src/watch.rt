@@ -25,7 +25,7 @@ pub struct Watch<'a, R> {
     first: AtomicU64,
     last: AtomicU64,
     answered: AtomicU64,
-    told: AtomicU64,
+    reported: AtomicU64,
     latencies: Latencies,
 }
 
@@ -44,7 +44,7 @@ impl<'a, R: Clock> Watch<'a, R> {
             first: AtomicU64::new(0),
             last: AtomicU64::new(0),
             answered: AtomicU64::new(0),
-            told: AtomicU64::new(0),
+            reported: AtomicU64::new(0),
             latencies: Latencies::new(alloc),
         }
     }
@@ -70,8 +70,8 @@ impl<'a, R: Clock> Watch<'a, R> {
 
     /// Ends the line that was told of the serving, if there is one.
     pub fn end(&self) {
-        if self.told.load(Ordering::SeqCst) > 0 {
-            self.tell("\n");
+        if self.reported.load(Ordering::SeqCst) > 0 {
+            self.print("\n");
         }
     }
 
@@ -84,20 +84,20 @@ impl<'a, R: Clock> Watch<'a, R> {
     }
 
     // Tells of the serving, once in a second, whichever thread comes by.
-    fn tell_in_time(&self, now: u64) {
-        let told = self.told.load(Ordering::SeqCst);
-        if now.saturating_sub(told) < STRIDE {
+    fn report_in_time(&self, now: u64) {
+        let reported = self.reported.load(Ordering::SeqCst);
+        if now.saturating_sub(reported) < STRIDE {
             return;
         }
         let mine = self
-            .told
-            .compare_exchange(told, now, Ordering::SeqCst, Ordering::SeqCst);
+            .reported
+            .compare_exchange(reported, now, Ordering::SeqCst, Ordering::SeqCst);
         if mine.is_ok() {
-            self.tell("");
+            self.print("");
         }
     }
 
-    fn tell(&self, end: &str) {
+    fn print(&self, end: &str) {
         let Some(mut terminal) = self.terminal else {
             return;
         };
@@ -130,7 +130,7 @@ impl<R: Clock> Gate for Watch<'_, R> {
             self.latencies.end(session, number, now);
             self.last.store(now, Ordering::SeqCst);
             self.answered.fetch_add(1, Ordering::SeqCst);
-            self.tell_in_time(now);
+            self.report_in_time(now);
         }
     }
 }

@@ -15,28 +15,28 @@ use Rattle.requests.specs.declared.delivery.Delivery.{Delivery}
 use Rattle.requests.specs.declared.stock_level.StockLevel.{StockLevel}
 use Rattle.requests.specs.declared.refusal.Refusal.TheVariants.{BadWarehouse, BadDistrict, BadLines, BadQuantity, BadSupply, BadAmount, BadThreshold, BadCarrier}
 use Rattle.requests.specs.Check.{applies, IsAccepted}
-use Rattle.groups.specs.declared.wishes.Wish.{Wish}
+use Rattle.groups.specs.declared.group_wants.GroupWant.{GroupWant}
 use Rattle.groups.specs.Footprint.{exclusively, shared, groups_of, new_order_footprint, delivery_footprint, stock_level_footprint}
 use Rattle.groups.specs.Groups.{is_same}
 use Rattle.groups.specs.NewOrder.{group_of_supply, firsts, supplies_of}
 use Rattle.tickets.specs.Places.{IsGroupOf}
 use Rattle.transactions.proofs.InScale.{between, not_first}
 
--- ---- of lists of wishes
+-- ---- of lists of wants
 
--- wishes for numbers from one to another
-all_from : (P : Group → Type 0) (make : ℕ → Wish) (low high : ℕ) → ((number : ℕ) → low ≤ number → number < high → P (make number).group)
+-- wants for numbers from one to another
+all_from : (P : Group → Type 0) (make : ℕ → GroupWant) (low high : ℕ) → ((number : ℕ) → low ≤ number → number < high → P (make number).group)
     → (from count : ℕ) → low ≤ from → from + count ≤ high → All P (groups_of (map make (range_with_len from count)))
 all_from P make low high each from zero above below = All-nil P
 all_from P make low high each from (suc count) above below =
     All-cons P (make from).group (groups_of (map make (range_with_len (from + 1) count)))
     (each from above (omega arith)) (all_from P make low high each (from + 1) count (omega arith) (omega arith))
 
-all_after : (P : Group → Type 0) (first second : List Wish) → All P (groups_of first) → All P (groups_of second) → All P (groups_of (first ++ second))
+all_after : (P : Group → Type 0) (first second : List GroupWant) → All P (groups_of first) → All P (groups_of second) → All P (groups_of (first ++ second))
 all_after P [] second of_first of_second = of_second
-all_after P (wish ∷ first) second of_first of_second =
-    All-cons P wish.group (groups_of (first ++ second)) (All-head P wish.group (groups_of first) of_first)
-    (all_after P first second (All-tail P wish.group (groups_of first) of_first) of_second)
+all_after P (group_want ∷ first) second of_first of_second =
+    All-cons P group_want.group (groups_of (first ++ second)) (All-head P group_want.group (groups_of first) of_first)
+    (all_after P first second (All-tail P group_want.group (groups_of first) of_first) of_second)
 
 all_exclusively : (P : Group → Type 0) (groups : List Group) → All P groups → All P (groups_of (map exclusively groups))
 all_exclusively P [] all = All-nil P

@@ -21,14 +21,14 @@ use Rattle.groups.specs.Groups.{group_of_customer}
 use Rattle.groups.specs.Content.{content, rows_of}
 use Rattle.groups.specs.Content.Content.{OfCustomers}
 use Rattle.groups.specs.Laws.{with_customer}
-use Rattle.groups.specs.declared.wishes.Mode.TheVariants.{Exclusive}
+use Rattle.groups.specs.declared.group_wants.Mode.TheVariants.{Exclusive}
 use Rattle.groups.proofs.Parts.{get-rows_of-own}
 use Rattle.groups.proofs.RowsPut.{each_put_changes_one_group}
-use Rattle.tickets.specs.Claims.{Claiming}
-use Rattle.tickets.specs.Committed.{TellsContent}
+use Rattle.tickets.specs.Claims.{ClaimView}
+use Rattle.tickets.specs.Committed.{RecordsContent}
 use Rattle.machine.specs.Outcome.{Outcome}
 use Rattle.machine.specs.NewOrder.{order_key}
-use Rattle.machine.specs.Delivery.{Round, Turn, after_turn, customer_delivered, delivered_in, delivered_oldest, delivery_reply, handed_over, no_turns, receiver, told, turn_of}
+use Rattle.machine.specs.Delivery.{Round, Turn, after_turn, customer_delivered, delivered_in, delivered_oldest, delivery_reply, handed_over, no_turns, receiver, recorded, turn_of}
 use Rattle.transactions.specs.declared.delivery.OrderDelivered.{OrderDelivered}
 use Rattle.transactions.specs.Delivery.{AreCredited, AreExclusiveOn, AreOrdersDelivered, Deliveries, IsCredited, IsCustomerCredited, IsOldestOrder, IsOneOutOfRange, IsOrderDelivered, IsOutOfRange, number_of, numbers_of, order_delivered, row_credited, ten}
 use Rattle.transactions.specs.DeliveryLaws.{DeliveriesAreCarriedOut, RolledBackDeliveriesAreCarriedOut, SkippedDeliveriesAreCarriedOut}
@@ -46,7 +46,7 @@ module _ (t : Database) (home : DistrictKey) (carrier moment : ℕ) where
   customers_of = g.Customers home.w_id home.d_id
 
   -- it delivered what was found, left what the claims left, and nothing else changed
-  record IsTurn (one : Option OrderDelivered) (orders customers : Claiming) (turn : Turn) : Type 0 where
+  record IsTurn (one : Option OrderDelivered) (orders customers : ClaimView) (turn : Turn) : Type 0 where
     number : turn.o_id ≡ number_of one
     orders_left : content turn.tables orders_of ≡ orders.left
     customers_left : content turn.tables customers_of ≡ customers.left
@@ -82,15 +82,15 @@ module _ (t : Database) (home : DistrictKey) (carrier moment : ℕ) where
       ∙ ap (λ r. option_map whole (option_map (handed_over t key oldest.row carrier moment) r)) is
 
   -- an order whose customer was credited
-  credited_turn : (order : OrderDelivered) (orders customers : Claiming) → IsOldestOrder t home order
+  credited_turn : (order : OrderDelivered) (orders customers : ClaimView) → IsOldestOrder t home order
       → orders.left ≡ content (order_delivered t home carrier moment (Some order)) orders_of
-      → content t customers_of ≡ customers.told → IsCustomerCredited home order customers
+      → content t customers_of ≡ customers.recorded → IsCustomerCredited home order customers
       → (turn : Turn) × (delivered_oldest t home carrier moment ≡ Some turn) × IsTurn (Some order) orders customers turn
-  credited_turn order orders customers oldest left tells credited =
+  credited_turn order orders customers oldest left records credited =
       let key = order_key home order.o_id in
       let who = customer_of_order key oldest.row in
       let mid = with_delivery t key carrier moment in
-      let has : content t customers_of ≡ OfCustomers credited.rows = tells ∙ credited.told in
+      let has : content t customers_of ≡ OfCustomers credited.rows = records ∙ credited.recorded in
       let put = (each_put_changes_one_group mid).customers who credited.new_row in
       let change = order_changes key carrier moment t in
       let same_key : who ≡ customer_key home order.c_id = ap (customer_key home) (sym oldest.customer) in (
@@ -106,45 +106,45 @@ module _ (t : Database) (home : DistrictKey) (carrier moment : ℕ) where
       )
 
   -- a district's turn, where its customer was credited
-  turn_is : (one : Option OrderDelivered) (orders customers : Claiming) → IsOrderDelivered carrier moment home one orders → content t orders_of ≡ orders.told
-      → content t customers_of ≡ customers.told → IsCredited home one customers
+  turn_is : (one : Option OrderDelivered) (orders customers : ClaimView) → IsOrderDelivered carrier moment home one orders → content t orders_of ≡ orders.recorded
+      → content t customers_of ≡ customers.recorded → IsCredited home one customers
       → (turn : Turn) × (delivered_oldest t home carrier moment ≡ Some turn) × IsTurn one orders customers turn
-  turn_is None orders customers done orders_tell customers_tell credited =
-      let tells : content t orders.group ≡ orders.told = ap (content t) done.claim.group ∙ orders_tell in (
+  turn_is None orders customers done orders_record customers_record credited =
+      let records : content t orders.group ≡ orders.recorded = ap (content t) done.claim.group ∙ orders_record in (
         record { tables = t; o_id = None },
-        ap (turn_of t home carrier moment) (done.shown t tells),
+        ap (turn_of t home carrier moment) (done.shown t records),
         record {
           number = refl;
-          orders_left = sym (done.left t tells ∙ ap (content t) done.claim.group);
-          customers_left = customers_tell ∙ sym credited;
+          orders_left = sym (done.left t records ∙ ap (content t) done.claim.group);
+          customers_left = customers_record ∙ sym credited;
           elsewhere = λ group apart. refl;
         },
       )
-  turn_is (Some order) orders customers done orders_tell customers_tell credited =
-      let tells : content t orders.group ≡ orders.told = ap (content t) done.claim.group ∙ orders_tell in
-      credited_turn order orders customers (done.shown t tells)
-      (done.left t tells ∙ ap (content (order_delivered t home carrier moment (Some order))) done.claim.group) customers_tell credited
+  turn_is (Some order) orders customers done orders_record customers_record credited =
+      let records : content t orders.group ≡ orders.recorded = ap (content t) done.claim.group ∙ orders_record in
+      credited_turn order orders customers (done.shown t records)
+      (done.left t records ∙ ap (content (order_delivered t home carrier moment (Some order))) done.claim.group) customers_record credited
 
   -- and where its customer can't be
-  no_turn : (one : Option OrderDelivered) (orders customers : Claiming) → IsOrderDelivered carrier moment home one orders → content t orders_of ≡ orders.told
-      → content t customers_of ≡ customers.told → IsOutOfRange home one customers → delivered_oldest t home carrier moment ≡ None
-  no_turn None orders customers done orders_tell customers_tell out = absurd out
-  no_turn (Some order) orders customers done orders_tell customers_tell out =
-      let oldest = done.shown t (ap (content t) done.claim.group ∙ orders_tell) in
-      turn_by order oldest None (received order oldest out.rows (customers_tell ∙ out.told) ∙ out.out)
+  no_turn : (one : Option OrderDelivered) (orders customers : ClaimView) → IsOrderDelivered carrier moment home one orders → content t orders_of ≡ orders.recorded
+      → content t customers_of ≡ customers.recorded → IsOutOfRange home one customers → delivered_oldest t home carrier moment ≡ None
+  no_turn None orders customers done orders_record customers_record out = absurd out
+  no_turn (Some order) orders customers done orders_record customers_record out =
+      let oldest = done.shown t (ap (content t) done.claim.group ∙ orders_record) in
+      turn_by order oldest None (received order oldest out.rows (customers_record ∙ out.recorded) ∙ out.out)
 
 -- ---- some districts
 
 module _ (d : Delivery) where
   -- what the tables have in the two groups of each district is what the claims tell
-  abbrev TellBoth : Database → List ℕ → List Claiming → List Claiming → Type 0
-  TellBoth t [] orders customers = Unit {0}
-  TellBoth t (k ∷ ks) (order ∷ orders) (customer ∷ customers) =
-      ((content t (g.Orders d.w_id k) ≡ order.told) × (content t (g.Customers d.w_id k) ≡ customer.told)) × TellBoth t ks orders customers
-  TellBoth t ks orders customers = ⊥
+  abbrev RecordBoth : Database → List ℕ → List ClaimView → List ClaimView → Type 0
+  RecordBoth t [] orders customers = Unit {0}
+  RecordBoth t (k ∷ ks) (order ∷ orders) (customer ∷ customers) =
+      ((content t (g.Orders d.w_id k) ≡ order.recorded) × (content t (g.Customers d.w_id k) ≡ customer.recorded)) × RecordBoth t ks orders customers
+  RecordBoth t ks orders customers = ⊥
 
   -- or what they left
-  abbrev LeaveBoth : Database → List ℕ → List Claiming → List Claiming → Type 0
+  abbrev LeaveBoth : Database → List ℕ → List ClaimView → List ClaimView → Type 0
   LeaveBoth t [] orders customers = Unit {0}
   LeaveBoth t (k ∷ ks) (order ∷ orders) (customer ∷ customers) =
       ((content t (g.Orders d.w_id k) ≡ order.left) × (content t (g.Customers d.w_id k) ≡ customer.left)) × LeaveBoth t ks orders customers
@@ -171,41 +171,41 @@ module _ (d : Delivery) where
   customers_elsewhere k (other ∷ ks) apart = (((λ same. absurd cc), λ (same : g.Customers d.w_id k ≡ g.Customers d.w_id other). let equal : k ≡ other = cc in apart.0 equal), customers_elsewhere k ks apart.1)
 
   -- the turn of one leaves what the claims of the others tell
-  still_tell : (s t : Database) (k : ℕ) → ((group : Group) → (group ≢ g.Orders d.w_id k) × (group ≢ g.Customers d.w_id k) → content s group ≡ content t group)
-      → (ks : List ℕ) (orders customers : List Claiming) → IsNotAmong k ks → TellBoth t ks orders customers → TellBoth s ks orders customers
-  still_tell s t k same [] orders customers apart tell = tt
-  still_tell s t k same (other ∷ ks) [] customers apart tell = absurd tell
-  still_tell s t k same (other ∷ ks) (order ∷ orders) [] apart tell = absurd tell
-  still_tell s t k same (other ∷ ks) (order ∷ orders) (customer ∷ customers) apart tell = (
+  still_record : (s t : Database) (k : ℕ) → ((group : Group) → (group ≢ g.Orders d.w_id k) × (group ≢ g.Customers d.w_id k) → content s group ≡ content t group)
+      → (ks : List ℕ) (orders customers : List ClaimView) → IsNotAmong k ks → RecordBoth t ks orders customers → RecordBoth s ks orders customers
+  still_record s t k same [] orders customers apart show = tt
+  still_record s t k same (other ∷ ks) [] customers apart show = absurd show
+  still_record s t k same (other ∷ ks) (order ∷ orders) [] apart show = absurd show
+  still_record s t k same (other ∷ ks) (order ∷ orders) (customer ∷ customers) apart show = (
     (
-      same (g.Orders d.w_id other) ((λ (is : g.Orders d.w_id other ≡ g.Orders d.w_id k). let equal : k ≡ other = cc in apart.0 equal), λ is. absurd cc) ∙ tell.0.0,
-      same (g.Customers d.w_id other) ((λ is. absurd cc), λ (is : g.Customers d.w_id other ≡ g.Customers d.w_id k). let equal : k ≡ other = cc in apart.0 equal) ∙ tell.0.1,
+      same (g.Orders d.w_id other) ((λ (is : g.Orders d.w_id other ≡ g.Orders d.w_id k). let equal : k ≡ other = cc in apart.0 equal), λ is. absurd cc) ∙ show.0.0,
+      same (g.Customers d.w_id other) ((λ is. absurd cc), λ (is : g.Customers d.w_id other ≡ g.Customers d.w_id k). let equal : k ≡ other = cc in apart.0 equal) ∙ show.0.1,
     ),
-    still_tell s t k same ks orders customers apart.1 tell.1,
+    still_record s t k same ks orders customers apart.1 show.1,
   )
 
   -- the districts delivered what was found, left what the claims left, and nothing else changed
-  record IsRound (t : Database) (ks : List ℕ) (found : Deliveries) (orders customers : List Claiming) (round : Round) : Type 0 where
+  record IsRound (t : Database) (ks : List ℕ) (found : Deliveries) (orders customers : List ClaimView) (round : Round) : Type 0 where
     numbers : round.orders ≡ numbers_of found
     leave : LeaveBoth round.tables ks orders customers
     elsewhere : (group : Group) → IsElsewhere ks group → content round.tables group ≡ content t group
 
-  round_is : (t : Database) (ks : List ℕ) (found : Deliveries) (orders customers : List Claiming) → AreOnce ks → AreOrdersDelivered d ks found orders → AreCredited d.w_id ks found customers
-      → TellBoth t ks orders customers → (round : Round) × (delivered_in t d ks ≡ Some round) × IsRound t ks found orders customers round
+  round_is : (t : Database) (ks : List ℕ) (found : Deliveries) (orders customers : List ClaimView) → AreOnce ks → AreOrdersDelivered d ks found orders → AreCredited d.w_id ks found customers
+      → RecordBoth t ks orders customers → (round : Round) × (delivered_in t d ks ≡ Some round) × IsRound t ks found orders customers round
   unfolding delivered_in
-  round_is t [] [] [] [] once done credited tell =
+  round_is t [] [] [] [] once done credited show =
       (no_turns t, refl, record { numbers = refl; leave = tt; elsewhere = λ group apart. refl })
-  round_is t [] [] [] (customer ∷ customers) once done credited tell = absurd credited
-  round_is t [] [] (order ∷ orders) customers once done credited tell = absurd done
-  round_is t [] (one ∷ found) orders customers once done credited tell = absurd done
-  round_is t (k ∷ ks) [] orders customers once done credited tell = absurd done
-  round_is t (k ∷ ks) (one ∷ found) [] customers once done credited tell = absurd done
-  round_is t (k ∷ ks) (one ∷ found) (order ∷ orders) [] once done credited tell = absurd credited
-  round_is t (k ∷ ks) (one ∷ found) (order ∷ orders) (customer ∷ customers) once done credited tell =
+  round_is t [] [] [] (customer ∷ customers) once done credited show = absurd credited
+  round_is t [] [] (order ∷ orders) customers once done credited show = absurd done
+  round_is t [] (one ∷ found) orders customers once done credited show = absurd done
+  round_is t (k ∷ ks) [] orders customers once done credited show = absurd done
+  round_is t (k ∷ ks) (one ∷ found) [] customers once done credited show = absurd done
+  round_is t (k ∷ ks) (one ∷ found) (order ∷ orders) [] once done credited show = absurd credited
+  round_is t (k ∷ ks) (one ∷ found) (order ∷ orders) (customer ∷ customers) once done credited show =
       let home = district_key d.w_id k in
-      let first = turn_is t home d.carrier_id d.moment one order customer done.0 tell.0.0 tell.0.1 credited.0 in
+      let first = turn_is t home d.carrier_id d.moment one order customer done.0 show.0.0 show.0.1 credited.0 in
       let turn = first.0 in
-      let rest = round_is turn.tables ks found orders customers once.1 done.1 credited.1 (still_tell turn.tables t k first.2.elsewhere ks orders customers once.0 tell.1) in (
+      let rest = round_is turn.tables ks found orders customers once.1 done.1 credited.1 (still_record turn.tables t k first.2.elsewhere ks orders customers once.0 show.1) in (
         after_turn turn rest.0,
         ap (option_and_then (λ (turn : Turn). option_map (after_turn turn) (delivered_in turn.tables d ks))) first.1 ∙ ap (option_map (after_turn turn)) rest.1,
         record {
@@ -222,26 +222,26 @@ module _ (d : Delivery) where
       )
 
   -- one of them can't be delivered
-  no_round : (t : Database) (ks : List ℕ) (found : Deliveries) (orders customers : List Claiming) → AreOnce ks → AreOrdersDelivered d ks found orders → IsOneOutOfRange d.w_id ks found customers
-      → TellBoth t ks orders customers → delivered_in t d ks ≡ None
+  no_round : (t : Database) (ks : List ℕ) (found : Deliveries) (orders customers : List ClaimView) → AreOnce ks → AreOrdersDelivered d ks found orders → IsOneOutOfRange d.w_id ks found customers
+      → RecordBoth t ks orders customers → delivered_in t d ks ≡ None
   unfolding delivered_in
-  no_round t [] found orders customers once done out tell = absurd out
-  no_round t (k ∷ ks) [] orders customers once done out tell = absurd out
-  no_round t (k ∷ ks) (one ∷ found) [] customers once done out tell = absurd done
-  no_round t (k ∷ ks) (one ∷ found) (order ∷ orders) [] once done out tell = absurd out
-  no_round t (k ∷ ks) (one ∷ found) (order ∷ orders) (customer ∷ customers) once done (inl out) tell =
+  no_round t [] found orders customers once done out show = absurd out
+  no_round t (k ∷ ks) [] orders customers once done out show = absurd out
+  no_round t (k ∷ ks) (one ∷ found) [] customers once done out show = absurd done
+  no_round t (k ∷ ks) (one ∷ found) (order ∷ orders) [] once done out show = absurd out
+  no_round t (k ∷ ks) (one ∷ found) (order ∷ orders) (customer ∷ customers) once done (inl out) show =
       ap (option_and_then (λ (turn : Turn). option_map (after_turn turn) (delivered_in turn.tables d ks)))
-      (no_turn t (district_key d.w_id k) d.carrier_id d.moment one order customer done.0 tell.0.0 tell.0.1 out)
-  no_round t (k ∷ ks) (one ∷ found) (order ∷ orders) (customer ∷ customers) once done (inr later) tell =
-      let first = turn_is t (district_key d.w_id k) d.carrier_id d.moment one order customer done.0 tell.0.0 tell.0.1 later.0 in
+      (no_turn t (district_key d.w_id k) d.carrier_id d.moment one order customer done.0 show.0.0 show.0.1 out)
+  no_round t (k ∷ ks) (one ∷ found) (order ∷ orders) (customer ∷ customers) once done (inr later) show =
+      let first = turn_is t (district_key d.w_id k) d.carrier_id d.moment one order customer done.0 show.0.0 show.0.1 later.0 in
       let turn = first.0 in
       ap (option_and_then (λ (turn : Turn). option_map (after_turn turn) (delivered_in turn.tables d ks))) first.1
-      ∙ ap (option_map (after_turn turn)) (no_round turn.tables ks found orders customers once.1 done.1 later.1 (still_tell turn.tables t k first.2.elsewhere ks orders customers once.0 tell.1))
+      ∙ ap (option_map (after_turn turn)) (no_round turn.tables ks found orders customers once.1 done.1 later.1 (still_record turn.tables t k first.2.elsewhere ks orders customers once.0 show.1))
 
   -- ---- the claims
 
   -- each claim is on its group
-  pub orders_on : (ks : List ℕ) (found : Deliveries) (orders : List Claiming) → AreOrdersDelivered d ks found orders → AreExclusiveOn (map (g.Orders d.w_id) ks) orders
+  pub orders_on : (ks : List ℕ) (found : Deliveries) (orders : List ClaimView) → AreOrdersDelivered d ks found orders → AreExclusiveOn (map (g.Orders d.w_id) ks) orders
   orders_on [] [] [] done = tt
   orders_on [] [] (order ∷ orders) done = absurd done
   orders_on [] (one ∷ found) orders done = absurd done
@@ -249,21 +249,21 @@ module _ (d : Delivery) where
   orders_on (k ∷ ks) (one ∷ found) [] done = absurd done
   orders_on (k ∷ ks) (one ∷ found) (order ∷ orders) done = (done.0.claim, orders_on ks found orders done.1)
 
-  tell_both : (t : Database) (ks : List ℕ) (orders customers : List Claiming) → AreExclusiveOn (map (g.Orders d.w_id) ks) orders → AreExclusiveOn (map (g.Customers d.w_id) ks) customers
-      → AllByRecursion (TellsContent (content t)) orders → AllByRecursion (TellsContent (content t)) customers → TellBoth t ks orders customers
-  tell_both t [] orders customers on_orders on_customers orders_tell customers_tell = tt
-  tell_both t (k ∷ ks) [] customers on_orders on_customers orders_tell customers_tell = absurd on_orders
-  tell_both t (k ∷ ks) (order ∷ orders) [] on_orders on_customers orders_tell customers_tell = absurd on_customers
-  tell_both t (k ∷ ks) (order ∷ orders) (customer ∷ customers) on_orders on_customers orders_tell customers_tell = (
-    (ap (content t) (sym on_orders.0.group) ∙ orders_tell.0, ap (content t) (sym on_customers.0.group) ∙ customers_tell.0),
-    tell_both t ks orders customers on_orders.1 on_customers.1 orders_tell.1 customers_tell.1,
+  record_both : (t : Database) (ks : List ℕ) (orders customers : List ClaimView) → AreExclusiveOn (map (g.Orders d.w_id) ks) orders → AreExclusiveOn (map (g.Customers d.w_id) ks) customers
+      → AllByRecursion (RecordsContent (content t)) orders → AllByRecursion (RecordsContent (content t)) customers → RecordBoth t ks orders customers
+  record_both t [] orders customers on_orders on_customers orders_record customers_record = tt
+  record_both t (k ∷ ks) [] customers on_orders on_customers orders_record customers_record = absurd on_orders
+  record_both t (k ∷ ks) (order ∷ orders) [] on_orders on_customers orders_record customers_record = absurd on_customers
+  record_both t (k ∷ ks) (order ∷ orders) (customer ∷ customers) on_orders on_customers orders_record customers_record = (
+    (ap (content t) (sym on_orders.0.group) ∙ orders_record.0, ap (content t) (sym on_customers.0.group) ∙ customers_record.0),
+    record_both t ks orders customers on_orders.1 on_customers.1 orders_record.1 customers_record.1,
   )
 
   -- an exclusive claim left what these tables have
-  abbrev Leaves : Database → Claiming → Type 0
+  abbrev Leaves : Database → ClaimView → Type 0
   Leaves t claim = claim.left ≡ content t claim.group
 
-  leave_orders : (t : Database) (ks : List ℕ) (orders customers : List Claiming) → AreExclusiveOn (map (g.Orders d.w_id) ks) orders → LeaveBoth t ks orders customers → AllByRecursion (Leaves t) orders
+  leave_orders : (t : Database) (ks : List ℕ) (orders customers : List ClaimView) → AreExclusiveOn (map (g.Orders d.w_id) ks) orders → LeaveBoth t ks orders customers → AllByRecursion (Leaves t) orders
   leave_orders t [] [] customers on leave = tt
   leave_orders t [] (order ∷ orders) customers on leave = absurd on
   leave_orders t (k ∷ ks) [] customers on leave = absurd on
@@ -271,7 +271,7 @@ module _ (d : Delivery) where
   leave_orders t (k ∷ ks) (order ∷ orders) (customer ∷ customers) on leave =
       (sym leave.0.0 ∙ ap (content t) (sym on.0.group), leave_orders t ks orders customers on.1 leave.1)
 
-  leave_customers : (t : Database) (ks : List ℕ) (orders customers : List Claiming) → AreExclusiveOn (map (g.Customers d.w_id) ks) customers → LeaveBoth t ks orders customers → AllByRecursion (Leaves t) customers
+  leave_customers : (t : Database) (ks : List ℕ) (orders customers : List ClaimView) → AreExclusiveOn (map (g.Customers d.w_id) ks) customers → LeaveBoth t ks orders customers → AllByRecursion (Leaves t) customers
   leave_customers t [] orders [] on leave = tt
   leave_customers t [] orders (customer ∷ customers) on leave = absurd on
   leave_customers t (k ∷ ks) orders [] on leave = absurd on
@@ -280,9 +280,9 @@ module _ (d : Delivery) where
       (sym leave.0.1 ∙ ap (content t) (sym on.0.group), leave_customers t ks orders customers on.1 leave.1)
 
   -- a group on which none of them is is elsewhere
-  is_elsewhere : (group : Group) (ks : List ℕ) (orders customers : List Claiming) → AreExclusiveOn (map (g.Orders d.w_id) ks) orders → AreExclusiveOn (map (g.Customers d.w_id) ks) customers
-      → AllByRecursion (λ (claim : Claiming). claim.mode ≡ Exclusive → group ≢ claim.group) orders
-      → AllByRecursion (λ (claim : Claiming). claim.mode ≡ Exclusive → group ≢ claim.group) customers → IsElsewhere ks group
+  is_elsewhere : (group : Group) (ks : List ℕ) (orders customers : List ClaimView) → AreExclusiveOn (map (g.Orders d.w_id) ks) orders → AreExclusiveOn (map (g.Customers d.w_id) ks) customers
+      → AllByRecursion (λ (claim : ClaimView). claim.mode ≡ Exclusive → group ≢ claim.group) orders
+      → AllByRecursion (λ (claim : ClaimView). claim.mode ≡ Exclusive → group ≢ claim.group) customers → IsElsewhere ks group
   is_elsewhere group [] orders customers on_orders on_customers first second = tt
   is_elsewhere group (k ∷ ks) [] customers on_orders on_customers first second = absurd on_orders
   is_elsewhere group (k ∷ ks) (order ∷ orders) [] on_orders on_customers first second = absurd on_customers
@@ -293,23 +293,23 @@ module _ (d : Delivery) where
 
   -- ---- no district has a new order
 
-  round_skipped : (t : Database) (ks : List ℕ) (found : Deliveries) (orders : List Claiming) → AreOrdersDelivered d ks found orders → list_any is_some found ≡ false
-      → AllByRecursion (TellsContent (content t)) orders
+  round_skipped : (t : Database) (ks : List ℕ) (found : Deliveries) (orders : List ClaimView) → AreOrdersDelivered d ks found orders → list_any is_some found ≡ false
+      → AllByRecursion (RecordsContent (content t)) orders
       → (delivered_in t d ks ≡ Some (record { tables = t; orders = numbers_of found })) × AllByRecursion (Leaves t) orders
   unfolding delivered_in
-  round_skipped t [] [] [] done none tell = (refl, tt)
-  round_skipped t [] [] (order ∷ orders) done none tell = absurd done
-  round_skipped t [] (one ∷ found) orders done none tell = absurd done
-  round_skipped t (k ∷ ks) [] orders done none tell = absurd done
-  round_skipped t (k ∷ ks) (one ∷ found) [] done none tell = absurd done
-  round_skipped t (k ∷ ks) (Some one ∷ found) (order ∷ orders) done none tell = absurd cc
-  round_skipped t (k ∷ ks) (None ∷ found) (order ∷ orders) done none tell =
+  round_skipped t [] [] [] done none show = (refl, tt)
+  round_skipped t [] [] (order ∷ orders) done none show = absurd done
+  round_skipped t [] (one ∷ found) orders done none show = absurd done
+  round_skipped t (k ∷ ks) [] orders done none show = absurd done
+  round_skipped t (k ∷ ks) (one ∷ found) [] done none show = absurd done
+  round_skipped t (k ∷ ks) (Some one ∷ found) (order ∷ orders) done none show = absurd cc
+  round_skipped t (k ∷ ks) (None ∷ found) (order ∷ orders) done none show =
       let home = district_key d.w_id k in
-      let rest = round_skipped t ks found orders done.1 none tell.1 in
+      let rest = round_skipped t ks found orders done.1 none show.1 in
       let turn : Turn = record { tables = t; o_id = None } in (
-        ap (λ r. option_and_then (λ (turn : Turn). option_map (after_turn turn) (delivered_in turn.tables d ks)) (turn_of t home d.carrier_id d.moment r)) (done.0.shown t tell.0)
+        ap (λ r. option_and_then (λ (turn : Turn). option_map (after_turn turn) (delivered_in turn.tables d ks)) (turn_of t home d.carrier_id d.moment r)) (done.0.shown t show.0)
             ∙ ap (option_map (after_turn turn)) rest.0,
-        (done.0.left t tell.0, rest.1),
+        (done.0.left t show.0, rest.1),
       )
 
 -- ---- the laws
@@ -323,21 +323,21 @@ all_once d from zero = tt
 all_once d from (suc count) = (all_apart from (from + 1) count (omega arith), all_once d (from + 1) count)
 
 -- an exclusive claim that left what tables have left it in its group
-left_there : (t : Database) (group : Group) (claims : List Claiming) → AllByRecursion (λ (claim : Claiming). claim.left ≡ content t claim.group) claims
-    → AllByRecursion (λ (claim : Claiming). claim.mode ≡ Exclusive → group ≡ claim.group → claim.left ≡ content t group) claims
+left_there : (t : Database) (group : Group) (claims : List ClaimView) → AllByRecursion (λ (claim : ClaimView). claim.left ≡ content t claim.group) claims
+    → AllByRecursion (λ (claim : ClaimView). claim.mode ≡ Exclusive → group ≡ claim.group → claim.left ≡ content t group) claims
 left_there t group [] leave = tt
 left_there t group (claim ∷ claims) leave = ((λ is same. leave.0 ∙ ap (content t) (sym same)), left_there t group claims leave.1)
 
 pub deliveries_are_carried_out : DeliveriesAreCarriedOut
-deliveries_are_carried_out opening d found orders customers done credited t scale items tells =
-    let each = recursion_from_All (TellsContent (content t)) (orders ++ customers) tells in
+deliveries_are_carried_out opening d found orders customers done credited t scale items records =
+    let each = recursion_from_All (RecordsContent (content t)) (orders ++ customers) records in
     let on_orders = orders_on d ten found orders done in
     let on_customers = credited.claims in
-    let tell = tell_both d t ten orders customers on_orders on_customers (each_of_first (TellsContent (content t)) orders customers each) (each_of_second (TellsContent (content t)) orders customers each) in
-    let round = round_is d t ten found orders customers (all_once d 1 10) done credited.rows tell in
-    let made : told t d (delivered_in t d ten) ≡ told t d (Some round.0) = ap (told t d) round.1 in
+    let show = record_both d t ten orders customers on_orders on_customers (each_of_first (RecordsContent (content t)) orders customers each) (each_of_second (RecordsContent (content t)) orders customers each) in
+    let round = round_is d t ten found orders customers (all_once d 1 10) done credited.rows show in
+    let made : recorded t d (delivered_in t d ten) ≡ recorded t d (Some round.0) = ap (recorded t d) round.1 in
     let new = round.0.tables in
-    let Apart : Group → Claiming → Type 0 = λ group claim. claim.mode ≡ Exclusive → group ≢ claim.group in (
+    let Apart : Group → ClaimView → Type 0 = λ group claim. claim.mode ≡ Exclusive → group ≢ claim.group in (
       ap (λ (o : Outcome). o.reply) made ∙ ap (λ numbers. reply.Done (kind.Delivery (delivery_reply d numbers))) round.2.numbers,
       λ group.
           ap (λ (o : Outcome). content o.tables group) made
@@ -348,18 +348,18 @@ deliveries_are_carried_out opening d found orders customers done credited t scal
     )
 
 pub skipped_deliveries_are_carried_out : SkippedDeliveriesAreCarriedOut
-skipped_deliveries_are_carried_out opening d found orders done none t scale items tells =
-    let each = recursion_from_All (TellsContent (content t)) orders tells in
+skipped_deliveries_are_carried_out opening d found orders done none t scale items records =
+    let each = recursion_from_All (RecordsContent (content t)) orders records in
     let round = round_skipped d t ten found orders done none each in
-    let made : told t d (delivered_in t d ten) ≡ told t d (Some (record { tables = t; orders = numbers_of found })) = ap (told t d) round.0 in (
+    let made : recorded t d (delivered_in t d ten) ≡ recorded t d (Some (record { tables = t; orders = numbers_of found })) = ap (recorded t d) round.0 in (
       ap (λ (o : Outcome). o.reply) made,
       λ group. ap (λ (o : Outcome). content o.tables group) made ∙ sym (settles orders group (content t group) (content t group) (left_there t group orders round.1) (λ none. refl)),
     )
 
 pub rolled_back_deliveries_are_carried_out : RolledBackDeliveriesAreCarriedOut
-rolled_back_deliveries_are_carried_out opening d found orders customers done out t scale items tells =
-    let each = recursion_from_All (TellsContent (content t)) (orders ++ customers) tells in
+rolled_back_deliveries_are_carried_out opening d found orders customers done out t scale items records =
+    let each = recursion_from_All (RecordsContent (content t)) (orders ++ customers) records in
     let on_orders = orders_on d ten found orders done in
-    let tell = tell_both d t ten orders customers on_orders out.claims (each_of_first (TellsContent (content t)) orders customers each) (each_of_second (TellsContent (content t)) orders customers each) in
-    let made : told t d (delivered_in t d ten) ≡ told t d None = ap (told t d) (no_round d t ten found orders customers (all_once d 1 10) done out.rows tell) in
+    let show = record_both d t ten orders customers on_orders out.claims (each_of_first (RecordsContent (content t)) orders customers each) (each_of_second (RecordsContent (content t)) orders customers each) in
+    let made : recorded t d (delivered_in t d ten) ≡ recorded t d None = ap (recorded t d) (no_round d t ten found orders customers (all_once d 1 10) done out.rows show) in
     (ap (λ (o : Outcome). o.reply) made, λ group. ap (λ (o : Outcome). content o.tables group) made)

@@ -21,7 +21,7 @@ use Rattle.groups.specs.Content.Content.{OfOrders}
 use Rattle.groups.specs.Laws.{order_in, with_customer}
 use Rattle.groups.proofs.Parts.{get-rows_of-own}
 use Rattle.groups.proofs.RowsInGroups.{each_row_stands_in_one_group, same_row}
-use Rattle.tickets.specs.Claims.{Claiming, leaving}
+use Rattle.tickets.specs.Claims.{ClaimView, leaving}
 use Rattle.slices.specs.Undo.{with_order_delivered}
 use Rattle.machine.specs.NewOrder.{order_key}
 use Rattle.machine.specs.Delivery.{amount_of, customer_delivered}
@@ -31,12 +31,12 @@ use Rattle.transactions.specs.declared.delivery.OrderDelivered.{OrderDelivered}
 use Rattle.transactions.specs.Granted.{IsExclusiveOn, IsFresh}
 use Rattle.transactions.specs.Delivery.{IsCustomerCredited, IsCustomerOutOfRange, IsOldestOrder, IsOrderDelivered, row_credited}
 use Rattle.transactions.proofs.DeliveryChanges.{order_changes}
-use Rattle.transactions.proofs.PaymentDone.{left_here, on_still, told_here}
+use Rattle.transactions.proofs.PaymentDone.{left_here, on_still, recorded_here}
 
 -- ---- the customer of one district's order
 
 module _
-    (t : Database) (home : DistrictKey) (order : OrderDelivered) (was now : Claiming)
+    (t : Database) (home : DistrictKey) (order : OrderDelivered) (was now : ClaimView)
     (on : IsExclusiveOn (g.Customers home.w_id home.d_id) was) (new : IsFresh was) (left : was.left ≡ content t was.group)
   where
     abbrev rows : Customers
@@ -53,7 +53,7 @@ module _
         → option_and_then (λ (r : Customer). customer_delivered r order.amount) row ≡ None → IsCustomerOutOfRange home order now
     customer_is_out row same is out = record {
       rows = rows;
-      told = ap (λ (k : Claiming). k.told) same ∙ told_here t _ was on new left;
+      recorded = ap (λ (k : ClaimView). k.recorded) same ∙ recorded_here t _ was on new left;
       out = found row is ∙ out;
     }
 
@@ -61,10 +61,10 @@ module _
         → now ≡ leaving was (with_customer (customer_key home order.c_id) new_row was.left) → IsCustomerCredited home order now
     customer_is_credited row new_row is made after = record {
       rows = rows;
-      told = ap (λ (k : Claiming). k.told) after ∙ told_here t _ was on new left;
+      recorded = ap (λ (k : ClaimView). k.recorded) after ∙ recorded_here t _ was on new left;
       new_row = new_row;
       made = found (Some row) is ∙ made;
-      left = ap (λ (k : Claiming). k.left) after ∙ ap (with_customer (customer_key home order.c_id) new_row) (left_here t _ was on new left);
+      left = ap (λ (k : ClaimView). k.left) after ∙ ap (with_customer (customer_key home order.c_id) new_row) (left_here t _ was on new left);
     }
 
 -- ---- the orders of one district
@@ -110,15 +110,15 @@ module _ (home : DistrictKey) where
           amount = is.amount ∙ sym (amount_here t order.o_id) ∙ ap (amount_in key) (sym alike) ∙ amount_here s order.o_id;
         }
 
-  module _ (t : Database) (carrier moment : ℕ) (was now : Claiming) (on : IsExclusiveOn own was) (new : IsFresh was) (left : was.left ≡ content t was.group) where
+  module _ (t : Database) (carrier moment : ℕ) (was now : ClaimView) (on : IsExclusiveOn own was) (new : IsFresh was) (left : was.left ≡ content t was.group) where
     pub none_is_delivered : now ≡ was → oldest_new_order t home ≡ None → IsOrderDelivered carrier moment home None now
     none_is_delivered same none =
         let claim = on_still own was now on was.left same in
-        let told : now.told ≡ content t own = ap (λ (k : Claiming). k.told) same ∙ told_here t own was on new left in
+        let recorded : now.recorded ≡ content t own = ap (λ (k : ClaimView). k.recorded) same ∙ recorded_here t own was on new left in
         record {
           claim = claim;
-          shown = λ s tells. same_oldest s t (ap (content s) (sym claim.group) ∙ tells ∙ told) ∙ none;
-          left = λ s tells. ap (λ (k : Claiming). k.left) same ∙ new.left ∙ sym (ap (λ (k : Claiming). k.told) same) ∙ sym tells;
+          shown = λ s records. same_oldest s t (ap (content s) (sym claim.group) ∙ records ∙ recorded) ∙ none;
+          left = λ s records. ap (λ (k : ClaimView). k.left) same ∙ new.left ∙ sym (ap (λ (k : ClaimView). k.recorded) same) ∙ sym records;
         }
 
     pub order_is_delivered : (order : OrderDelivered) → IsOldestOrder t home order → now ≡ leaving was (with_order_delivered (order_key home order.o_id) carrier moment was.left)
@@ -126,12 +126,12 @@ module _ (home : DistrictKey) where
     order_is_delivered order is after =
         let key = order_key home order.o_id in
         let claim = on_still own was now on _ after in
-        let told : now.told ≡ content t own = ap (λ (k : Claiming). k.told) after ∙ told_here t own was on new left in
+        let recorded : now.recorded ≡ content t own = ap (λ (k : ClaimView). k.recorded) after ∙ recorded_here t own was on new left in
         record {
           claim = claim;
-          shown = λ s tells. same_order s t (ap (content s) (sym claim.group) ∙ tells ∙ told) order is;
-          left = λ s tells.
-              let alike : content s own ≡ content t own = ap (content s) (sym claim.group) ∙ tells ∙ told in
-              ap (λ (k : Claiming). k.left) after ∙ ap (with_order_delivered key carrier moment) (left_here t own was on new left ∙ sym alike)
+          shown = λ s records. same_order s t (ap (content s) (sym claim.group) ∙ records ∙ recorded) order is;
+          left = λ s records.
+              let alike : content s own ≡ content t own = ap (content s) (sym claim.group) ∙ records ∙ recorded in
+              ap (λ (k : ClaimView). k.left) after ∙ ap (with_order_delivered key carrier moment) (left_here t own was on new left ∙ sym alike)
               ∙ sym (order_changes key carrier moment s).here ∙ ap (content (with_delivery s key carrier moment)) (sym claim.group);
         }

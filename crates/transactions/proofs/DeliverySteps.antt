@@ -1,14 +1,14 @@
 -- What follows of what the actions of a Delivery found.
 use Rattle.std.proofs.Common.{◌≡◌, ◌∙◌, false, List, [], ◌∷◌, ◌++◌, ap, sym, subst}
 use Rattle.std.proofs.lemmas.List.{append-nil}
-use Rattle.partitions.specs.Parts.{Shared}
+use Rattle.partitions.specs.Parts.{SharedTables}
 use Rattle.requests.specs.declared.request.Request.TheVariants as request
 use Rattle.requests.specs.declared.delivery.Delivery.{Delivery}
 use Rattle.requests.specs.declared.reply.Fault.TheVariants.{Range}
 use Rattle.requests.specs.declared.reply.Reply.{Reply}
 use Rattle.requests.specs.declared.reply.Reply.TheVariants as reply
 use Rattle.requests.specs.declared.reply.Shown.TheVariants as kind
-use Rattle.tickets.specs.Claims.{Claiming, all_claims}
+use Rattle.tickets.specs.Claims.{ClaimView, all_claims}
 use Rattle.commit_log.specs.Claimed.{IsCarriedOut}
 use Rattle.machine.specs.Delivery.{delivery_reply}
 use Rattle.transactions.specs.declared.delivery.CustomersCredited.{CustomersCredited}
@@ -30,14 +30,14 @@ use Rattle.transactions.proofs.Done.{first_done, none_done}
 use Rattle.transactions.proofs.DeliveryCarriedOut.{deliveries_are_carried_out, skipped_deliveries_are_carried_out, rolled_back_deliveries_are_carried_out}
 
 -- the one action of a phase found this, under these claims
-pub record HasOneDone (shared : Shared) (work : Work) (found : List Found) (claims : List (List Claiming)) : Type 0 where
+pub record HasOneDone (shared : SharedTables) (work : Work) (found : List Found) (claims : List (List ClaimView)) : Type 0 where
   pub one : OwnFound
-  pub held : List Claiming
+  pub held : List ClaimView
   pub found_is : found ≡ any_found.Delivery one ∷ []
   pub claims_is : claims ≡ held ∷ []
   pub done : HasDone shared work one held
 
-pub one_done : (shared : Shared) (work : Work) (found : List Found) (claims : List (List Claiming))
+pub one_done : (shared : SharedTables) (work : Work) (found : List Found) (claims : List (List ClaimView))
     → HaveAllDone shared (any_work.Delivery work ∷ []) found claims → HasOneDone shared work found claims
 one_done shared work found claims done =
     let first = first_done shared (any_work.Delivery work) [] found claims done in
@@ -55,15 +55,15 @@ one_done shared work found claims done =
 same_orders : (delivered other : Deliveries) → any_found.Delivery (Orders delivered) ∷ [] ≡ any_found.Delivery (Orders other) ∷ [] → delivered ≡ other
 same_orders delivered other same = cc
 
-pub orders_found : (shared : Shared) (d : Delivery) (found : List Found) (claims : List (List Claiming))
+pub orders_found : (shared : SharedTables) (d : Delivery) (found : List Found) (claims : List (List ClaimView))
     → HaveAllDone shared (any_work.Delivery (DeliverOrders d) ∷ []) found claims → AreOrdersOf found
 orders_found shared d found claims done =
     let one = one_done shared (DeliverOrders d) found claims done in
     (one.done.0, one.found_is ∙ ap (λ (f : OwnFound). any_found.Delivery f ∷ []) one.done.1)
 
 -- what was found of the orders is what the claims tell
-orders_are : (shared : Shared) (d : Delivery) (found : List Found) (delivered : Deliveries) (claims : List (List Claiming)) → found ≡ any_found.Delivery (Orders delivered) ∷ []
-    → HaveAllDone shared (any_work.Delivery (DeliverOrders d) ∷ []) found claims → (orders : List Claiming) × (claims ≡ orders ∷ []) × AreOrdersDelivered d ten delivered orders
+orders_are : (shared : SharedTables) (d : Delivery) (found : List Found) (delivered : Deliveries) (claims : List (List ClaimView)) → found ≡ any_found.Delivery (Orders delivered) ∷ []
+    → HaveAllDone shared (any_work.Delivery (DeliverOrders d) ∷ []) found claims → (orders : List ClaimView) × (claims ≡ orders ∷ []) × AreOrdersDelivered d ten delivered orders
 orders_are shared d found delivered claims is done =
     let one = one_done shared (DeliverOrders d) found claims done in
     let found_here : found ≡ any_found.Delivery (Orders one.done.0) ∷ [] = one.found_is ∙ ap (λ (f : OwnFound). any_found.Delivery f ∷ []) one.done.1 in
@@ -77,7 +77,7 @@ orders_follow d found delivered is shared asked held claims known done =
       is = known.is;
       accepted = known.accepted;
       orders = orders.0;
-      claims = ap (λ (hs : List (List Claiming)). hs ++ claims) known.none ∙ orders.1;
+      claims = ap (λ (hs : List (List ClaimView)). hs ++ claims) known.none ∙ orders.1;
       done = orders.2;
     }
 
@@ -86,7 +86,7 @@ pub skipped_follow : (d : Delivery) (found : List Found) (delivered : Deliveries
 skipped_follow d found delivered is none shared asked held claims known done opening same =
     let orders = orders_are shared d found delivered claims is done in
     let all : all_claims (held ++ claims) ≡ orders.0 =
-    ap (λ (hs : List (List Claiming)). all_claims (hs ++ claims)) known.none ∙ ap all_claims orders.1 ∙ append-nil orders.0 in
+    ap (λ (hs : List (List ClaimView)). all_claims (hs ++ claims)) known.none ∙ ap all_claims orders.1 ∙ append-nil orders.0 in
     let replied : Reply = reply.Done (kind.Delivery (delivery_reply d (numbers_of delivered))) in
     subst (λ r. IsCarriedOut opening r (all_claims (held ++ claims)) replied) (sym known.is)
     (subst (λ cs. IsCarriedOut opening (request.Delivery d) cs replied) (sym all)
@@ -97,22 +97,22 @@ skipped_follow d found delivered is none shared asked held claims known done ope
 same_customers : (one other : CustomersCredited) → any_found.Delivery (Customers one) ∷ [] ≡ any_found.Delivery (Customers other) ∷ [] → one ≡ other
 same_customers one other same = cc
 
-pub customers_found : (shared : Shared) (d : Delivery) (delivered : Deliveries) (found : List Found) (claims : List (List Claiming))
+pub customers_found : (shared : SharedTables) (d : Delivery) (delivered : Deliveries) (found : List Found) (claims : List (List ClaimView))
     → HaveAllDone shared (any_work.Delivery (CreditCustomers d delivered) ∷ []) found claims → AreCustomersOf found
 customers_found shared d delivered found claims done =
     let one = one_done shared (CreditCustomers d delivered) found claims done in
     (one.done.0, one.found_is ∙ ap (λ (f : OwnFound). any_found.Delivery f ∷ []) one.done.1)
 
-customers_are : (shared : Shared) (d : Delivery) (delivered : Deliveries) (found : List Found) (credited : CustomersCredited) (claims : List (List Claiming))
+customers_are : (shared : SharedTables) (d : Delivery) (delivered : Deliveries) (found : List Found) (credited : CustomersCredited) (claims : List (List ClaimView))
     → found ≡ any_found.Delivery (Customers credited) ∷ [] → HaveAllDone shared (any_work.Delivery (CreditCustomers d delivered) ∷ []) found claims
-    → (customers : List Claiming) × (claims ≡ customers ∷ []) × AreCustomersCredited d.w_id ten delivered credited customers
+    → (customers : List ClaimView) × (claims ≡ customers ∷ []) × AreCustomersCredited d.w_id ten delivered credited customers
 customers_are shared d delivered found credited claims is done =
     let one = one_done shared (CreditCustomers d delivered) found claims done in
     let found_here : found ≡ any_found.Delivery (Customers one.done.0) ∷ [] = one.found_is ∙ ap (λ (f : OwnFound). any_found.Delivery f ∷ []) one.done.1 in
     (one.held, one.claims_is, subst (λ (one_is : CustomersCredited). AreCustomersCredited d.w_id ten delivered one_is one.held) (same_customers one.done.0 credited (sym found_here ∙ is)) one.done.2)
 
 -- the claims of both phases
-both_claims : (held claims : List (List Claiming)) (orders customers : List Claiming) → held ≡ orders ∷ [] → claims ≡ customers ∷ [] → all_claims (held ++ claims) ≡ orders ++ customers
+both_claims : (held claims : List (List ClaimView)) (orders customers : List ClaimView) → held ≡ orders ∷ [] → claims ≡ customers ∷ [] → all_claims (held ++ claims) ≡ orders ++ customers
 both_claims held claims orders customers held_is claims_is =
     (λ i. all_claims (held_is i ++ claims_is i)) ∙ ap (λ cs. orders ++ cs) (append-nil customers)
 

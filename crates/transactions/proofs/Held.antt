@@ -2,26 +2,26 @@
 use Rattle.std.proofs.Common.{◌≡◌, ℕ, List, map, sym, subst}
 use Rattle.std.specs.Prelude.{Contains}
 use Rattle.requests.specs.declared.group.Group.{Group}
-use Rattle.groups.specs.declared.wishes.Wish.{Wish}
+use Rattle.groups.specs.declared.group_wants.GroupWant.{GroupWant}
 use Rattle.local_locks.specs.Conflicts.{Blocks, ClaimConflicts, MustDie}
-use Rattle.local_locks.specs.Locking.{Holding}
+use Rattle.local_locks.specs.LockTableView.{HeldClaim}
 use Rattle.local_locks.proofs.Views.{unmapped}
 use Rattle.transactions.specs.Works.{want_of}
 
--- a claim on a group that one wishes for
-pub record HoldsWished (holdings : List Holding) (wishes : List Wish) : Type 0 where
-  pub holding : Holding
+-- a claim on a group that one wants for
+pub record HoldsGroupWanted (holdings : List HeldClaim) (group_wants : List GroupWant) : Type 0 where
+  pub holding : HeldClaim
   pub held : Contains holdings holding
-  pub wish : Wish
-  pub wished : Contains wishes wish
-  pub on : holding.group ≡ wish.group
+  pub group_want : GroupWant
+  pub group_wanted : Contains group_wants group_want
+  pub on : holding.group ≡ group_want.group
 
--- it dies of one who holds a group that it wishes for
-pub dies_of_holder : (holdings : List Holding) (age : ℕ) (wishes : List Wish) (group : Group) (oldest : ℕ) → MustDie holdings age (map want_of wishes) group oldest → HoldsWished holdings wishes
-dies_of_holder holdings age wishes group oldest death =
+-- it dies of one who holds a group that it wants for
+pub dies_of_holder : (holdings : List HeldClaim) (age : ℕ) (group_wants : List GroupWant) (group : Group) (oldest : ℕ) → MustDie holdings age (map want_of group_wants) group oldest → HoldsGroupWanted holdings group_wants
+dies_of_holder holdings age group_wants group oldest death =
     let h = death.some.0 in
-    let blocks : Blocks holdings (map want_of wishes) h = death.some.1 in
+    let blocks : Blocks holdings (map want_of group_wants) h = death.some.1 in
     let any = blocks.1 in
-    let found = unmapped want_of wishes any.1 (any.0, any.2, any.3) in
+    let found = unmapped want_of group_wants any.1 (any.0, any.2, any.3) in
     let conflict : ClaimConflicts holdings h (want_of found.0) = subst (ClaimConflicts holdings h) (sym found.2) any.4 in
-    record { holding = h; held = blocks.0; wish = found.0; wished = found.1; on = sym conflict.covered }
+    record { holding = h; held = blocks.0; group_want = found.0; group_wanted = found.1; on = sym conflict.covered }

@@ -11,10 +11,10 @@ use Rattle.schema.specs.Scale.{has_warehouse, has_district, has_customer}
 use Rattle.partitions.specs.Parts.{Part, IsPart, is_of, has_district_of}
 use Rattle.groups.specs.Groups.{warehouse_of}
 use Rattle.groups.specs.Footprint.{groups_of}
-use Rattle.groups.specs.declared.wishes.Wish.{Wish}
-use Rattle.tickets.specs.Claims.{Claiming}
-use Rattle.slices.specs.Sliced.{IsClaimAt, AreOfOneHome}
-use Rattle.transactions.specs.Granted.{AreGrantedFor, AreWishesAt}
+use Rattle.groups.specs.declared.group_wants.GroupWant.{GroupWant}
+use Rattle.tickets.specs.Claims.{ClaimView}
+use Rattle.slices.specs.SliceView.{IsClaimAt, AreOfOneHome}
+use Rattle.transactions.specs.Granted.{AreGrantedFor, AreGroupWantsAt}
 
 -- ---- the warehouse's customers
 
@@ -30,32 +30,32 @@ customer_known p key part there =
 
 -- ---- claims on groups of one warehouse
 
--- claims that were granted for wishes are where the wishes are
-pub granted_each : (home : ℕ) (wishes : List Wish) (claims : List Claiming) → AreGrantedFor wishes claims → AreWishesAt home wishes → All (IsClaimAt home) claims
+-- claims that were granted for wants are where the wants are
+pub granted_each : (home : ℕ) (group_wants : List GroupWant) (claims : List ClaimView) → AreGrantedFor group_wants claims → AreGroupWantsAt home group_wants → All (IsClaimAt home) claims
 granted_each home [] [] granted here = All-nil (IsClaimAt home)
 granted_each home [] (claim ∷ claims) granted here = absurd granted
-granted_each home (wish ∷ wishes) [] granted here = absurd granted
-granted_each home (wish ∷ wishes) (claim ∷ claims) granted here =
-    All-cons (IsClaimAt home) claim claims (ap warehouse_of granted.0.group ∙ All-head (λ (w : Wish). warehouse_of w.group ≡ home) wish wishes here)
-    (granted_each home wishes claims granted.1 (All-tail (λ (w : Wish). warehouse_of w.group ≡ home) wish wishes here))
+granted_each home (group_want ∷ group_wants) [] granted here = absurd granted
+granted_each home (group_want ∷ group_wants) (claim ∷ claims) granted here =
+    All-cons (IsClaimAt home) claim claims (ap warehouse_of granted.0.group ∙ All-head (λ (w : GroupWant). warehouse_of w.group ≡ home) group_want group_wants here)
+    (granted_each home group_wants claims granted.1 (All-tail (λ (w : GroupWant). warehouse_of w.group ≡ home) group_want group_wants here))
 
 -- claims are where their groups are
-each_here : (home : ℕ) (claims : List Claiming) → All (λ group. warehouse_of group ≡ home) (map (λ (claim : Claiming). claim.group) claims) → All (IsClaimAt home) claims
+each_here : (home : ℕ) (claims : List ClaimView) → All (λ group. warehouse_of group ≡ home) (map (λ (claim : ClaimView). claim.group) claims) → All (IsClaimAt home) claims
 each_here home [] here = All-nil (IsClaimAt home)
 each_here home (claim ∷ claims) here =
     All-cons (IsClaimAt home) claim claims
-    (All-head (λ group. warehouse_of group ≡ home) claim.group (map (λ (claim : Claiming). claim.group) claims) here)
-    (each_here home claims (All-tail (λ group. warehouse_of group ≡ home) claim.group (map (λ (claim : Claiming). claim.group) claims) here))
+    (All-head (λ group. warehouse_of group ≡ home) claim.group (map (λ (claim : ClaimView). claim.group) claims) here)
+    (each_here home claims (All-tail (λ group. warehouse_of group ≡ home) claim.group (map (λ (claim : ClaimView). claim.group) claims) here))
 
--- so claims on the groups of wishes are where the wishes are
-pub claims_here : (home : ℕ) (wishes : List Wish) (claims : List Claiming) → map (λ (claim : Claiming). claim.group) claims ≡ groups_of wishes → AreWishesAt home wishes
+-- so claims on the groups of wants are where the wants are
+pub claims_here : (home : ℕ) (group_wants : List GroupWant) (claims : List ClaimView) → map (λ (claim : ClaimView). claim.group) claims ≡ groups_of group_wants → AreGroupWantsAt home group_wants
     → All (IsClaimAt home) claims
-claims_here home wishes claims on here =
+claims_here home group_wants claims on here =
     each_here home claims
-    (subst (All (λ group. warehouse_of group ≡ home)) (sym on) (All-map (λ group. warehouse_of group ≡ home) (λ (wish : Wish). wish.group) wishes here))
+    (subst (All (λ group. warehouse_of group ≡ home)) (sym on) (All-map (λ group. warehouse_of group ≡ home) (λ (group_want : GroupWant). group_want.group) group_wants here))
 
 -- claims on groups of one warehouse, where there are some
-pub of_one_home : (home : ℕ) (claims : List Claiming) → 1 ≤ length claims → All (IsClaimAt home) claims → AreOfOneHome claims
+pub of_one_home : (home : ℕ) (claims : List ClaimView) → 1 ≤ length claims → All (IsClaimAt home) claims → AreOfOneHome claims
 of_one_home home [] some here = absurd (omega (arith, some))
 of_one_home home (claim ∷ claims) some here =
     subst (λ h. All (IsClaimAt h) (claim ∷ claims)) (sym (All-head (IsClaimAt home) claim claims here)) here

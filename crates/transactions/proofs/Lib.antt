@@ -1,6 +1,6 @@
 pub mod Settled
 pub mod Homes
-pub mod Told
+pub mod Recorded
 pub mod PaymentCarriedOut
 pub mod PaymentRolledBack
 pub mod Kept
@@ -18,7 +18,7 @@ pub mod PaymentWorks
 pub mod OrderStatusWorks
 pub mod StockLevelWorks
 pub mod Granted
-pub mod Wished
+pub mod GroupWanted
 pub mod Done
 pub mod PaymentSteps
 pub mod OrderStatusSteps
@@ -45,7 +45,7 @@ pub mod DeliveryAmount
 pub mod DeliveryDone
 pub mod DeliveryWorks
 pub mod DeliverySteps
-pub mod Stations
+pub mod Shards
 pub mod Wanted
 pub mod Held
 pub mod SortedOut

@@ -5,7 +5,7 @@ use Rattle.std.specs.List.{AllByRecursion, list_all, list_any}
 use Rattle.std.specs.FinMap as table
 use Rattle.std.proofs.lemmas.Bool.{and_parts}
 use Rattle.std.proofs.lemmas.List.Elements.{recursion_from_All}
-use Rattle.partitions.specs.Parts.{Shared, shared_of}
+use Rattle.partitions.specs.Parts.{SharedTables, shared_of}
 use Rattle.rows.specs.declared.records.Item.{Item}
 use Rattle.rows.specs.declared.records.Stock.{Stock}
 use Rattle.rows.specs.declared.records.Warehouse.{Warehouse}
@@ -28,10 +28,10 @@ use Rattle.groups.specs.Groups.{group_of_customer}
 use Rattle.groups.specs.Content.{content, rows_of}
 use Rattle.groups.specs.Content.Content.{OfWarehouse, OfDistrict, OfCustomers}
 use Rattle.groups.specs.NewOrder.{supplies_of}
-use Rattle.groups.specs.declared.wishes.Mode.TheVariants.{Exclusive}
+use Rattle.groups.specs.declared.group_wants.Mode.TheVariants.{Exclusive}
 use Rattle.groups.proofs.Parts.{get-rows_of-own}
-use Rattle.tickets.specs.Claims.{Claiming}
-use Rattle.tickets.specs.Committed.{TellsContent, contents_after}
+use Rattle.tickets.specs.Claims.{ClaimView}
+use Rattle.tickets.specs.Committed.{RecordsContent, contents_after}
 use Rattle.machine.specs.Outcome.{Outcome, rolled_back}
 use Rattle.machine.specs.NewOrder.{district_ordered, items_found, line_rows, lines_shown, new_order, new_order_reply, order_key, order_row, ordered, placed, placed_of, placed_within, supplies}
 use Rattle.machine.specs.NewOrderLines.{lines_placed}
@@ -117,8 +117,8 @@ no_row (Some customer) is = absurd cc
 no_row None is = refl
 
 -- the claims on the stock are exclusive ones on its groups, in turn
-stocks_exclusive : (shared : Shared) (n : NewOrder) (groups : List Group) (found : List StockTaken) (stocks : List Claiming) → AreStocksTaken shared n groups found stocks
-    → AllByRecursion (λ (stock : Claiming). stock.mode ≡ Exclusive) stocks
+stocks_exclusive : (shared : SharedTables) (n : NewOrder) (groups : List Group) (found : List StockTaken) (stocks : List ClaimView) → AreStocksTaken shared n groups found stocks
+    → AllByRecursion (λ (stock : ClaimView). stock.mode ≡ Exclusive) stocks
 stocks_exclusive shared n [] [] [] taken = tt
 stocks_exclusive shared n [] (one ∷ found) stocks taken = absurd taken
 stocks_exclusive shared n [] [] (stock ∷ stocks) taken = absurd taken
@@ -126,8 +126,8 @@ stocks_exclusive shared n (group ∷ groups) [] stocks taken = absurd taken
 stocks_exclusive shared n (group ∷ groups) (one ∷ found) [] taken = absurd taken
 stocks_exclusive shared n (group ∷ groups) (one ∷ found) (stock ∷ stocks) taken = (taken.0.claim.mode, stocks_exclusive shared n groups found stocks taken.2)
 
-pub stocks_on : (shared : Shared) (n : NewOrder) (groups : List Group) (found : List StockTaken) (stocks : List Claiming) → AreStocksTaken shared n groups found stocks
-    → map (λ (stock : Claiming). stock.group) stocks ≡ groups
+pub stocks_on : (shared : SharedTables) (n : NewOrder) (groups : List Group) (found : List StockTaken) (stocks : List ClaimView) → AreStocksTaken shared n groups found stocks
+    → map (λ (stock : ClaimView). stock.group) stocks ≡ groups
 stocks_on shared n [] [] [] taken = refl
 stocks_on shared n [] (one ∷ found) stocks taken = absurd taken
 stocks_on shared n [] [] (stock ∷ stocks) taken = absurd taken
@@ -138,24 +138,24 @@ stocks_on shared n (group ∷ groups) (one ∷ found) (stock ∷ stocks) taken =
     λ i. taken.0.claim.group i ∷ rest i
 
 module _ (t : Database) (n : NewOrder) where
-  orderer_told : (found : OrdererFound) (customers : Claiming) → content t customers.group ≡ customers.told → (shown : IsOrdererShown n found customers)
+  orderer_recorded : (found : OrdererFound) (customers : ClaimView) → content t customers.group ≡ customers.recorded → (shown : IsOrdererShown n found customers)
       → table.get t.customers (customer_key n.home n.c_id) ≡ table.get shown.rows (customer_key n.home n.c_id)
-  orderer_told found customers tells shown =
+  orderer_recorded found customers records shown =
       let own = g.Customers n.home.w_id n.home.d_id in
-      let has : OfCustomers (rows_of group_of_customer own t.customers) ≡ OfCustomers shown.rows = ap (content t) (sym shown.claim.group) ∙ tells ∙ shown.told in
+      let has : OfCustomers (rows_of group_of_customer own t.customers) ≡ OfCustomers shown.rows = ap (content t) (sym shown.claim.group) ∙ records ∙ shown.recorded in
       let same : rows_of group_of_customer own t.customers ≡ shown.rows = cc in
       sym (get-rows_of-own customers_total customers_exact group_of_customer t.customers (customer_key n.home n.c_id))
       ∙ ap (λ (rows : Customers). table.get rows (customer_key n.home n.c_id)) same
 
-  warehouse_told : (found : HomeFound) (warehouse district : Claiming) → IsHomeOrdered n found warehouse district → content t warehouse.group ≡ warehouse.told
-      → (row : Option Warehouse) → warehouse.told ≡ OfWarehouse row → table.get t.warehouses n.home.w_id ≡ row
-  warehouse_told found warehouse district is tells row told =
-      let has : OfWarehouse (table.get t.warehouses n.home.w_id) ≡ OfWarehouse row = ap (content t) (sym is.warehouse_claim.group) ∙ tells ∙ told in cc
+  warehouse_recorded : (found : HomeFound) (warehouse district : ClaimView) → IsHomeOrdered n found warehouse district → content t warehouse.group ≡ warehouse.recorded
+      → (row : Option Warehouse) → warehouse.recorded ≡ OfWarehouse row → table.get t.warehouses n.home.w_id ≡ row
+  warehouse_recorded found warehouse district is records row recorded =
+      let has : OfWarehouse (table.get t.warehouses n.home.w_id) ≡ OfWarehouse row = ap (content t) (sym is.warehouse_claim.group) ∙ records ∙ recorded in cc
 
-  district_told : (found : HomeFound) (warehouse district : Claiming) → IsHomeOrdered n found warehouse district → content t district.group ≡ district.told
-      → (row : Option District) → district.told ≡ OfDistrict row → table.get t.districts n.home ≡ row
-  district_told found warehouse district is tells row told =
-      let has : OfDistrict (table.get t.districts n.home) ≡ OfDistrict row = ap (content t) (sym is.district_claim.group) ∙ tells ∙ told in cc
+  district_recorded : (found : HomeFound) (warehouse district : ClaimView) → IsHomeOrdered n found warehouse district → content t district.group ≡ district.recorded
+      → (row : Option District) → district.recorded ≡ OfDistrict row → table.get t.districts n.home ≡ row
+  district_recorded found warehouse district is records row recorded =
+      let has : OfDistrict (table.get t.districts n.home) ≡ OfDistrict row = ap (content t) (sym is.district_claim.group) ∙ records ∙ recorded in cc
 
   -- ---- one of the three isn't there
 
@@ -171,25 +171,25 @@ module _ (t : Database) (n : NewOrder) where
   no_orderer (Some w) None o none = refl
   no_orderer None d o none = refl
 
-  nobody : (home : HomeFound) (orderer : OrdererFound) (warehouse district customers : Claiming) → IsHomeOrdered n home warehouse district → IsOrdererShown n orderer customers
-      → content t warehouse.group ≡ warehouse.told → content t district.group ≡ district.told → content t customers.group ≡ customers.told
+  nobody : (home : HomeFound) (orderer : OrdererFound) (warehouse district customers : ClaimView) → IsHomeOrdered n home warehouse district → IsOrdererShown n orderer customers
+      → content t warehouse.group ≡ warehouse.recorded → content t district.group ≡ district.recorded → content t customers.group ≡ customers.recorded
       → (home ≡ h.Missing) ⊎ (orderer ≡ c.Missing) → new_order t n ≡ rolled_back t NoCustomer
   nobody h.Missing orderer warehouse district customers is shown w d o missing = by_home is.rows.none
     where
-      by_home : (warehouse.told ≡ OfWarehouse None) ⊎ (district.told ≡ OfDistrict None) → new_order t n ≡ rolled_back t NoCustomer
-      by_home (inl none) = no_warehouse _ _ _ (warehouse_told h.Missing warehouse district is w None none)
-      by_home (inr none) = no_district _ _ _ (district_told h.Missing warehouse district is d None none)
+      by_home : (warehouse.recorded ≡ OfWarehouse None) ⊎ (district.recorded ≡ OfDistrict None) → new_order t n ≡ rolled_back t NoCustomer
+      by_home (inl none) = no_warehouse _ _ _ (warehouse_recorded h.Missing warehouse district is w None none)
+      by_home (inr none) = no_district _ _ _ (district_recorded h.Missing warehouse district is d None none)
   nobody (h.Shown home) c.Missing warehouse district customers is shown w d o missing =
-      no_orderer _ _ _ (orderer_told c.Missing customers o shown ∙ no_row _ shown.shown)
+      no_orderer _ _ _ (orderer_recorded c.Missing customers o shown ∙ no_row _ shown.shown)
   nobody (h.Shown home) (c.Shown orderer) warehouse district customers is shown w d o (inl missing) = absurd cc
   nobody (h.Shown home) (c.Shown orderer) warehouse district customers is shown w d o (inr missing) = absurd cc
 
   -- ---- all three are
 
   module _
-      (home : HomeShown) (orderer : Orderer) (warehouse district customers : Claiming)
+      (home : HomeShown) (orderer : Orderer) (warehouse district customers : ClaimView)
       (is : IsHomeOrdered n (h.Shown home) warehouse district) (shown : IsOrdererShown n (c.Shown orderer) customers)
-      (warehouse_tells : content t warehouse.group ≡ warehouse.told) (district_tells : content t district.group ≡ district.told) (customers_tell : content t customers.group ≡ customers.told)
+      (warehouse_records : content t warehouse.group ≡ warehouse.recorded) (district_records : content t district.group ≡ district.recorded) (customers_record : content t customers.group ≡ customers.recorded)
     where
       abbrev w : Warehouse
       w = is.rows.warehouse_row
@@ -202,9 +202,9 @@ module _ (t : Database) (n : NewOrder) where
 
       all_there : new_order t n ≡ placed_of t n w d who.customer (items_found t n.lines)
       all_there =
-          let w_is = warehouse_told (h.Shown home) warehouse district is warehouse_tells (Some w) is.rows.warehouse_told in
-          let d_is = district_told (h.Shown home) warehouse district is district_tells (Some d) is.rows.district_told in
-          let o_is = orderer_told (c.Shown orderer) customers customers_tell shown ∙ who.there in
+          let w_is = warehouse_recorded (h.Shown home) warehouse district is warehouse_records (Some w) is.rows.warehouse_recorded in
+          let d_is = district_recorded (h.Shown home) warehouse district is district_records (Some d) is.rows.district_recorded in
+          let o_is = orderer_recorded (c.Shown orderer) customers customers_record shown ∙ who.there in
           λ i. ordered t n (w_is i) (d_is i) (o_is i)
 
       -- ---- rolled back
@@ -227,10 +227,10 @@ module _ (t : Database) (n : NewOrder) where
       no_supplies : (items : List Item) → items_found t n.lines ≡ Some items → lines_placed t n 1 n.lines ≡ None → supplies t n ≡ None
       no_supplies items items_are none = subst (Agrees t n 1 n.lines items) none (agrees t n n.lines 1 items items_are)
 
-      rolled : (shared : Shared) → shared_of t ≡ shared → (found : List StockTaken) (stocks : List Claiming) → AreStocksTaken shared n (supplies_of n.lines) found stocks
-          → AllByRecursion (TellsContent (content t)) stocks → (fault : Fault) → decided n home orderer found ≡ Err fault → new_order t n ≡ rolled_back t fault
-      rolled shared same found stocks taken tells fault back =
-          by (subst (λ those. IsRolledBack n home orderer those fault) (found_by shared t n same (supplies_of n.lines) found stocks taken tells) (is_rolled_back n home orderer found fault back))
+      rolled : (shared : SharedTables) → shared_of t ≡ shared → (found : List StockTaken) (stocks : List ClaimView) → AreStocksTaken shared n (supplies_of n.lines) found stocks
+          → AllByRecursion (RecordsContent (content t)) stocks → (fault : Fault) → decided n home orderer found ≡ Err fault → new_order t n ≡ rolled_back t fault
+      rolled shared same found stocks taken records fault back =
+          by (subst (λ those. IsRolledBack n home orderer those fault) (found_by shared t n same (supplies_of n.lines) found stocks taken records) (is_rolled_back n home orderer found fault back))
         where
           by : IsRolledBack n home orderer (map (found_in t n) (supplies_of n.lines)) fault → new_order t n ≡ rolled_back t fault
           by (inl missing) = no_item (items_missing t n missing.0) ∙ ap (rolled_back t) missing.1
@@ -247,15 +247,15 @@ module _ (t : Database) (n : NewOrder) where
       -- ---- carried out
 
       module _
-          (shared : Shared) (same : shared_of t ≡ shared) (found : List StockTaken) (stocks : List Claiming) (taken : AreStocksTaken shared n (supplies_of n.lines) found stocks)
-          (stocks_tell : AllByRecursion (TellsContent (content t)) stocks) (given : OrderPlaced) (by : IsPlaced n home orderer found given)
-          (orders : Claiming) (orders_tell : content t orders.group ≡ orders.told) (added : IsOrderAdded given.rows orders)
+          (shared : SharedTables) (same : shared_of t ≡ shared) (found : List StockTaken) (stocks : List ClaimView) (taken : AreStocksTaken shared n (supplies_of n.lines) found stocks)
+          (stocks_record : AllByRecursion (RecordsContent (content t)) stocks) (given : OrderPlaced) (by : IsPlaced n home orderer found given)
+          (orders : ClaimView) (orders_record : content t orders.group ≡ orders.recorded) (added : IsOrderAdded given.rows orders)
         where
           abbrev lines : List LineSold
           lines = sold n home orderer found
 
           found_is : found ≡ map (found_in t n) (supplies_of n.lines)
-          found_is = found_by shared t n same (supplies_of n.lines) found stocks taken stocks_tell
+          found_is = found_by shared t n same (supplies_of n.lines) found stocks taken stocks_record
 
           -- the machine sells the same lines
           record AreSold : Type 0 where
@@ -305,31 +305,31 @@ module _ (t : Database) (n : NewOrder) where
               let number : home.o_id ≡ d.next_o_id = ap (λ (s : HomeShown). s.o_id) is.rows.shown in
               settled t n d.next_o_id new.0 rows warehouse district customers stocks orders is.warehouse_claim.mode shown.claim.mode is.district_claim
               (is.rows.left ∙ ap (λ o. OfDistrict (Some (unwrap_or o d))) new.1)
-              (stocks_leave t n d.next_o_id new.0 rows shared same (supplies_of n.lines) found stocks taken stocks_tell by.taken (supplies_are_stock n.lines))
+              (stocks_leave t n d.next_o_id new.0 rows shared same (supplies_of n.lines) found stocks taken stocks_record by.taken (supplies_are_stock n.lines))
               (stocks_exclusive shared n (supplies_of n.lines) found stocks taken) (stocks_on shared n (supplies_of n.lines) found stocks taken)
               own.claim
-              (own.left t orders_tell ∙ (λ i. content (with_order t (order_key n.home (number i)) (order_row n) (are_sold.rows_are i)) orders.group))
+              (own.left t orders_record ∙ (λ i. content (with_order t (order_key n.home (number i)) (order_row n) (are_sold.rows_are i)) orders.group))
 
 -- ---- the laws
 
 pub new_orders_of_nobody_are_carried_out : NewOrdersOfNobodyAreCarriedOut
-new_orders_of_nobody_are_carried_out opening n home orderer warehouse district customers is shown missing t scale items tells =
-    let each = recursion_from_All (TellsContent (content t)) (warehouse ∷ district ∷ customers ∷ []) tells in
+new_orders_of_nobody_are_carried_out opening n home orderer warehouse district customers is shown missing t scale items records =
+    let each = recursion_from_All (RecordsContent (content t)) (warehouse ∷ district ∷ customers ∷ []) records in
     let done = nobody t n home orderer warehouse district customers is shown each.0 each.1.0 each.1.1.0 missing in
     (ap (λ (o : Outcome). o.reply) done, λ group. ap (λ (o : Outcome). content o.tables group) done)
 
 pub rolled_back_new_orders_are_carried_out : RolledBackNewOrdersAreCarriedOut
-rolled_back_new_orders_are_carried_out opening n home orderer found fault warehouse district customers stocks is shown taken back t scale items tells =
-    let each = recursion_from_All (TellsContent (content t)) (warehouse ∷ district ∷ customers ∷ stocks) tells in
+rolled_back_new_orders_are_carried_out opening n home orderer found fault warehouse district customers stocks is shown taken back t scale items records =
+    let each = recursion_from_All (RecordsContent (content t)) (warehouse ∷ district ∷ customers ∷ stocks) records in
     let same : shared_of t ≡ shared_of opening = λ i. record { scale = scale i; items = items i } in
     let done = rolled t n home orderer warehouse district customers is shown each.0 each.1.0 each.1.1.0 (shared_of opening) same found stocks taken each.1.1.1 fault back in
     (ap (λ (o : Outcome). o.reply) done, λ group. ap (λ (o : Outcome). content o.tables group) done)
 
 pub new_orders_are_carried_out : NewOrdersAreCarriedOut
-new_orders_are_carried_out opening n home orderer found given warehouse district customers stocks orders is shown taken done added t scale items tells =
-    let each = recursion_from_All (TellsContent (content t)) (warehouse ∷ district ∷ customers ∷ (stocks ++ orders ∷ [])) tells in
-    let of_stocks = each_of_first (TellsContent (content t)) stocks (orders ∷ []) each.1.1.1 in
-    let of_orders = each_of_second (TellsContent (content t)) stocks (orders ∷ []) each.1.1.1 in
+new_orders_are_carried_out opening n home orderer found given warehouse district customers stocks orders is shown taken done added t scale items records =
+    let each = recursion_from_All (RecordsContent (content t)) (warehouse ∷ district ∷ customers ∷ (stocks ++ orders ∷ [])) records in
+    let of_stocks = each_of_first (RecordsContent (content t)) stocks (orders ∷ []) each.1.1.1 in
+    let of_orders = each_of_second (RecordsContent (content t)) stocks (orders ∷ []) each.1.1.1 in
     let same : shared_of t ≡ shared_of opening = λ i. record { scale = scale i; items = items i } in
     let by = is_placed n home orderer found given done in
     let made = carried t n home orderer warehouse district customers is shown each.0 each.1.0 each.1.1.0 (shared_of opening) same found stocks taken of_stocks given by orders of_orders.0 added in

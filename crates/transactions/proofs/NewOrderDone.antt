@@ -14,9 +14,9 @@ use Rattle.requests.specs.declared.new_order.NewOrder.{NewOrder}
 use Rattle.groups.specs.Groups.{group_of_customer, group_of_line, group_of_order}
 use Rattle.groups.specs.Content.{content, rows_of}
 use Rattle.groups.specs.Content.Content.{OfCustomers, OfOrders}
-use Rattle.groups.specs.declared.wishes.Mode.TheVariants.{Shared}
+use Rattle.groups.specs.declared.group_wants.Mode.TheVariants.{Shared}
 use Rattle.groups.proofs.Parts.{get-rows_of-own, rows_of-insert_own}
-use Rattle.tickets.specs.Claims.{Claiming, leaving}
+use Rattle.tickets.specs.Claims.{ClaimView, leaving}
 use Rattle.slices.specs.Undo.{with_order_more}
 use Rattle.transactions.specs.declared.new_order.OrderRows.{OrderRows}
 use Rattle.transactions.specs.declared.new_order.OrdererFound.{OrdererFound}
@@ -24,16 +24,16 @@ use Rattle.transactions.specs.Granted.{IsExclusiveOn, IsFresh, IsSharedOn}
 use Rattle.transactions.specs.NewOrder.{IsOrderAdded, IsOrdererShown, orderer_found}
 
 -- the customer
-pub orderer_is_shown : (t : Database) (n : NewOrder) (found : OrdererFound) (was now : Claiming) → IsSharedOn (g.Customers n.home.w_id n.home.d_id) was
-    → was.left ≡ content t was.group → (was.mode ≡ Shared → was.left ≡ was.told) → now ≡ was → found ≡ orderer_found (table.get t.customers (customer_key n.home n.c_id)) → IsOrdererShown n found now
+pub orderer_is_shown : (t : Database) (n : NewOrder) (found : OrdererFound) (was now : ClaimView) → IsSharedOn (g.Customers n.home.w_id n.home.d_id) was
+    → was.left ≡ content t was.group → (was.mode ≡ Shared → was.left ≡ was.recorded) → now ≡ was → found ≡ orderer_found (table.get t.customers (customer_key n.home n.c_id)) → IsOrdererShown n found now
 orderer_is_shown t n found was now on left untouched same is =
     let own : Group = g.Customers n.home.w_id n.home.d_id in
     let rows : Customers = rows_of group_of_customer own t.customers in
-    let told : now.told ≡ OfCustomers rows = ap (λ (k : Claiming). k.told) same ∙ sym (untouched on.mode) ∙ left ∙ ap (content t) on.group in
+    let recorded : now.recorded ≡ OfCustomers rows = ap (λ (k : ClaimView). k.recorded) same ∙ sym (untouched on.mode) ∙ left ∙ ap (content t) on.group in
     record {
-      claim = record { group = ap (λ (k : Claiming). k.group) same ∙ on.group; mode = ap (λ (k : Claiming). k.mode) same ∙ on.mode };
+      claim = record { group = ap (λ (k : ClaimView). k.group) same ∙ on.group; mode = ap (λ (k : ClaimView). k.mode) same ∙ on.mode };
       rows = rows;
-      told = told;
+      recorded = recorded;
       shown = is ∙ ap orderer_found (sym (get-rows_of-own customers_total customers_exact group_of_customer t.customers (customer_key n.home n.c_id)));
     }
 
@@ -54,15 +54,15 @@ order_here t order =
     let lines = lines_here order.key 1 order.lines t.lines in
     λ i. OfOrders (orders i) (new_orders i) (lines i)
 
-pub order_is_added : (t : Database) (order : OrderRows) (was now : Claiming) → IsExclusiveOn (g.Orders order.key.w_id order.key.d_id) was → IsFresh was → was.left ≡ content t was.group
+pub order_is_added : (t : Database) (order : OrderRows) (was now : ClaimView) → IsExclusiveOn (g.Orders order.key.w_id order.key.d_id) was → IsFresh was → was.left ≡ content t was.group
     → now ≡ leaving was (with_order_more order.key order.row order.lines was.left) → IsOrderAdded order now
 order_is_added t order was now on new left after =
-    let group : now.group ≡ was.group = ap (λ (k : Claiming). k.group) after in
+    let group : now.group ≡ was.group = ap (λ (k : ClaimView). k.group) after in
     record {
-      claim = record { group = group ∙ on.group; mode = ap (λ (k : Claiming). k.mode) after ∙ on.mode };
-      left = λ s tells.
+      claim = record { group = group ∙ on.group; mode = ap (λ (k : ClaimView). k.mode) after ∙ on.mode };
+      left = λ s records.
           let own : now.group ≡ group_of_order order.key = group ∙ on.group in
-          let had : was.left ≡ content s (group_of_order order.key) = new.left ∙ sym (ap (λ (k : Claiming). k.told) after) ∙ sym tells ∙ ap (content s) own in
-          ap (λ (k : Claiming). k.left) after ∙ ap (with_order_more order.key order.row order.lines) had ∙ sym (order_here s order)
+          let had : was.left ≡ content s (group_of_order order.key) = new.left ∙ sym (ap (λ (k : ClaimView). k.recorded) after) ∙ sym records ∙ ap (content s) own in
+          ap (λ (k : ClaimView). k.left) after ∙ ap (with_order_more order.key order.row order.lines) had ∙ sym (order_here s order)
           ∙ sym (ap (content (with_order s order.key order.row order.lines)) own);
     }

@@ -7,7 +7,7 @@ use Rattle.std.proofs.lemmas.List.{length-map}
 use Rattle.std.proofs.lemmas.List.Elements.{All-from_recursion}
 use Rattle.rows.specs.Ranged.{is_between}
 use Rattle.rows.specs.declared.records.OrderLine.{OrderLine}
-use Rattle.partitions.specs.Parts.{Shared}
+use Rattle.partitions.specs.Parts.{SharedTables}
 use Rattle.schema.specs.declared.scale.Scale.{Scale}
 use Rattle.schema.specs.Scale.{has_warehouse}
 use Rattle.schema.specs.OrderRows.{is_line_within}
@@ -18,7 +18,7 @@ use Rattle.requests.specs.declared.new_order.OrderedLine.{OrderedLine}
 use Rattle.requests.specs.declared.refusal.Refusal.TheVariants.{BadWarehouse, BadDistrict, BadLines, BadQuantity, BadSupply, BadAmount, BadThreshold, BadCarrier}
 use Rattle.requests.specs.Check.{applies, IsAccepted}
 use Rattle.groups.specs.NewOrder.{supplies_of}
-use Rattle.tickets.specs.Claims.{Claiming}
+use Rattle.tickets.specs.Claims.{ClaimView}
 use Rattle.machine.specs.NewOrderLines.{IsOrderWithin}
 use Rattle.transactions.specs.declared.new_order.LineSold.{LineSold}
 use Rattle.transactions.specs.declared.new_order.OrderPlaced.{OrderPlaced}
@@ -103,7 +103,7 @@ module _ (P : LineSold → Type 0) (sold : List LineSold) (each : AllByRecursion
 IsLineWithin : Scale → LineSold → Type 0
 IsLineWithin scale line = is_line_within scale line.row ≡ true
 
-all_within : (shared : Shared) (n : NewOrder) (groups : List Group) (found : List StockTaken) (stocks : List Claiming) → AreStocksTaken shared n groups found stocks
+all_within : (shared : SharedTables) (n : NewOrder) (groups : List Group) (found : List StockTaken) (stocks : List ClaimView) → AreStocksTaken shared n groups found stocks
     → AllByRecursion (IsLineWithin shared.scale) (all_sold found)
 unfolding IsLineWithin
 all_within shared n [] [] [] taken = tt
@@ -158,7 +158,7 @@ sold_numbered n group sold same =
     each_mapped (HasNumber count) (λ (line : LineSold). line.number) sold
     (subst (AllByRecursion (HasNumber count)) (sym same) (mapped_each (HasNumber count) (λ (line : Numbered). line.0) (lines_in group n.lines) each))
 
-each_sold_numbered : (shared : Shared) (n : NewOrder) (groups : List Group) (found : List StockTaken) (stocks : List Claiming) → AreStocksTaken shared n groups found stocks
+each_sold_numbered : (shared : SharedTables) (n : NewOrder) (groups : List Group) (found : List StockTaken) (stocks : List ClaimView) → AreStocksTaken shared n groups found stocks
     → AllByRecursion (λ (line : LineSold). HasNumber (length n.lines) line.number) (all_sold found)
 each_sold_numbered shared n [] [] [] taken = tt
 each_sold_numbered shared n [] (one ∷ found) stocks taken = absurd taken
@@ -172,7 +172,7 @@ each_sold_numbered shared n (group ∷ groups) (Taken sold ∷ found) (stock ∷
     (sold_numbered n group sold taken.1.0) (each_sold_numbered shared n groups found stocks taken.2)
 
 -- all that groups sold have the numbers of the order's lines
-pub all_numbered : (shared : Shared) (n : NewOrder) (groups : List Group) (found : List StockTaken) (stocks : List Claiming) → AreStocksTaken shared n groups found stocks
+pub all_numbered : (shared : SharedTables) (n : NewOrder) (groups : List Group) (found : List StockTaken) (stocks : List ClaimView) → AreStocksTaken shared n groups found stocks
     → AreNumbered (length n.lines) (all_sold found)
 unfolding HasNumber
 all_numbered shared n groups found stocks taken =

@@ -7,7 +7,7 @@ use Rattle.rows.specs.declared.records.Stock.{Stock}
 use Rattle.schema.proofs.KeyOrders.{stocks_total, stocks_exact}
 use Rattle.schema.proofs.TableWrites.{still_there}
 use Rattle.requests.specs.declared.group.Group.TheVariants as g
-use Rattle.tickets.specs.Claims.{Claiming}
+use Rattle.tickets.specs.Claims.{ClaimView}
 use Rattle.machine.specs.NewOrder.{Stocks}
 use Rattle.transactions.specs.declared.new_order.stock.StockPut.{StockPut}
 use Rattle.transactions.specs.NewOrderStock.{AreOfGroup, puts_done}
@@ -18,11 +18,11 @@ pub puts_last : (puts : List StockPut) (put : StockPut) (stocks : Stocks) → pu
 puts_last [] put stocks = refl
 puts_last (first ∷ puts) put stocks = ap (λ s. table.insert s first.key first.row) (puts_last puts put stocks)
 
-IsOfGroup : Claiming → Stocks → StockPut → Type 0
+IsOfGroup : ClaimView → Stocks → StockPut → Type 0
 IsOfGroup claim stocks put = (claim.group ≡ g.Stock put.key.w_id (put.key.i_id % 64)) × IsTrue (table.contains_key stocks put.key)
 
 -- once it is, the others can be
-pub others_of_group : (claim : Claiming) (stocks : Stocks) (key : StockKey) (row : Stock) (puts : List StockPut) (put : StockPut) → AreOfGroup claim stocks (puts ++ put ∷ [])
+pub others_of_group : (claim : ClaimView) (stocks : Stocks) (key : StockKey) (row : Stock) (puts : List StockPut) (put : StockPut) → AreOfGroup claim stocks (puts ++ put ∷ [])
     → AreOfGroup claim (table.insert stocks key row) puts
 unfolding IsOfGroup
 others_of_group claim stocks key row puts put all =
@@ -30,7 +30,7 @@ others_of_group claim stocks key row puts put all =
     All-from_recursion (IsOfGroup claim (table.insert stocks key row)) puts
     (each_weaker (IsOfGroup claim stocks) (IsOfGroup claim (table.insert stocks key row)) (λ other is. (is.0, still_there stocks_total stocks_exact stocks key row other.key is.1)) puts those)
 
-pub last_of_group : (claim : Claiming) (stocks : Stocks) (puts : List StockPut) (put : StockPut) → AreOfGroup claim stocks (puts ++ put ∷ [])
+pub last_of_group : (claim : ClaimView) (stocks : Stocks) (puts : List StockPut) (put : StockPut) → AreOfGroup claim stocks (puts ++ put ∷ [])
     → claim.group ≡ g.Stock put.key.w_id (put.key.i_id % 64)
 unfolding IsOfGroup
 last_of_group claim stocks puts put all =

@@ -1,7 +1,7 @@
 -- What the claims of an order leave in every group is what the machine leaves there.
 use Rattle.std.proofs.Common.{◌≡◌, ◌≢◌, ℕ, true, cond, List, [], ◌∷◌, ◌++◌, map, Some, refl, sym, ap, subst, ◌∙◌}
 use Rattle.std.specs.List.{AllByRecursion, list_all}
-use Rattle.partitions.specs.Parts.{Shared, shared_of}
+use Rattle.partitions.specs.Parts.{SharedTables, shared_of}
 use Rattle.rows.specs.declared.records.District.{District}
 use Rattle.rows.specs.declared.records.OrderLine.{OrderLine}
 use Rattle.schema.specs.Database.{Database}
@@ -14,11 +14,11 @@ use Rattle.groups.specs.Groups.{is_same}
 use Rattle.groups.specs.Content.{Content, content}
 use Rattle.groups.specs.Content.Content.{OfDistrict}
 use Rattle.groups.specs.NewOrder.{group_of_supply, supplies_of}
-use Rattle.groups.specs.declared.wishes.Mode.TheVariants.{Shared as SharedMode, Exclusive}
+use Rattle.groups.specs.declared.group_wants.Mode.TheVariants.{Shared as SharedMode, Exclusive}
 use Rattle.groups.proofs.Parts.{get-insert_here}
 use Rattle.groups.proofs.SameGroups.{is_same-itself}
-use Rattle.tickets.specs.Claims.{Claiming, committed_by}
-use Rattle.tickets.specs.Committed.{TellsContent, content_after, contents_after}
+use Rattle.tickets.specs.Claims.{ClaimView, committed_by}
+use Rattle.tickets.specs.Committed.{RecordsContent, content_after, contents_after}
 use Rattle.tickets.proofs.Apart.{by_bool, by_mode, is_same-equal}
 use Rattle.machine.specs.NewOrder.{order_key, order_row, placed, stocks_taken}
 use Rattle.machine.proofs.NewOrderContents.{placed_keeps}
@@ -32,7 +32,7 @@ use Rattle.transactions.proofs.NewOrderSupplies.{IsStock, of_firsts}
 -- ---- claims one after another
 
 -- A group in which each exclusive claim left this, and had it before where there is none, has it once all are settled.
-pub settles : (claims : List Claiming) (group : Group) (has left : Content)
+pub settles : (claims : List ClaimView) (group : Group) (has left : Content)
     → AllByRecursion (λ claim. claim.mode ≡ Exclusive → group ≡ claim.group → claim.left ≡ left) claims
     → (AllByRecursion (λ claim. claim.mode ≡ Exclusive → group ≢ claim.group) claims → has ≡ left)
     → contents_after group has claims ≡ left
@@ -59,7 +59,7 @@ module _ (t : Database) (n : NewOrder) (o_id : ℕ) (new : District) (rows : Lis
   after = placed t n o_id new rows
 
   -- an exclusive claim left what its group has in the end
-  abbrev pub LeavesPlaced : Claiming → Type 0
+  abbrev pub LeavesPlaced : ClaimView → Type 0
   LeavesPlaced claim = claim.mode ≡ Exclusive → claim.left ≡ content after claim.group
 
   -- the stock that is taken is a group's as it is in the end
@@ -67,31 +67,31 @@ module _ (t : Database) (n : NewOrder) (o_id : ℕ) (new : District) (rows : Lis
   unfolding IsStock
   stock_after group is = subst (λ own. content (record t { stocks = stocks_taken n.home.w_id t.stocks n.lines }) own ≡ content after own) (sym is.2) refl
 
-  pub stocks_leave : (shared : Shared) → shared_of t ≡ shared → (groups : List Group) (found : List StockTaken) (stocks : List Claiming)
-      → AreStocksTaken shared n groups found stocks → AllByRecursion (TellsContent (content t)) stocks → list_all is_taken found ≡ true → AllByRecursion IsStock groups
+  pub stocks_leave : (shared : SharedTables) → shared_of t ≡ shared → (groups : List Group) (found : List StockTaken) (stocks : List ClaimView)
+      → AreStocksTaken shared n groups found stocks → AllByRecursion (RecordsContent (content t)) stocks → list_all is_taken found ≡ true → AllByRecursion IsStock groups
       → AllByRecursion LeavesPlaced stocks
-  stocks_leave shared same [] [] [] taken tells all is = tt
-  stocks_leave shared same [] (one ∷ found) stocks taken tells all is = absurd taken
-  stocks_leave shared same [] [] (stock ∷ stocks) taken tells all is = absurd taken
-  stocks_leave shared same (group ∷ groups) [] stocks taken tells all is = absurd taken
-  stocks_leave shared same (group ∷ groups) (one ∷ found) [] taken tells all is = absurd taken
-  stocks_leave shared same (group ∷ groups) (NoItem ∷ found) (stock ∷ stocks) taken tells all is = absurd cc
-  stocks_leave shared same (group ∷ groups) (OutOfRange ∷ found) (stock ∷ stocks) taken tells all is = absurd cc
-  stocks_leave shared same (group ∷ groups) (Taken sold ∷ found) (stock ∷ stocks) taken tells all is = (
-    (λ exclusive. taken.0.left t same tells.0 ∙ stock_after stock.group (subst IsStock (sym taken.0.claim.group) is.0)),
-    stocks_leave shared same groups found stocks taken.2 tells.1 all is.1,
+  stocks_leave shared same [] [] [] taken records all is = tt
+  stocks_leave shared same [] (one ∷ found) stocks taken records all is = absurd taken
+  stocks_leave shared same [] [] (stock ∷ stocks) taken records all is = absurd taken
+  stocks_leave shared same (group ∷ groups) [] stocks taken records all is = absurd taken
+  stocks_leave shared same (group ∷ groups) (one ∷ found) [] taken records all is = absurd taken
+  stocks_leave shared same (group ∷ groups) (NoItem ∷ found) (stock ∷ stocks) taken records all is = absurd cc
+  stocks_leave shared same (group ∷ groups) (OutOfRange ∷ found) (stock ∷ stocks) taken records all is = absurd cc
+  stocks_leave shared same (group ∷ groups) (Taken sold ∷ found) (stock ∷ stocks) taken records all is = (
+    (λ exclusive. taken.0.left t same records.0 ∙ stock_after stock.group (subst IsStock (sym taken.0.claim.group) is.0)),
+    stocks_leave shared same groups found stocks taken.2 records.1 all is.1,
   )
 
   module _
-      (warehouse district customers : Claiming) (stocks : List Claiming) (orders : Claiming)
+      (warehouse district customers : ClaimView) (stocks : List ClaimView) (orders : ClaimView)
       (reads_warehouse : warehouse.mode ≡ SharedMode) (reads_customers : customers.mode ≡ SharedMode)
       (on_district : IsExclusiveOn (g.District n.home.w_id n.home.d_id) district) (district_left : district.left ≡ OfDistrict (Some new))
-      (stocks_left : AllByRecursion LeavesPlaced stocks) (exclusive : AllByRecursion (λ (stock : Claiming). stock.mode ≡ Exclusive) stocks)
-      (on_supplies : map (λ (stock : Claiming). stock.group) stocks ≡ supplies_of n.lines)
+      (stocks_left : AllByRecursion LeavesPlaced stocks) (exclusive : AllByRecursion (λ (stock : ClaimView). stock.mode ≡ Exclusive) stocks)
+      (on_supplies : map (λ (stock : ClaimView). stock.group) stocks ≡ supplies_of n.lines)
       (on_orders : IsExclusiveOn (g.Orders n.home.w_id n.home.d_id) orders)
       (orders_left : orders.left ≡ content (with_order t (order_key n.home o_id) (order_row n) rows) orders.group)
     where
-      abbrev pub claims : List Claiming
+      abbrev pub claims : List ClaimView
       claims = warehouse ∷ district ∷ customers ∷ (stocks ++ orders ∷ [])
 
       all_leave : AllByRecursion LeavesPlaced claims
@@ -109,14 +109,14 @@ module _ (t : Database) (n : NewOrder) (o_id : ℕ) (new : District) (rows : Lis
       -- a group on which none of them is exclusive has what it had
       kept : (group : Group) → AllByRecursion (λ claim. claim.mode ≡ Exclusive → group ≢ claim.group) claims → content t group ≡ content after group
       kept group none =
-          let Apart : Claiming → Type 0 = λ claim. claim.mode ≡ Exclusive → group ≢ claim.group in
+          let Apart : ClaimView → Type 0 = λ claim. claim.mode ≡ Exclusive → group ≢ claim.group in
           let of_stocks = each_of_first Apart stocks (orders ∷ []) none.1.1.1 in
           let of_orders = each_of_second Apart stocks (orders ∷ []) none.1.1.1 in
-          let apart : AllByRecursion (λ (stock : Claiming). group ≢ stock.group) stocks =
-          each_weaker (λ (stock : Claiming). (stock.mode ≡ Exclusive) × Apart stock) (λ (stock : Claiming). group ≢ stock.group) (λ stock both. both.1 both.0) stocks
-          (each_both (λ (stock : Claiming). stock.mode ≡ Exclusive) Apart stocks exclusive of_stocks) in
+          let apart : AllByRecursion (λ (stock : ClaimView). group ≢ stock.group) stocks =
+          each_weaker (λ (stock : ClaimView). (stock.mode ≡ Exclusive) × Apart stock) (λ (stock : ClaimView). group ≢ stock.group) (λ stock both. both.1 both.0) stocks
+          (each_both (λ (stock : ClaimView). stock.mode ≡ Exclusive) Apart stocks exclusive of_stocks) in
           let no_supply = of_firsts (λ own. group ≢ own) (map group_of_supply n.lines)
-          (subst (AllByRecursion (λ own. group ≢ own)) on_supplies (mapped_each (λ own. group ≢ own) (λ (stock : Claiming). stock.group) stocks apart)) in
+          (subst (AllByRecursion (λ own. group ≢ own)) on_supplies (mapped_each (λ own. group ≢ own) (λ (stock : ClaimView). stock.group) stocks apart)) in
           sym (placed_keeps n o_id new rows t group
           (λ same. none.1.0 on_district.mode (same ∙ sym on_district.group))
           (λ same. of_orders.0 on_orders.mode (same ∙ sym on_orders.group)) no_supply)

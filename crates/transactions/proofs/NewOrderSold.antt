@@ -6,7 +6,7 @@ use Rattle.std.specs.Option.{option_and_then, option_map, option_or}
 use Rattle.std.specs.FinMap as table
 use Rattle.std.proofs.lemmas.Bool.{and_parts}
 use Rattle.std.proofs.lemmas.List.Folds.{find-append}
-use Rattle.partitions.specs.Parts.{Shared, shared_of}
+use Rattle.partitions.specs.Parts.{SharedTables, shared_of}
 use Rattle.rows.specs.declared.records.Item.{Item}
 use Rattle.schema.specs.Database.{Database}
 use Rattle.requests.specs.declared.group.Group.{Group}
@@ -14,8 +14,8 @@ use Rattle.requests.specs.declared.new_order.NewOrder.{NewOrder}
 use Rattle.requests.specs.declared.new_order.OrderedLine.{OrderedLine}
 use Rattle.groups.specs.Content.{content}
 use Rattle.groups.specs.NewOrder.{supplies_of}
-use Rattle.tickets.specs.Claims.{Claiming}
-use Rattle.tickets.specs.Committed.{TellsContent}
+use Rattle.tickets.specs.Claims.{ClaimView}
+use Rattle.tickets.specs.Committed.{RecordsContent}
 use Rattle.machine.specs.declared.new_order_lines.LinePlaced.{LinePlaced}
 use Rattle.machine.specs.NewOrder.{all_there, items_found}
 use Rattle.machine.specs.NewOrderLines.{before_all, line_placed, lines_placed}
@@ -29,16 +29,16 @@ use Rattle.transactions.proofs.NewOrderSupplies.{all_in, by_groups, each_line_is
 
 -- ---- what was found, by every tables that the claims tell
 
-pub found_by : (shared : Shared) (t : Database) (n : NewOrder) → shared_of t ≡ shared → (groups : List Group) (found : List StockTaken) (stocks : List Claiming)
-    → AreStocksTaken shared n groups found stocks → AllByRecursion (TellsContent (content t)) stocks → found ≡ map (λ group. stock_found t n (lines_in group n.lines)) groups
-found_by shared t n same [] [] [] taken tells = refl
-found_by shared t n same [] (one ∷ found) stocks taken tells = absurd taken
-found_by shared t n same [] [] (stock ∷ stocks) taken tells = absurd taken
-found_by shared t n same (group ∷ groups) [] stocks taken tells = absurd taken
-found_by shared t n same (group ∷ groups) (one ∷ found) [] taken tells = absurd taken
-found_by shared t n same (group ∷ groups) (one ∷ found) (stock ∷ stocks) taken tells =
-    let first = taken.0.shown t same tells.0 in
-    let rest = found_by shared t n same groups found stocks taken.2 tells.1 in
+pub found_by : (shared : SharedTables) (t : Database) (n : NewOrder) → shared_of t ≡ shared → (groups : List Group) (found : List StockTaken) (stocks : List ClaimView)
+    → AreStocksTaken shared n groups found stocks → AllByRecursion (RecordsContent (content t)) stocks → found ≡ map (λ group. stock_found t n (lines_in group n.lines)) groups
+found_by shared t n same [] [] [] taken records = refl
+found_by shared t n same [] (one ∷ found) stocks taken records = absurd taken
+found_by shared t n same [] [] (stock ∷ stocks) taken records = absurd taken
+found_by shared t n same (group ∷ groups) [] stocks taken records = absurd taken
+found_by shared t n same (group ∷ groups) (one ∷ found) [] taken records = absurd taken
+found_by shared t n same (group ∷ groups) (one ∷ found) (stock ∷ stocks) taken records =
+    let first = taken.0.shown t same records.0 in
+    let rest = found_by shared t n same groups found stocks taken.2 records.1 in
     λ i. first i ∷ rest i
 
 module _ (t : Database) (n : NewOrder) where

@@ -1,6 +1,6 @@
 -- What follows of what the actions of a New-Order found.
 use Rattle.std.proofs.Common.{◌≡◌, ◌∙◌, ◌⊎◌, List, [], ◌∷◌, ◌++◌, map, Ok, Err, append_assoc, refl, ap, sym, subst}
-use Rattle.partitions.specs.Parts.{Shared}
+use Rattle.partitions.specs.Parts.{SharedTables}
 use Rattle.requests.specs.declared.group.Group.{Group}
 use Rattle.requests.specs.declared.request.Request.TheVariants as request
 use Rattle.requests.specs.declared.new_order.NewOrder.{NewOrder}
@@ -10,7 +10,7 @@ use Rattle.requests.specs.declared.reply.Reply.TheVariants as reply
 use Rattle.requests.specs.declared.reply.Shown.TheVariants as kind
 use Rattle.requests.specs.Check.{IsAccepted}
 use Rattle.groups.specs.NewOrder.{supplies_of}
-use Rattle.tickets.specs.Claims.{Claiming, all_claims}
+use Rattle.tickets.specs.Claims.{ClaimView, all_claims}
 use Rattle.commit_log.specs.Claimed.{IsCarriedOut}
 use Rattle.transactions.specs.declared.new_order.HomeFound.{HomeFound}
 use Rattle.transactions.specs.declared.new_order.HomeFound.TheVariants as h
@@ -36,12 +36,12 @@ use Rattle.transactions.proofs.NewOrderCarriedOut.{new_orders_are_carried_out, n
 -- ---- the first phase
 
 -- the order got its number and its customer was shown under these claims, and this was found
-pub record AreRowsRead (shared : Shared) (n : NewOrder) (found : List Found) (claims : List (List Claiming)) : Type 0 where
+pub record AreRowsRead (shared : SharedTables) (n : NewOrder) (found : List Found) (claims : List (List ClaimView)) : Type 0 where
   pub home : HomeFound
   pub orderer : OrdererFound
-  pub warehouse : Claiming
-  pub district : Claiming
-  pub customers : Claiming
+  pub warehouse : ClaimView
+  pub district : ClaimView
+  pub customers : ClaimView
   pub found_is : found ≡ any_found.NewOrder (own.Home home) ∷ any_found.NewOrder (own.Orderer orderer) ∷ []
   pub claims_is : claims ≡ (warehouse ∷ district ∷ []) ∷ (customers ∷ []) ∷ []
   pub ordered : IsHomeOrdered n home warehouse district
@@ -50,7 +50,7 @@ pub record AreRowsRead (shared : Shared) (n : NewOrder) (found : List Found) (cl
   pub shown : IsOrdererShown n orderer customers
   pub known : IsOrdererKnown shared.scale n orderer
 
-pub rows_done : (shared : Shared) (n : NewOrder) (found : List Found) (claims : List (List Claiming)) → HaveAllDone shared (works_of (ReadRows n)) found claims → AreRowsRead shared n found claims
+pub rows_done : (shared : SharedTables) (n : NewOrder) (found : List Found) (claims : List (List ClaimView)) → HaveAllDone shared (works_of (ReadRows n)) found claims → AreRowsRead shared n found claims
 rows_done shared n found claims done =
     let one = first_done shared (any_work.NewOrder (TakeNumber n)) (any_work.NewOrder (ShowOrderer n) ∷ []) found claims done in
     let two = first_done shared (any_work.NewOrder (ShowOrderer n)) [] one.others one.rest one.others_done in
@@ -86,17 +86,17 @@ module _
     (is : found ≡ any_found.NewOrder (own.Home home) ∷ any_found.NewOrder (own.Orderer orderer) ∷ [])
   where
     -- what was found is this
-    record AreThese (shared : Shared) (claims : List (List Claiming)) : Type 0 where
-      warehouse : Claiming
-      district : Claiming
-      customers : Claiming
+    record AreThese (shared : SharedTables) (claims : List (List ClaimView)) : Type 0 where
+      warehouse : ClaimView
+      district : ClaimView
+      customers : ClaimView
       claims_is : claims ≡ (warehouse ∷ district ∷ []) ∷ (customers ∷ []) ∷ []
       ordered : IsHomeOrdered n home warehouse district
       number : IsNumberKnown home
       shown : IsOrdererShown n orderer customers
       known : IsOrdererKnown shared.scale n orderer
 
-    these : (shared : Shared) (claims : List (List Claiming)) → HaveAllDone shared (works_of (ReadRows n)) found claims → AreThese shared claims
+    these : (shared : SharedTables) (claims : List (List ClaimView)) → HaveAllDone shared (works_of (ReadRows n)) found claims → AreThese shared claims
     these shared claims done =
         let rows = rows_done shared n found claims done in
         let same = sym rows.found_is ∙ is in
@@ -145,14 +145,14 @@ module _
 -- ---- the second phase
 
 -- each group sold its lines under its claim, and this was found
-pub record AreStocksDone (shared : Shared) (n : NewOrder) (groups : List Group) (found : List Found) (claims : List (List Claiming)) : Type 0 where
+pub record AreStocksDone (shared : SharedTables) (n : NewOrder) (groups : List Group) (found : List Found) (claims : List (List ClaimView)) : Type 0 where
   pub taken : List StockTaken
-  pub stocks : List Claiming
+  pub stocks : List ClaimView
   pub found_is : AreStocksFound found taken
   pub claims_is : claims ≡ map (λ stock. stock ∷ []) stocks
   pub are : AreStocksTaken shared n groups taken stocks
 
-pub stocks_done : (shared : Shared) (n : NewOrder) (groups : List Group) (found : List Found) (claims : List (List Claiming)) → HaveAllDone shared (map (taking n) groups) found claims
+pub stocks_done : (shared : SharedTables) (n : NewOrder) (groups : List Group) (found : List Found) (claims : List (List ClaimView)) → HaveAllDone shared (map (taking n) groups) found claims
     → AreStocksDone shared n groups found claims
 stocks_done shared n [] found claims done =
     let none = none_done shared found claims done in
@@ -182,24 +182,24 @@ same_stocks (stock ∷ stocks) (other ∷ others) same =
     λ i. first i ∷ rest i
 
 -- the claims of the actions of the stock, one each
-one_each : (stocks : List Claiming) → all_claims (map (λ (stock : Claiming). stock ∷ []) stocks) ≡ stocks
+one_each : (stocks : List ClaimView) → all_claims (map (λ (stock : ClaimView). stock ∷ []) stocks) ≡ stocks
 one_each [] = refl
 one_each (stock ∷ stocks) = ap (λ rest. stock ∷ rest) (one_each stocks)
 
-pub all_claims-both : (first second : List (List Claiming)) → all_claims (first ++ second) ≡ all_claims first ++ all_claims second
+pub all_claims-both : (first second : List (List ClaimView)) → all_claims (first ++ second) ≡ all_claims first ++ all_claims second
 all_claims-both [] second = refl
 all_claims-both (held ∷ first) second = ap (λ rest. held ++ rest) (all_claims-both first second) ∙ sym (append_assoc held (all_claims first) (all_claims second))
 
-pub claims_of_all : (first : List (List Claiming)) (stocks : List Claiming) → all_claims (first ++ map (λ (stock : Claiming). stock ∷ []) stocks) ≡ all_claims first ++ stocks
-claims_of_all first stocks = all_claims-both first (map (λ (stock : Claiming). stock ∷ []) stocks) ∙ ap (λ rest. all_claims first ++ rest) (one_each stocks)
+pub claims_of_all : (first : List (List ClaimView)) (stocks : List ClaimView) → all_claims (first ++ map (λ (stock : ClaimView). stock ∷ []) stocks) ≡ all_claims first ++ stocks
+claims_of_all first stocks = all_claims-both first (map (λ (stock : ClaimView). stock ∷ []) stocks) ∙ ap (λ rest. all_claims first ++ rest) (one_each stocks)
 
 module _ (given : OrderBegun) (found : List Found) (taken : List StockTaken) (is : AreStocksFound found taken) where
-  record AreSoldBy (shared : Shared) (claims : List (List Claiming)) : Type 0 where
-    stocks : List Claiming
+  record AreSoldBy (shared : SharedTables) (claims : List (List ClaimView)) : Type 0 where
+    stocks : List ClaimView
     claims_is : claims ≡ map (λ stock. stock ∷ []) stocks
     are : AreStocksTaken shared given.order (given.first ∷ given.others) taken stocks
 
-  sold_by : (shared : Shared) (claims : List (List Claiming)) → HaveAllDone shared (works_of (TakeLines given)) found claims → AreSoldBy shared claims
+  sold_by : (shared : SharedTables) (claims : List (List ClaimView)) → HaveAllDone shared (works_of (TakeLines given)) found claims → AreSoldBy shared claims
   sold_by shared claims done =
       let all = stocks_done shared given.order (given.first ∷ given.others) found claims done in
       let same = same_stocks all.taken taken (sym all.found_is ∙ is) in

@@ -11,7 +11,7 @@ use Rattle.rows.specs.Keys.{stock_cmp}
 use Rattle.rows.specs.declared.keys.StockKey.{StockKey}
 use Rattle.rows.specs.declared.records.Item.{Item}
 use Rattle.rows.specs.declared.records.Stock.{Stock}
-use Rattle.partitions.specs.Parts.{Shared, shared_of, Part, IsPart}
+use Rattle.partitions.specs.Parts.{SharedTables, shared_of, Part, IsPart}
 use Rattle.schema.specs.declared.scale.Scale.{Scale}
 use Rattle.schema.specs.Scale.{has_item, has_warehouse}
 use Rattle.schema.specs.Database.{Database}
@@ -29,7 +29,7 @@ use Rattle.groups.specs.Laws.{stock_in}
 use Rattle.groups.specs.NewOrder.{group_of_supply}
 use Rattle.groups.proofs.RowsInGroups.{each_row_stands_in_one_group, same_row}
 use Rattle.groups.proofs.SameGroups.{is_same-itself}
-use Rattle.tickets.specs.Claims.{Claiming, leaving}
+use Rattle.tickets.specs.Claims.{ClaimView, leaving}
 use Rattle.tickets.proofs.Apart.{by_bool, is_same-equal}
 use Rattle.machine.specs.declared.new_order_lines.LinePlaced.{LinePlaced}
 use Rattle.machine.specs.NewOrder.{Stocks, all_there, stock_key_of, stock_taken, stocks_taken, taken_from}
@@ -231,7 +231,7 @@ module _ (t : Database) (n : NewOrder) (group : Group) where
       ∙ ap OfStock rows
       ∙ sym (ap (content (record t { stocks = stocks_taken home t.stocks n.lines })) is.2)
 
-  pub puts_of_group : IsStock group → (claim : Claiming) → claim.group ≡ group → (puts : List StockPut) → ArePuts supplied puts → AreOfGroup claim t.stocks puts
+  pub puts_of_group : IsStock group → (claim : ClaimView) → claim.group ≡ group → (puts : List StockPut) → ArePuts supplied puts → AreOfGroup claim t.stocks puts
   puts_of_group is claim on puts are =
       All-from_recursion (λ (put : StockPut). (claim.group ≡ g.Stock put.key.w_id (put.key.i_id % 64)) × IsTrue (table.contains_key t.stocks put.key)) puts (each puts are.keys)
     where
@@ -289,40 +289,40 @@ suppliers_in scale group lines all =
 -- ---- what the action does
 
 module _
-    (t : Database) (n : NewOrder) (group : Group) (was : Claiming) (on : IsExclusiveOn group was) (new : IsFresh was) (left : was.left ≡ content t was.group)
+    (t : Database) (n : NewOrder) (group : Group) (was : ClaimView) (on : IsExclusiveOn group was) (new : IsFresh was) (left : was.left ≡ content t was.group)
   where
     -- other tables that the claim tells have the same in the group
-    told_alike : (s : Database) (now : Claiming) → now.group ≡ was.group → now.told ≡ was.told → content s now.group ≡ now.told → content s group ≡ content t group
-    told_alike s now same told tells =
-        ap (content s) (sym on.group ∙ sym same) ∙ tells ∙ told ∙ sym new.left ∙ left ∙ ap (content t) on.group
+    recorded_alike : (s : Database) (now : ClaimView) → now.group ≡ was.group → now.recorded ≡ was.recorded → content s now.group ≡ now.recorded → content s group ≡ content t group
+    recorded_alike s now same recorded records =
+        ap (content s) (sym on.group ∙ sym same) ∙ records ∙ recorded ∙ sym new.left ∙ left ∙ ap (content t) on.group
 
     found_alike : (found : StockTaken) → found ≡ stock_found t n (lines_in group n.lines) → (s : Database) → shared_of s ≡ shared_of t → content s group ≡ content t group → found ≡ stock_found s n (lines_in group n.lines)
     found_alike found is s shared alike =
-        is ∙ sym (same_found s t n group (ap (λ (both : Shared). both.items) shared) alike (lines_in group n.lines) (passing (is_in group) (numbered 1 n.lines)))
+        is ∙ sym (same_found s t n group (ap (λ (both : SharedTables). both.items) shared) alike (lines_in group n.lines) (passing (is_in group) (numbered 1 n.lines)))
 
     -- nothing is taken where the lines can't be sold
-    pub stock_kept : (found : StockTaken) (now : Claiming) → now ≡ was → found ≡ stock_found t n (lines_in group n.lines) → ((s : Database) → once_found found n s ≡ s)
+    pub stock_kept : (found : StockTaken) (now : ClaimView) → now ≡ was → found ≡ stock_found t n (lines_in group n.lines) → ((s : Database) → once_found found n s ≡ s)
         → IsStockTaken (shared_of t) n group found now
     stock_kept found now same is nothing = record {
-      claim = record { group = ap (λ (k : Claiming). k.group) same ∙ on.group; mode = ap (λ (k : Claiming). k.mode) same ∙ on.mode };
-      shown = λ s shared tells.
-          found_alike found is s shared (told_alike s now (ap (λ (k : Claiming). k.group) same) (ap (λ (k : Claiming). k.told) same) tells);
-      left = λ s shared tells.
-          ap (λ (k : Claiming). k.left) same ∙ new.left ∙ sym (ap (λ (k : Claiming). k.told) same) ∙ sym tells ∙ ap (λ (db : Database). content db now.group) (sym (nothing s));
+      claim = record { group = ap (λ (k : ClaimView). k.group) same ∙ on.group; mode = ap (λ (k : ClaimView). k.mode) same ∙ on.mode };
+      shown = λ s shared records.
+          found_alike found is s shared (recorded_alike s now (ap (λ (k : ClaimView). k.group) same) (ap (λ (k : ClaimView). k.recorded) same) records);
+      left = λ s shared records.
+          ap (λ (k : ClaimView). k.left) same ∙ new.left ∙ sym (ap (λ (k : ClaimView). k.recorded) same) ∙ sym records ∙ ap (λ (db : Database). content db now.group) (sym (nothing s));
     }
 
-    pub stock_sold : (sold : List LineSold) (now : Claiming) → now ≡ leaving was (content (record t { stocks = stocks_taken n.home.w_id t.stocks n.lines }) was.group)
+    pub stock_sold : (sold : List LineSold) (now : ClaimView) → now ≡ leaving was (content (record t { stocks = stocks_taken n.home.w_id t.stocks n.lines }) was.group)
         → Taken sold ≡ stock_found t n (lines_in group n.lines) → IsStock group → IsStockTaken (shared_of t) n group (Taken sold) now
     stock_sold sold now after is stock =
-        let own : now.group ≡ was.group = ap (λ (k : Claiming). k.group) after in
-        let told : now.told ≡ was.told = ap (λ (k : Claiming). k.told) after in
+        let own : now.group ≡ was.group = ap (λ (k : ClaimView). k.group) after in
+        let recorded : now.recorded ≡ was.recorded = ap (λ (k : ClaimView). k.recorded) after in
         record {
-          claim = record { group = own ∙ on.group; mode = ap (λ (k : Claiming). k.mode) after ∙ on.mode };
-          shown = λ s shared tells. found_alike (Taken sold) is s shared (told_alike s now own told tells);
-          left = λ s shared tells.
+          claim = record { group = own ∙ on.group; mode = ap (λ (k : ClaimView). k.mode) after ∙ on.mode };
+          shown = λ s shared records. found_alike (Taken sold) is s shared (recorded_alike s now own recorded records);
+          left = λ s shared records.
               let taken : Database → Database = λ db. record db { stocks = stocks_taken n.home.w_id db.stocks n.lines } in
-              ap (λ (k : Claiming). k.left) after ∙ ap (content (taken t)) on.group
-              ∙ sym (same_taken s t n group (ap (λ (both : Shared). both.items) shared) (told_alike s now own told tells) stock)
+              ap (λ (k : ClaimView). k.left) after ∙ ap (content (taken t)) on.group
+              ∙ sym (same_taken s t n group (ap (λ (both : SharedTables). both.items) shared) (recorded_alike s now own recorded records) stock)
               ∙ sym (ap (content (taken s)) (own ∙ on.group));
         }
 

@@ -10,19 +10,19 @@ use Rattle.requests.specs.declared.reply.Shown.TheVariants as kind
 use Rattle.requests.specs.declared.reply.Fault.TheVariants.{NoCustomer}
 use Rattle.groups.specs.Groups.{is_same}
 use Rattle.groups.specs.Content.{Content, content}
-use Rattle.groups.specs.declared.wishes.Mode.{Mode}
-use Rattle.groups.specs.declared.wishes.Mode.TheVariants.{Shared}
-use Rattle.tickets.specs.Claims.{Claiming, committed_by}
-use Rattle.tickets.specs.Committed.{TellsContent, content_after}
+use Rattle.groups.specs.declared.group_wants.Mode.{Mode}
+use Rattle.groups.specs.declared.group_wants.Mode.TheVariants.{Shared}
+use Rattle.tickets.specs.Claims.{ClaimView, committed_by}
+use Rattle.tickets.specs.Committed.{RecordsContent, content_after}
 use Rattle.machine.specs.Chosen.{chosen}
 use Rattle.machine.specs.Outcome.{Outcome, rolled_back}
-use Rattle.machine.specs.OrderStatus.{latest_shown, order_status, status_told}
+use Rattle.machine.specs.OrderStatus.{latest_shown, order_status, status_recorded}
 use Rattle.machine.proofs.ChosenRows.{chosen_there}
 use Rattle.transactions.specs.declared.order_status.StatusCustomer.{StatusCustomer}
 use Rattle.transactions.specs.declared.order_status.CustomerShown.TheVariants.{Missing, Shown}
 use Rattle.transactions.specs.OrderStatus.{customer_shown, reply_shown, status_customer}
 use Rattle.transactions.specs.OrderStatusLaws.{OrderStatusesAreCarriedOut, RolledBackOrderStatusesAreCarriedOut, ShownCustomersAreAtHome}
-use Rattle.transactions.proofs.Told.{chosen_told}
+use Rattle.transactions.proofs.Recorded.{chosen_recorded}
 
 -- ---- who was shown
 
@@ -49,7 +49,7 @@ shown_customers_are_at_home o key customer customers found =
 
 -- ---- a shared claim changes nothing
 
-pub shared_settles : (group : Group) (has : Content) (claim : Claiming) → claim.mode ≡ Shared → has ≡ content_after group has claim
+pub shared_settles : (group : Group) (has : Content) (claim : ClaimView) → claim.mode ≡ Shared → has ≡ content_after group has claim
 shared_settles group has claim shared =
     each (is_same claim.group group)
     ∙ sym (ap (λ (mode : Mode). cond (is_same claim.group group) (committed_by mode claim.left has) has) shared)
@@ -62,12 +62,12 @@ shared_settles group has claim shared =
 
 pub order_statuses_are_carried_out : OrderStatusesAreCarriedOut
 order_statuses_are_carried_out opening o key customer order customers orders found read t scale items all =
-    let tells = recursion_from_All (TellsContent (content t)) (customers ∷ orders ∷ []) all in
+    let records = recursion_from_All (RecordsContent (content t)) (customers ∷ orders ∷ []) all in
     let by = was_chosen key customer (chosen found.rows o.home o.customer) found.shown in
-    let there : chosen t.customers o.home o.customer ≡ Some by.one = chosen_told t o.home o.customer customers tells.0 found.claim.group found.rows found.told ∙ by.there in
-    let done : order_status t o ≡ status_told t (Some by.one) = ap (status_told t) there in
+    let there : chosen t.customers o.home o.customer ≡ Some by.one = chosen_recorded t o.home o.customer customers records.0 found.claim.group found.rows found.recorded ∙ by.there in
+    let done : order_status t o ≡ status_recorded t (Some by.one) = ap (status_recorded t) there in
     let shown : reply_shown by.one.0 (status_customer by.one.1) (latest_shown t by.one.0) ≡ reply_shown key customer order =
-    (λ i. reply_shown (sym by.key_is i) (sym by.customer_is i) (latest_shown t (sym by.key_is i))) ∙ ap (reply_shown key customer) (sym (read.shown t tells.1.0)) in (
+    (λ i. reply_shown (sym by.key_is i) (sym by.customer_is i) (latest_shown t (sym by.key_is i))) ∙ ap (reply_shown key customer) (sym (read.shown t records.1.0)) in (
       ap (λ (out : Outcome). out.reply) done ∙ ap (λ r. reply.Done (kind.OrderStatus r)) shown,
       λ group.
           ap (λ (out : Outcome). content out.tables group) done
@@ -77,8 +77,8 @@ order_statuses_are_carried_out opening o key customer order customers orders fou
 
 pub rolled_back_order_statuses_are_carried_out : RolledBackOrderStatusesAreCarriedOut
 rolled_back_order_statuses_are_carried_out opening o customers found t scale items all =
-    let tells = recursion_from_All (TellsContent (content t)) (customers ∷ []) all in
+    let records = recursion_from_All (RecordsContent (content t)) (customers ∷ []) all in
     let none : chosen t.customers o.home o.customer ≡ None =
-    chosen_told t o.home o.customer customers tells.0 found.claim.group found.rows found.told ∙ none_chosen (chosen found.rows o.home o.customer) found.shown in
-    let done : order_status t o ≡ rolled_back t NoCustomer = ap (status_told t) none in
+    chosen_recorded t o.home o.customer customers records.0 found.claim.group found.rows found.recorded ∙ none_chosen (chosen found.rows o.home o.customer) found.shown in
+    let done : order_status t o ≡ rolled_back t NoCustomer = ap (status_recorded t) none in
     (ap (λ (out : Outcome). out.reply) done, λ group. ap (λ (out : Outcome). content out.tables group) done)

@@ -1,14 +1,14 @@
 -- What follows of what the actions of an Order-Status found.
 use Rattle.std.proofs.Common.{◌≡◌, ◌∙◌, List, [], ◌∷◌, ◌++◌, Option, ap, sym, subst}
 use Rattle.rows.specs.declared.keys.CustomerKey.{CustomerKey}
-use Rattle.partitions.specs.Parts.{Shared}
+use Rattle.partitions.specs.Parts.{SharedTables}
 use Rattle.requests.specs.declared.request.Request.TheVariants as request
 use Rattle.requests.specs.declared.order_status.OrderStatus.{OrderStatus}
 use Rattle.requests.specs.declared.reply.Fault.TheVariants.{NoCustomer}
 use Rattle.requests.specs.declared.reply.Reply.TheVariants as reply
 use Rattle.requests.specs.declared.reply.Shown.TheVariants as kind
 use Rattle.requests.specs.declared.order_status.StatusOrder.{StatusOrder}
-use Rattle.tickets.specs.Claims.{Claiming, all_claims}
+use Rattle.tickets.specs.Claims.{ClaimView, all_claims}
 use Rattle.commit_log.specs.Claimed.{IsCarriedOut}
 use Rattle.transactions.specs.declared.order_status.Work.TheVariants.{ShowCustomer, ShowOrder}
 use Rattle.transactions.specs.declared.order_status.Found.TheVariants.{Customer, Order}
@@ -31,14 +31,14 @@ use Rattle.transactions.proofs.OrderStatusCarriedOut.{order_statuses_are_carried
 -- ---- the customer
 
 -- the customer was read under this claim, and this was found
-pub record IsCustomerRead (o : OrderStatus) (found : List Found) (claims : List (List Claiming)) : Type 0 where
+pub record IsCustomerRead (o : OrderStatus) (found : List Found) (claims : List (List ClaimView)) : Type 0 where
   pub customer : CustomerShown
-  pub customers : Claiming
+  pub customers : ClaimView
   pub found_is : found ≡ any_found.OrderStatus (Customer customer) ∷ []
   pub claims_is : claims ≡ (customers ∷ []) ∷ []
   pub shown : IsCustomerShown o customer customers
 
-pub customer_done : (shared : Shared) (o : OrderStatus) (found : List Found) (claims : List (List Claiming))
+pub customer_done : (shared : SharedTables) (o : OrderStatus) (found : List Found) (claims : List (List ClaimView))
     → HaveAllDone shared (works_of (ReadCustomer o)) found claims → IsCustomerRead o found claims
 customer_done shared o found claims done =
     let one = first_done shared (any_work.OrderStatus (ShowCustomer o)) [] found claims done in
@@ -82,14 +82,14 @@ customer_follows o found key customer is shared asked held claims known done =
 -- ---- the order
 
 -- the order was read under this claim, and this was found
-pub record IsOrderRead (key : CustomerKey) (found : List Found) (claims : List (List Claiming)) : Type 0 where
+pub record IsOrderRead (key : CustomerKey) (found : List Found) (claims : List (List ClaimView)) : Type 0 where
   pub order : Option StatusOrder
-  pub orders : Claiming
+  pub orders : ClaimView
   pub found_is : found ≡ any_found.OrderStatus (Order order) ∷ []
   pub claims_is : claims ≡ (orders ∷ []) ∷ []
   pub shown : IsOrderShown key order orders
 
-pub order_done : (shared : Shared) (given : StatusShown) (found : List Found) (claims : List (List Claiming))
+pub order_done : (shared : SharedTables) (given : StatusShown) (found : List Found) (claims : List (List ClaimView))
     → HaveAllDone shared (works_of (ReadOrder given)) found claims → IsOrderRead given.key found claims
 order_done shared given found claims done =
     let one = first_done shared (any_work.OrderStatus (ShowOrder given.key)) [] found claims done in

@@ -6,7 +6,7 @@ use Rattle.std.proofs.lemmas.List.Elements.{All-nil, All-cons, All-from_recursio
 use Rattle.rows.specs.declared.keys.DistrictKey.{DistrictKey}
 use Rattle.rows.specs.Keys.{district_of_customer}
 use Rattle.rows.specs.Ranged.{is_between}
-use Rattle.partitions.specs.Parts.{Shared}
+use Rattle.partitions.specs.Parts.{SharedTables}
 use Rattle.schema.specs.declared.scale.Scale.{Scale}
 use Rattle.schema.specs.Scale.{has_warehouse, has_district}
 use Rattle.requests.specs.declared.group.Group.TheVariants.{Customers, Orders}
@@ -15,9 +15,9 @@ use Rattle.requests.specs.declared.request.Request.TheVariants as request
 use Rattle.requests.specs.declared.order_status.OrderStatus.{OrderStatus}
 use Rattle.requests.specs.declared.refusal.Refusal.TheVariants.{BadWarehouse, BadDistrict, BadLines, BadQuantity, BadSupply, BadAmount, BadThreshold, BadCarrier}
 use Rattle.requests.specs.Check.{applies, IsAccepted}
-use Rattle.groups.specs.declared.wishes.Wish.{Wish}
+use Rattle.groups.specs.declared.group_wants.GroupWant.{GroupWant}
 use Rattle.groups.specs.Footprint.{shared as sharing, footprint, groups_of, order_status_footprint}
-use Rattle.tickets.specs.Claims.{Claiming, all_claims}
+use Rattle.tickets.specs.Claims.{ClaimView, all_claims}
 use Rattle.tickets.specs.Places.{IsGroupOf}
 use Rattle.transactions.specs.declared.order_status.Work.{Work}
 use Rattle.transactions.specs.declared.order_status.Work.TheVariants.{ShowCustomer, ShowOrder}
@@ -26,12 +26,12 @@ use Rattle.transactions.specs.declared.order_status.StatusShown.{StatusShown}
 use Rattle.transactions.specs.declared.order_status.Progress.{Progress}
 use Rattle.transactions.specs.declared.order_status.Progress.TheVariants.{ReadCustomer, ReadOrder}
 use Rattle.transactions.specs.declared.work.Work.TheVariants as any_work
-use Rattle.transactions.specs.Granted.{AreSomeOf, AreWishesAt, wish_of}
-use Rattle.transactions.specs.OrderStatus.{CanDo, HasDone, IsReached, IsStatusShown, home_of, wishes_of, works_of}
+use Rattle.transactions.specs.Granted.{AreSomeOf, AreGroupWantsAt, group_want_of}
+use Rattle.transactions.specs.OrderStatus.{CanDo, HasDone, IsReached, IsStatusShown, home_of, group_wants_of, works_of}
 use Rattle.transactions.specs.OrderStatusLaws.{AcceptedStatusesHaveTheirDistrict}
-use Rattle.transactions.specs.Works.{CanDo as AnyCanDo, all_wishes}
+use Rattle.transactions.specs.Works.{CanDo as AnyCanDo, all_group_wants}
 use Rattle.transactions.proofs.InScale.{between, not_first}
-use Rattle.transactions.proofs.Footprints.{AreApart, all_are_some, first_are_some, one_wish, shared_wish}
+use Rattle.transactions.proofs.Footprints.{AreApart, all_are_some, first_are_some, one_group_want, shared_group_want}
 use Rattle.transactions.proofs.OrderStatusCarriedOut.{shown_customers_are_at_home}
 
 -- ---- what an accepted Order-Status names is there
@@ -58,46 +58,46 @@ accepted_statuses_have_their_district scale o accepted =
 
 -- ---- each action
 
-pub works_have_their_groups : (shared : Shared) (work : Work) → CanDo shared work → All (IsGroupOf shared.scale.warehouses) (groups_of (wishes_of work))
+pub works_have_their_groups : (shared : SharedTables) (work : Work) → CanDo shared work → All (IsGroupOf shared.scale.warehouses) (groups_of (group_wants_of work))
 works_have_their_groups shared (ShowCustomer o) accepted =
     let is = status_in_scale shared.scale o accepted in
     let warehouse = between 1 shared.scale.warehouses o.home.w_id is.0 in
     let district = between 1 10 o.home.d_id is.1 in
-    All-from_recursion (IsGroupOf shared.scale.warehouses) (groups_of (wishes_of (ShowCustomer o))) ((warehouse, district), tt)
+    All-from_recursion (IsGroupOf shared.scale.warehouses) (groups_of (group_wants_of (ShowCustomer o))) ((warehouse, district), tt)
 works_have_their_groups shared (ShowOrder key) has =
     let is = and_parts (has_warehouse shared.scale key.w_id) (is_between 1 10 key.d_id) has in
     let warehouse = between 1 shared.scale.warehouses key.w_id is.0 in
     let district = between 1 10 key.d_id is.1 in
-    All-from_recursion (IsGroupOf shared.scale.warehouses) (groups_of (wishes_of (ShowOrder key))) ((warehouse, district), tt)
+    All-from_recursion (IsGroupOf shared.scale.warehouses) (groups_of (group_wants_of (ShowOrder key))) ((warehouse, district), tt)
 
-pub works_are_at_warehouses : (shared : Shared) (work : Work) → CanDo shared work → IsTrue (has_warehouse shared.scale (home_of work))
+pub works_are_at_warehouses : (shared : SharedTables) (work : Work) → CanDo shared work → IsTrue (has_warehouse shared.scale (home_of work))
 works_are_at_warehouses shared (ShowCustomer o) accepted = (status_in_scale shared.scale o accepted).0
 works_are_at_warehouses shared (ShowOrder key) has = (and_parts (has_warehouse shared.scale key.w_id) (is_between 1 10 key.d_id) has).0
 
-pub works_have_wishes : (work : Work) → 1 ≤ length (wishes_of work)
-works_have_wishes (ShowCustomer o) = omega arith
-works_have_wishes (ShowOrder key) = omega arith
+pub works_have_group_wants : (work : Work) → 1 ≤ length (group_wants_of work)
+works_have_group_wants (ShowCustomer o) = omega arith
+works_have_group_wants (ShowOrder key) = omega arith
 
-pub works_claim_at_home : (work : Work) → AreWishesAt (home_of work) (wishes_of work)
-works_claim_at_home (ShowCustomer o) = one_wish o.home.w_id (sharing (Customers o.home.w_id o.home.d_id)) refl
-works_claim_at_home (ShowOrder key) = one_wish key.w_id (sharing (Orders key.w_id key.d_id)) refl
+pub works_claim_at_home : (work : Work) → AreGroupWantsAt (home_of work) (group_wants_of work)
+works_claim_at_home (ShowCustomer o) = one_group_want o.home.w_id (sharing (Customers o.home.w_id o.home.d_id)) refl
+works_claim_at_home (ShowOrder key) = one_group_want key.w_id (sharing (Orders key.w_id key.d_id)) refl
 
--- no group is wished for twice
-pub works_wish_once : (work : Work) → AreApart (wishes_of work)
-works_wish_once (ShowCustomer o) zero d less = All-nil _
-works_wish_once (ShowCustomer o) (suc k) d less = absurd (omega arith)
-works_wish_once (ShowOrder key) zero d less = All-nil _
-works_wish_once (ShowOrder key) (suc k) d less = absurd (omega arith)
+-- no group is wanted for twice
+pub works_group_want_once : (work : Work) → AreApart (group_wants_of work)
+works_group_want_once (ShowCustomer o) zero d less = All-nil _
+works_group_want_once (ShowCustomer o) (suc k) d less = absurd (omega arith)
+works_group_want_once (ShowOrder key) zero d less = All-nil _
+works_group_want_once (ShowOrder key) (suc k) d less = absurd (omega arith)
 
--- the claims are on the groups that it wished for
-pub done_on : (shared : Shared) (work : Work) (found : Found) (claims : List Claiming) → HasDone shared work found claims
-    → map (λ (claim : Claiming). claim.group) claims ≡ groups_of (wishes_of work)
-done_on shared (ShowCustomer o) found claims done = ap (map (λ (claim : Claiming). claim.group)) done.3 ∙ (λ i. done.4.claim.group i ∷ [])
-done_on shared (ShowOrder key) found claims done = ap (map (λ (claim : Claiming). claim.group)) done.3 ∙ (λ i. done.4.claim.group i ∷ [])
+-- the claims are on the groups that it wanted for
+pub done_on : (shared : SharedTables) (work : Work) (found : Found) (claims : List ClaimView) → HasDone shared work found claims
+    → map (λ (claim : ClaimView). claim.group) claims ≡ groups_of (group_wants_of work)
+done_on shared (ShowCustomer o) found claims done = ap (map (λ (claim : ClaimView). claim.group)) done.3 ∙ (λ i. done.4.claim.group i ∷ [])
+done_on shared (ShowOrder key) found claims done = ap (map (λ (claim : ClaimView). claim.group)) done.3 ∙ (λ i. done.4.claim.group i ∷ [])
 
 -- ---- each phase
 
-pub accepted : (shared : Shared) (asked : Request) (progress : Progress) (held : List (List Claiming)) → IsReached shared asked progress held → IsAccepted shared.scale asked
+pub accepted : (shared : SharedTables) (asked : Request) (progress : Progress) (held : List (List ClaimView)) → IsReached shared asked progress held → IsAccepted shared.scale asked
 accepted shared asked (ReadCustomer o) held reached = reached.accepted
 accepted shared asked (ReadOrder given) held reached = reached.accepted
 
@@ -106,15 +106,15 @@ some_actions (ReadCustomer o) = omega arith
 some_actions (ReadOrder given) = omega arith
 
 -- the customer's district is the one that was asked of
-at_home : (shared : Shared) (asked : Request) (given : StatusShown) (held : List (List Claiming)) (known : IsStatusShown shared asked given held) → district_of_customer given.key ≡ known.order_status.home
+at_home : (shared : SharedTables) (asked : Request) (given : StatusShown) (held : List (List ClaimView)) (known : IsStatusShown shared asked given held) → district_of_customer given.key ≡ known.order_status.home
 at_home shared asked given held known = shown_customers_are_at_home known.order_status given.key given.customer known.customers known.shown
 
 -- they are few
-pub few_actions : (shared : Shared) (asked : Request) (progress : Progress) (held : List (List Claiming)) → IsReached shared asked progress held → length held + length (works_of progress) ≤ 2
-few_actions shared asked (ReadCustomer o) held known = omega (arith, ap (λ (hs : List (List Claiming)). length hs) known.none)
-few_actions shared asked (ReadOrder given) held known = omega (arith, ap (λ (hs : List (List Claiming)). length hs) known.claims)
+pub few_actions : (shared : SharedTables) (asked : Request) (progress : Progress) (held : List (List ClaimView)) → IsReached shared asked progress held → length held + length (works_of progress) ≤ 2
+few_actions shared asked (ReadCustomer o) held known = omega (arith, ap (λ (hs : List (List ClaimView)). length hs) known.none)
+few_actions shared asked (ReadOrder given) held known = omega (arith, ap (λ (hs : List (List ClaimView)). length hs) known.claims)
 
-pub can_all : (shared : Shared) (asked : Request) (progress : Progress) (held : List (List Claiming)) → IsReached shared asked progress held → All (AnyCanDo shared) (works_of progress)
+pub can_all : (shared : SharedTables) (asked : Request) (progress : Progress) (held : List (List ClaimView)) → IsReached shared asked progress held → All (AnyCanDo shared) (works_of progress)
 can_all shared asked (ReadCustomer o) held known =
     All-cons (AnyCanDo shared) (any_work.OrderStatus (ShowCustomer o)) [] (subst (IsAccepted shared.scale) known.is known.accepted) (All-nil (AnyCanDo shared))
 can_all shared asked (ReadOrder given) held known =
@@ -123,19 +123,19 @@ can_all shared asked (ReadOrder given) held known =
     (accepted_statuses_have_their_district shared.scale known.order_status (subst (IsAccepted shared.scale) known.is known.accepted)))
     (All-nil (AnyCanDo shared))
 
-pub within : (shared : Shared) (asked : Request) (progress : Progress) (held : List (List Claiming)) → IsReached shared asked progress held
-    → AreSomeOf (map wish_of (all_claims held) ++ all_wishes (works_of progress)) (footprint asked)
+pub within : (shared : SharedTables) (asked : Request) (progress : Progress) (held : List (List ClaimView)) → IsReached shared asked progress held
+    → AreSomeOf (map group_want_of (all_claims held) ++ all_group_wants (works_of progress)) (footprint asked)
 within shared asked (ReadCustomer o) held known =
     let home = o.home in
-    subst (λ held. AreSomeOf (map wish_of (all_claims held) ++ all_wishes (works_of (ReadCustomer o))) (footprint asked)) (sym known.none)
-    (subst (λ r. AreSomeOf (all_wishes (works_of (ReadCustomer o))) (footprint r)) (sym known.is)
+    subst (λ held. AreSomeOf (map group_want_of (all_claims held) ++ all_group_wants (works_of (ReadCustomer o))) (footprint asked)) (sym known.none)
+    (subst (λ r. AreSomeOf (all_group_wants (works_of (ReadCustomer o))) (footprint r)) (sym known.is)
     (first_are_some (sharing (Customers home.w_id home.d_id) ∷ []) (sharing (Orders home.w_id home.d_id) ∷ [])))
 within shared asked (ReadOrder given) held known =
     let home = known.order_status.home in
     let here = at_home shared asked given held known in
     let order = sharing (Orders given.key.w_id given.key.d_id) in
-    subst (λ held. AreSomeOf (map wish_of (all_claims held) ++ all_wishes (works_of (ReadOrder given))) (footprint asked)) (sym known.claims)
-    (subst (λ r. AreSomeOf (wish_of known.customers ∷ order ∷ []) (footprint r)) (sym known.is)
-    (all_are_some (wish_of known.customers ∷ order ∷ []) (footprint (request.OrderStatus known.order_status))
-    (ap (λ (w : Wish). w ∷ order ∷ []) (shared_wish _ known.customers known.shown.claim)
+    subst (λ held. AreSomeOf (map group_want_of (all_claims held) ++ all_group_wants (works_of (ReadOrder given))) (footprint asked)) (sym known.claims)
+    (subst (λ r. AreSomeOf (group_want_of known.customers ∷ order ∷ []) (footprint r)) (sym known.is)
+    (all_are_some (group_want_of known.customers ∷ order ∷ []) (footprint (request.OrderStatus known.order_status))
+    (ap (λ (w : GroupWant). w ∷ order ∷ []) (shared_group_want _ known.customers known.shown.claim)
     ∙ ap (λ (k : DistrictKey). sharing (Customers home.w_id home.d_id) ∷ sharing (Orders k.w_id k.d_id) ∷ []) here)))

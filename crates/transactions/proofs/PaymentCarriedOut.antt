@@ -15,8 +15,8 @@ use Rattle.requests.specs.declared.reply.Shown.TheVariants as kind
 use Rattle.groups.specs.Content.{content}
 use Rattle.groups.specs.Content.Content.{OfHistory}
 use Rattle.groups.specs.Laws.{with_customer}
-use Rattle.tickets.specs.Claims.{Claiming}
-use Rattle.tickets.specs.Committed.{TellsContent, content_after, contents_after}
+use Rattle.tickets.specs.Claims.{ClaimView}
+use Rattle.tickets.specs.Committed.{RecordsContent, content_after, contents_after}
 use Rattle.machine.specs.Outcome.{Outcome}
 use Rattle.machine.specs.Payment.{payment, posted, payment_row, history_row}
 use Rattle.machine.proofs.ChosenRows.{chosen_there}
@@ -29,12 +29,12 @@ use Rattle.transactions.specs.Granted.{IsExclusiveOn}
 use Rattle.transactions.specs.Payment.{AreHomeRowsPaid, IsCustomerRowPaid, IsPaymentAdded, paid_with}
 use Rattle.transactions.specs.PaymentLaws.{PaymentsAreCarriedOut}
 use Rattle.transactions.proofs.Settled.{put-settles}
-use Rattle.transactions.proofs.Told as told
+use Rattle.transactions.proofs.Recorded as recorded
 
 -- ---- carried out
 
 module _
-    (p : Payment) (row : History) (shown : PaymentReply) (warehouse_name district_name : List ℕ) (warehouse district customers history : Claiming)
+    (p : Payment) (row : History) (shown : PaymentReply) (warehouse_name district_name : List ℕ) (warehouse district customers history : ClaimView)
     (on_warehouse : IsExclusiveOn (g.Warehouse p.home.w_id) warehouse)
     (on_district : IsExclusiveOn (g.District p.home.w_id p.home.d_id) district)
     (on_customers : IsExclusiveOn (g.Customers p.customer_home.w_id p.customer_home.d_id) customers)
@@ -50,18 +50,18 @@ module _
     payer_shown : customer_key p.customer_home shown.c_id ≡ customer.key
     payer_shown = ap (λ (r : PaymentReply). customer_key p.customer_home r.c_id) customer.shown ∙ sym of_home
 
-    abbrev claims : List Claiming
+    abbrev claims : List ClaimView
     claims = warehouse ∷ district ∷ customers ∷ history ∷ []
 
-    module _ (t : Database) (tells : AllByRecursion (TellsContent (content t)) claims) where
+    module _ (t : Database) (records : AllByRecursion (RecordsContent (content t)) claims) where
       abbrev left : Database
       left = puts.left p customer.key of_home home.new_warehouse home.new_district customer.new_row row t
 
       carried : payment t p ≡ posted t p customer.key row (Some home.new_warehouse) (Some home.new_district) (Some customer.new_row)
       carried =
-          let warehouse_there = told.warehouse_told t p warehouse tells.0 (Some home.warehouse_row) on_warehouse home.warehouse_told in
-          let district_there = told.district_told t p district tells.1.0 (Some home.district_row) on_district home.district_told in
-          let customer_there = told.customer_told t p customers tells.1.1.0 on_customers customer.rows customer.told ∙ customer.there in
+          let warehouse_there = recorded.warehouse_recorded t p warehouse records.0 (Some home.warehouse_row) on_warehouse home.warehouse_recorded in
+          let district_there = recorded.district_recorded t p district records.1.0 (Some home.district_row) on_district home.district_recorded in
+          let customer_there = recorded.customer_recorded t p customers records.1.1.0 on_customers customer.rows customer.recorded ∙ customer.there in
           let row_named : row ≡ payment_row p customer.key home.warehouse_row home.district_row =
           row_is ∙ (λ i. history_row p (payer_shown i) (home.warehouse_named i) (home.district_named i)) in
           payment-posted t p (pos p.amount) row home.warehouse_row home.district_row (customer.key, customer.row) home.new_warehouse home.new_district customer.new_row
@@ -79,13 +79,13 @@ module _
           → content (puts.with_c p customer.key of_home home.new_warehouse home.new_district customer.new_row row t) group
           ≡ content_after group (content (puts.with_d p customer.key of_home home.new_warehouse home.new_district customer.new_row row t) group) customers
       customers_settle =
-          let made = ap (with_customer customer.key customer.new_row) (told.customers_told t p customers tells.1.1.0 on_customers customer.rows customer.told) in
+          let made = ap (with_customer customer.key customer.new_row) (recorded.customers_recorded t p customers records.1.1.0 on_customers customer.rows customer.recorded) in
           put-settles _ _ _ _ (puts.c_put p customer.key of_home home.new_warehouse home.new_district customer.new_row row t) customers
           on_customers (customer.left ∙ sym made)
 
       history_settles : (group : Group) → content left group ≡ content_after group (content (puts.with_c p customer.key of_home home.new_warehouse home.new_district customer.new_row row t) group) history
       history_settles =
-          let listed = told.history_told t p history tells.1.1.1.0 added.rows added.claim added.told in
+          let listed = recorded.history_recorded t p history records.1.1.1.0 added.rows added.claim added.recorded in
           put-settles _ _ _ _ (puts.h_put p customer.key of_home home.new_warehouse home.new_district customer.new_row row t) history added.claim
           (added.left ∙ ap (λ rows. OfHistory (Some (unwrap_or rows [] ++ row ∷ []))) (sym listed))
 
@@ -107,10 +107,10 @@ payments_are_carried_out opening p (h.Paid warehouse_name district_name) (c.Paid
     let is : paid_with p reply warehouse_name district_name ≡ given = cc in
     let shown_is : reply ≡ given.reply = ap (λ (paid : Paid). paid.reply) is in
     let row_is : given.row ≡ history_row p (customer_key p.customer_home reply.c_id) warehouse_name district_name = ap (λ (paid : Paid). paid.row) (sym is) in
-    λ t scale items tells.
+    λ t scale items records.
     carried_out p given.row given.reply warehouse_name district_name warehouse district customers history home.warehouse_claim home.district_claim customer.claim home.rows
     (subst (λ r. IsCustomerRowPaid p r customers) shown_is customer.rows) added (row_is ∙ ap (λ (r : PaymentReply). history_row p (customer_key p.customer_home r.c_id) warehouse_name district_name) shown_is) t
-    (recursion_from_All (TellsContent (content t)) (warehouse ∷ district ∷ customers ∷ history ∷ []) tells)
+    (recursion_from_All (RecordsContent (content t)) (warehouse ∷ district ∷ customers ∷ history ∷ []) records)
 payments_are_carried_out opening p h.Missing customer given w d cu hi is_home is_customer found added = absurd cc
 payments_are_carried_out opening p h.OutOfRange c.Missing given w d cu hi is_home is_customer found added = absurd cc
 payments_are_carried_out opening p h.OutOfRange c.OutOfRange given w d cu hi is_home is_customer found added = absurd cc

@@ -18,8 +18,8 @@ use Rattle.requests.specs.declared.reply.Fault.TheVariants.{NoCustomer, Range}
 use Rattle.requests.specs.declared.reply.Reply.TheVariants.{RolledBack}
 use Rattle.groups.specs.Content.{content}
 use Rattle.groups.specs.Content.Content.{OfWarehouse, OfDistrict, OfCustomers}
-use Rattle.tickets.specs.Claims.{Claiming}
-use Rattle.tickets.specs.Committed.{TellsContent}
+use Rattle.tickets.specs.Claims.{ClaimView}
+use Rattle.tickets.specs.Committed.{RecordsContent}
 use Rattle.machine.specs.Chosen.{chosen}
 use Rattle.machine.specs.Outcome.{Outcome, rolled_back}
 use Rattle.machine.specs.Payment.{payment, paid, posted, payment_row, warehouse_paid, district_paid}
@@ -31,7 +31,7 @@ use Rattle.transactions.specs.declared.progress.Gathered.TheVariants.{Finish}
 use Rattle.transactions.specs.Granted.{IsExclusiveOn}
 use Rattle.transactions.specs.Payment.{FindsHome, IsHomeOutOfRange, AreHomeRowsPaid, FindsCustomer, IsCustomerMissing, IsCustomerOutOfRange, payer_paid, gathered}
 use Rattle.transactions.specs.PaymentLaws.{RolledBackPaymentsAreCarriedOut}
-use Rattle.transactions.proofs.Told as told
+use Rattle.transactions.proofs.Recorded as recorded
 
 module _ (t : Database) (p : Payment) where
   -- ---- a row that isn't there
@@ -70,36 +70,36 @@ module _ (t : Database) (p : Payment) where
   -- ---- by what was found
 
   module _
-      (warehouse district customers : Claiming)
+      (warehouse district customers : ClaimView)
       (on_warehouse : IsExclusiveOn (g.Warehouse p.home.w_id) warehouse)
       (on_district : IsExclusiveOn (g.District p.home.w_id p.home.d_id) district)
       (on_customers : IsExclusiveOn (g.Customers p.customer_home.w_id p.customer_home.d_id) customers)
-      (tells : AllByRecursion (TellsContent (content t)) (warehouse ∷ district ∷ customers ∷ []))
+      (records : AllByRecursion (RecordsContent (content t)) (warehouse ∷ district ∷ customers ∷ []))
     where
-      missing_home : (warehouse.told ≡ OfWarehouse None) ⊎ (district.told ≡ OfDistrict None) → payment t p ≡ rolled_back t NoCustomer
-      missing_home (inl none) = no_warehouse _ _ _ (told.warehouse_told t p warehouse tells.0 None on_warehouse none)
-      missing_home (inr none) = no_district _ _ _ (told.district_told t p district tells.1.0 None on_district none)
+      missing_home : (warehouse.recorded ≡ OfWarehouse None) ⊎ (district.recorded ≡ OfDistrict None) → payment t p ≡ rolled_back t NoCustomer
+      missing_home (inl none) = no_warehouse _ _ _ (recorded.warehouse_recorded t p warehouse records.0 None on_warehouse none)
+      missing_home (inr none) = no_district _ _ _ (recorded.district_recorded t p district records.1.0 None on_district none)
 
       missing_customer : IsCustomerMissing p customers → payment t p ≡ rolled_back t NoCustomer
-      missing_customer found = no_customer _ _ _ (told.customer_told t p customers tells.1.1.0 on_customers found.rows found.told ∙ found.missing)
+      missing_customer found = no_customer _ _ _ (recorded.customer_recorded t p customers records.1.1.0 on_customers found.rows found.recorded ∙ found.missing)
 
       home_out_of_range : IsHomeOutOfRange p warehouse district
-          → (rows : Customers) (key : CustomerKey) (row : Customer) → customers.told ≡ OfCustomers rows → chosen rows p.customer_home p.customer ≡ Some (key, row)
+          → (rows : Customers) (key : CustomerKey) (row : Customer) → customers.recorded ≡ OfCustomers rows → chosen rows p.customer_home p.customer ≡ Some (key, row)
           → payment t p ≡ rolled_back t Range
-      home_out_of_range found rows key row rows_told there =
+      home_out_of_range found rows key row rows_recorded there =
           all_there found.warehouse_row found.district_row key row
-          (told.warehouse_told t p warehouse tells.0 (Some found.warehouse_row) on_warehouse found.warehouse_told)
-          (told.district_told t p district tells.1.0 (Some found.district_row) on_district found.district_told)
-          (told.customer_told t p customers tells.1.1.0 on_customers rows rows_told ∙ there)
+          (recorded.warehouse_recorded t p warehouse records.0 (Some found.warehouse_row) on_warehouse found.warehouse_recorded)
+          (recorded.district_recorded t p district records.1.0 (Some found.district_row) on_district found.district_recorded)
+          (recorded.customer_recorded t p customers records.1.1.0 on_customers rows rows_recorded ∙ there)
           ∙ home_out _ _ _ _ _ found.out
 
       customer_out_of_range : (warehouse_name district_name : List ℕ) → AreHomeRowsPaid p warehouse_name district_name warehouse district → IsCustomerOutOfRange p customers
           → payment t p ≡ rolled_back t Range
       customer_out_of_range warehouse_name district_name home found =
           all_there home.warehouse_row home.district_row found.key found.row
-          (told.warehouse_told t p warehouse tells.0 (Some home.warehouse_row) on_warehouse home.warehouse_told)
-          (told.district_told t p district tells.1.0 (Some home.district_row) on_district home.district_told)
-          (told.customer_told t p customers tells.1.1.0 on_customers found.rows found.told ∙ found.there)
+          (recorded.warehouse_recorded t p warehouse records.0 (Some home.warehouse_row) on_warehouse home.warehouse_recorded)
+          (recorded.district_recorded t p district records.1.0 (Some home.district_row) on_district home.district_recorded)
+          (recorded.customer_recorded t p customers records.1.1.0 on_customers found.rows found.recorded ∙ found.there)
           ∙ customer_out _ _ _ _ _ found.out
 
       rolled : (home : HomePaid) (customer : CustomerPaid) (fault : Fault) → FindsHome p home warehouse district → FindsCustomer p customer customers
@@ -108,16 +108,16 @@ module _ (t : Database) (p : Payment) where
       rolled h.OutOfRange c.Missing fault found there is = missing_customer there ∙ ap (rolled_back t) (let same : NoCustomer ≡ fault = cc in same)
       rolled (h.Paid warehouse_name district_name) c.Missing fault found there is = missing_customer there ∙ ap (rolled_back t) (let same : NoCustomer ≡ fault = cc in same)
       rolled h.OutOfRange c.OutOfRange fault found there is =
-          home_out_of_range found there.rows there.key there.row there.told there.there ∙ ap (rolled_back t) (let same : Range ≡ fault = cc in same)
+          home_out_of_range found there.rows there.key there.row there.recorded there.there ∙ ap (rolled_back t) (let same : Range ≡ fault = cc in same)
       rolled h.OutOfRange (c.Paid reply) fault found there is =
-          home_out_of_range found there.rows there.key there.row there.told there.there ∙ ap (rolled_back t) (let same : Range ≡ fault = cc in same)
+          home_out_of_range found there.rows there.key there.row there.recorded there.there ∙ ap (rolled_back t) (let same : Range ≡ fault = cc in same)
       rolled (h.Paid warehouse_name district_name) c.OutOfRange fault found there is =
           customer_out_of_range warehouse_name district_name found there ∙ ap (rolled_back t) (let same : Range ≡ fault = cc in same)
       rolled (h.Paid warehouse_name district_name) (c.Paid reply) fault found there is = absurd cc
 
 pub rolled_back_payments_are_carried_out : RolledBackPaymentsAreCarriedOut
-rolled_back_payments_are_carried_out opening p home customer fault warehouse district customers home_is customer_is found t scale items tells =
+rolled_back_payments_are_carried_out opening p home customer fault warehouse district customers home_is customer_is found t scale items records =
     let same = rolled t p warehouse district customers home_is.warehouse_claim home_is.district_claim customer_is.claim
-    (recursion_from_All (TellsContent (content t)) (warehouse ∷ district ∷ customers ∷ []) tells)
+    (recursion_from_All (RecordsContent (content t)) (warehouse ∷ district ∷ customers ∷ []) records)
     home customer fault home_is.rows customer_is.rows found in
     (ap (λ (o : Outcome). o.reply) same, λ group. ap (λ (o : Outcome). content o.tables group) same)

@@ -1,13 +1,13 @@
 -- What follows of what the actions of a payment found.
 use Rattle.std.proofs.Common.{◌≡◌, ◌∙◌, List, [], ◌∷◌, ◌++◌, refl, ap, sym, subst}
-use Rattle.partitions.specs.Parts.{Shared}
+use Rattle.partitions.specs.Parts.{SharedTables}
 use Rattle.requests.specs.declared.request.Request.{Request}
 use Rattle.requests.specs.declared.request.Request.TheVariants as request
 use Rattle.requests.specs.declared.payment.Payment.{Payment}
 use Rattle.requests.specs.declared.reply.Fault.{Fault}
 use Rattle.requests.specs.declared.reply.Reply.TheVariants as reply
 use Rattle.requests.specs.declared.reply.Shown.TheVariants as kind
-use Rattle.tickets.specs.Claims.{Claiming, all_claims}
+use Rattle.tickets.specs.Claims.{ClaimView, all_claims}
 use Rattle.commit_log.specs.Claimed.{IsCarriedOut}
 use Rattle.transactions.specs.declared.payment.Work.TheVariants.{PayHome, PayCustomer, AddPayment}
 use Rattle.transactions.specs.declared.payment.Found.TheVariants.{Home, Customer}
@@ -34,19 +34,19 @@ use Rattle.transactions.proofs.PaymentRolledBack.{rolled_back_payments_are_carri
 -- ---- the first phase
 
 -- the home rows and the customer's were paid under these claims, and this was found
-pub record AreRowsPaid (shared : Shared) (p : Payment) (found : List Found) (claims : List (List Claiming)) : Type 0 where
+pub record AreRowsPaid (shared : SharedTables) (p : Payment) (found : List Found) (claims : List (List ClaimView)) : Type 0 where
   pub home : HomePaid
   pub customer : CustomerPaid
-  pub warehouse : Claiming
-  pub district : Claiming
-  pub customers : Claiming
+  pub warehouse : ClaimView
+  pub district : ClaimView
+  pub customers : ClaimView
   pub found_is : found ≡ any_found.Payment (Home home) ∷ any_found.Payment (Customer customer) ∷ []
   pub claims_is : claims ≡ (warehouse ∷ district ∷ []) ∷ (customers ∷ []) ∷ []
   pub home_paid : IsHomePaid p home warehouse district
   pub customer_paid : IsCustomerPaid p customer customers
   pub payer : IsPayerKnown shared.scale p customer
 
-pub rows_done : (shared : Shared) (p : Payment) (found : List Found) (claims : List (List Claiming))
+pub rows_done : (shared : SharedTables) (p : Payment) (found : List Found) (claims : List (List ClaimView))
     → HaveAllDone shared (works_of (PayRows p)) found claims → AreRowsPaid shared p found claims
 rows_done shared p found claims done =
     let one = first_done shared (any_work.Payment (PayHome p)) (any_work.Payment (PayCustomer p) ∷ []) found claims done in
@@ -78,8 +78,8 @@ same_customer : (home other : HomePaid) (customer another : CustomerPaid)
 same_customer home other customer another same = cc
 
 module _
-    (shared : Shared) (asked : Request) (p : Payment) (held : List (List Claiming)) (known : IsAsked shared asked (request.Payment p) held)
-    (warehouse district customers : Claiming) (claims : List (List Claiming)) (claims_are : claims ≡ (warehouse ∷ district ∷ []) ∷ (customers ∷ []) ∷ [])
+    (shared : SharedTables) (asked : Request) (p : Payment) (held : List (List ClaimView)) (known : IsAsked shared asked (request.Payment p) held)
+    (warehouse district customers : ClaimView) (claims : List (List ClaimView)) (claims_are : claims ≡ (warehouse ∷ district ∷ []) ∷ (customers ∷ []) ∷ [])
   where
     rolled : (home : HomePaid) (customer : CustomerPaid) (fault : Fault) → gathered p home customer ≡ Finish (reply.RolledBack fault)
         → IsHomePaid p home warehouse district → IsCustomerPaid p customer customers → Follows shared asked claims (Finish (reply.RolledBack fault))

@@ -5,7 +5,7 @@ use Rattle.std.proofs.lemmas.Bool.{and_parts, and_from, not-false}
 use Rattle.std.proofs.lemmas.List.Elements.{All-nil, All-cons, All-from_recursion}
 use Rattle.rows.specs.declared.keys.CustomerKey.{CustomerKey}
 use Rattle.rows.specs.Ranged.{is_between}
-use Rattle.partitions.specs.Parts.{Shared}
+use Rattle.partitions.specs.Parts.{SharedTables}
 use Rattle.schema.specs.declared.scale.Scale.{Scale}
 use Rattle.schema.specs.Scale.{has_warehouse, has_customer}
 use Rattle.requests.specs.declared.group.Group.TheVariants.{Warehouse, District, Customers, History as HistoryGroup}
@@ -14,10 +14,10 @@ use Rattle.requests.specs.declared.request.Request.TheVariants as request
 use Rattle.requests.specs.declared.payment.Payment.{Payment}
 use Rattle.requests.specs.declared.refusal.Refusal.TheVariants.{BadWarehouse, BadDistrict, BadLines, BadQuantity, BadSupply, BadAmount, BadThreshold, BadCarrier}
 use Rattle.requests.specs.Check.{applies, IsAccepted}
-use Rattle.groups.specs.declared.wishes.Wish.{Wish}
+use Rattle.groups.specs.declared.group_wants.GroupWant.{GroupWant}
 use Rattle.groups.specs.Footprint.{exclusively, footprint, groups_of, payment_footprint}
 use Rattle.groups.specs.Groups.{warehouse_of}
-use Rattle.tickets.specs.Claims.{Claiming, all_claims}
+use Rattle.tickets.specs.Claims.{ClaimView, all_claims}
 use Rattle.tickets.specs.Places.{IsGroupOf}
 use Rattle.transactions.specs.declared.payment.Work.{Work}
 use Rattle.transactions.specs.declared.payment.Work.TheVariants.{PayHome, PayCustomer, AddPayment}
@@ -28,12 +28,12 @@ use Rattle.transactions.specs.declared.payment.Paid.{Paid}
 use Rattle.transactions.specs.declared.payment.Progress.{Progress}
 use Rattle.transactions.specs.declared.payment.Progress.TheVariants.{PayRows, AddRow}
 use Rattle.transactions.specs.declared.work.Work.TheVariants as any_work
-use Rattle.transactions.specs.Granted.{AreSomeOf, AreWishesAt, wish_of}
-use Rattle.transactions.specs.Payment.{CanDo, HasDone, IsReached, home_of, paid_with, wishes_of, works_of}
+use Rattle.transactions.specs.Granted.{AreSomeOf, AreGroupWantsAt, group_want_of}
+use Rattle.transactions.specs.Payment.{CanDo, HasDone, IsReached, home_of, paid_with, group_wants_of, works_of}
 use Rattle.transactions.specs.PaymentLaws.{AcceptedPaymentsHaveTheirDistrict, GatheredPayersAreKnown}
-use Rattle.transactions.specs.Works.{CanDo as AnyCanDo, all_wishes}
+use Rattle.transactions.specs.Works.{CanDo as AnyCanDo, all_group_wants}
 use Rattle.transactions.proofs.InScale.{between, not_first}
-use Rattle.transactions.proofs.Footprints.{AreApart, all_are_some, exclusive_wish, first_are_some, one_wish}
+use Rattle.transactions.proofs.Footprints.{AreApart, all_are_some, exclusive_group_want, first_are_some, one_group_want}
 
 -- ---- what an accepted payment names is there
 
@@ -69,57 +69,57 @@ accepted_payments_have_their_district scale p accepted =
 
 -- ---- each action
 
-pub works_have_their_groups : (shared : Shared) (work : Work) → CanDo shared work → All (IsGroupOf shared.scale.warehouses) (groups_of (wishes_of work))
+pub works_have_their_groups : (shared : SharedTables) (work : Work) → CanDo shared work → All (IsGroupOf shared.scale.warehouses) (groups_of (group_wants_of work))
 works_have_their_groups shared (PayHome p) accepted =
     let is = in_scale shared.scale p accepted in
     let warehouse = between 1 shared.scale.warehouses p.home.w_id is.warehouse in
     let district = between 1 10 p.home.d_id is.district in
-    All-from_recursion (IsGroupOf shared.scale.warehouses) (groups_of (wishes_of (PayHome p))) (warehouse, ((warehouse, district), tt))
+    All-from_recursion (IsGroupOf shared.scale.warehouses) (groups_of (group_wants_of (PayHome p))) (warehouse, ((warehouse, district), tt))
 works_have_their_groups shared (PayCustomer p) accepted =
     let is = in_scale shared.scale p accepted in
     let warehouse = between 1 shared.scale.warehouses p.customer_home.w_id is.payers_warehouse in
     let district = between 1 10 p.customer_home.d_id is.payers_district in
-    All-from_recursion (IsGroupOf shared.scale.warehouses) (groups_of (wishes_of (PayCustomer p))) ((warehouse, district), tt)
+    All-from_recursion (IsGroupOf shared.scale.warehouses) (groups_of (group_wants_of (PayCustomer p))) ((warehouse, district), tt)
 works_have_their_groups shared (AddPayment p row) can =
     let is = in_scale shared.scale p can.0 in
     let warehouse = between 1 shared.scale.warehouses p.home.w_id is.warehouse in
     let district = between 1 10 p.home.d_id is.district in
-    All-from_recursion (IsGroupOf shared.scale.warehouses) (groups_of (wishes_of (AddPayment p row))) ((warehouse, district), tt)
+    All-from_recursion (IsGroupOf shared.scale.warehouses) (groups_of (group_wants_of (AddPayment p row))) ((warehouse, district), tt)
 
-pub works_are_at_warehouses : (shared : Shared) (work : Work) → CanDo shared work → IsTrue (has_warehouse shared.scale (home_of work))
+pub works_are_at_warehouses : (shared : SharedTables) (work : Work) → CanDo shared work → IsTrue (has_warehouse shared.scale (home_of work))
 works_are_at_warehouses shared (PayHome p) accepted = (in_scale shared.scale p accepted).warehouse
 works_are_at_warehouses shared (PayCustomer p) accepted = (in_scale shared.scale p accepted).payers_warehouse
 works_are_at_warehouses shared (AddPayment p row) can = (in_scale shared.scale p can.0).warehouse
 
-pub works_have_wishes : (work : Work) → 1 ≤ length (wishes_of work)
-works_have_wishes (PayHome p) = omega arith
-works_have_wishes (PayCustomer p) = omega arith
-works_have_wishes (AddPayment p row) = omega arith
+pub works_have_group_wants : (work : Work) → 1 ≤ length (group_wants_of work)
+works_have_group_wants (PayHome p) = omega arith
+works_have_group_wants (PayCustomer p) = omega arith
+works_have_group_wants (AddPayment p row) = omega arith
 
-pub works_claim_at_home : (work : Work) → AreWishesAt (home_of work) (wishes_of work)
+pub works_claim_at_home : (work : Work) → AreGroupWantsAt (home_of work) (group_wants_of work)
 works_claim_at_home (PayHome p) =
-    All-cons (λ (w : Wish). warehouse_of w.group ≡ p.home.w_id) (exclusively (Warehouse p.home.w_id)) (exclusively (District p.home.w_id p.home.d_id) ∷ []) refl (one_wish p.home.w_id (exclusively (District p.home.w_id p.home.d_id)) refl)
-works_claim_at_home (PayCustomer p) = one_wish p.customer_home.w_id (exclusively (Customers p.customer_home.w_id p.customer_home.d_id)) refl
-works_claim_at_home (AddPayment p row) = one_wish p.home.w_id (exclusively (HistoryGroup p.home.w_id p.home.d_id)) refl
+    All-cons (λ (w : GroupWant). warehouse_of w.group ≡ p.home.w_id) (exclusively (Warehouse p.home.w_id)) (exclusively (District p.home.w_id p.home.d_id) ∷ []) refl (one_group_want p.home.w_id (exclusively (District p.home.w_id p.home.d_id)) refl)
+works_claim_at_home (PayCustomer p) = one_group_want p.customer_home.w_id (exclusively (Customers p.customer_home.w_id p.customer_home.d_id)) refl
+works_claim_at_home (AddPayment p row) = one_group_want p.home.w_id (exclusively (HistoryGroup p.home.w_id p.home.d_id)) refl
 
--- no group is wished for twice
-pub works_wish_once : (work : Work) → AreApart (wishes_of work)
-works_wish_once (PayHome p) zero d less = All-nil _
-works_wish_once (PayHome p) (suc zero) d less =
-    All-cons (λ (before : Wish). before.group ≢ District p.home.w_id p.home.d_id) (exclusively (Warehouse p.home.w_id)) [] (λ same. absurd cc) (All-nil _)
-works_wish_once (PayHome p) (suc (suc k)) d less = absurd (omega arith)
-works_wish_once (PayCustomer p) zero d less = All-nil _
-works_wish_once (PayCustomer p) (suc k) d less = absurd (omega arith)
-works_wish_once (AddPayment p row) zero d less = All-nil _
-works_wish_once (AddPayment p row) (suc k) d less = absurd (omega arith)
+-- no group is wanted for twice
+pub works_group_want_once : (work : Work) → AreApart (group_wants_of work)
+works_group_want_once (PayHome p) zero d less = All-nil _
+works_group_want_once (PayHome p) (suc zero) d less =
+    All-cons (λ (before : GroupWant). before.group ≢ District p.home.w_id p.home.d_id) (exclusively (Warehouse p.home.w_id)) [] (λ same. absurd cc) (All-nil _)
+works_group_want_once (PayHome p) (suc (suc k)) d less = absurd (omega arith)
+works_group_want_once (PayCustomer p) zero d less = All-nil _
+works_group_want_once (PayCustomer p) (suc k) d less = absurd (omega arith)
+works_group_want_once (AddPayment p row) zero d less = All-nil _
+works_group_want_once (AddPayment p row) (suc k) d less = absurd (omega arith)
 
--- the claims are on the groups that it wished for
-pub done_on : (shared : Shared) (work : Work) (found : Found) (claims : List Claiming) → HasDone shared work found claims
-    → map (λ (claim : Claiming). claim.group) claims ≡ groups_of (wishes_of work)
+-- the claims are on the groups that it wanted for
+pub done_on : (shared : SharedTables) (work : Work) (found : Found) (claims : List ClaimView) → HasDone shared work found claims
+    → map (λ (claim : ClaimView). claim.group) claims ≡ groups_of (group_wants_of work)
 done_on shared (PayHome p) found claims done =
-    ap (map (λ (claim : Claiming). claim.group)) done.4 ∙ (λ i. done.5.warehouse_claim.group i ∷ done.5.district_claim.group i ∷ [])
-done_on shared (PayCustomer p) found claims done = ap (map (λ (claim : Claiming). claim.group)) done.3 ∙ (λ i. done.4.claim.group i ∷ [])
-done_on shared (AddPayment p row) found claims done = ap (map (λ (claim : Claiming). claim.group)) done.2 ∙ (λ i. done.3.claim.group i ∷ [])
+    ap (map (λ (claim : ClaimView). claim.group)) done.4 ∙ (λ i. done.5.warehouse_claim.group i ∷ done.5.district_claim.group i ∷ [])
+done_on shared (PayCustomer p) found claims done = ap (map (λ (claim : ClaimView). claim.group)) done.3 ∙ (λ i. done.4.claim.group i ∷ [])
+done_on shared (AddPayment p row) found claims done = ap (map (λ (claim : ClaimView). claim.group)) done.2 ∙ (λ i. done.3.claim.group i ∷ [])
 
 -- ---- who is paid
 
@@ -137,7 +137,7 @@ gathered_payers_are_known scale p (h.Paid warehouse district) c.OutOfRange given
 
 -- ---- each phase
 
-pub accepted : (shared : Shared) (asked : Request) (progress : Progress) (held : List (List Claiming)) → IsReached shared asked progress held → IsAccepted shared.scale asked
+pub accepted : (shared : SharedTables) (asked : Request) (progress : Progress) (held : List (List ClaimView)) → IsReached shared asked progress held → IsAccepted shared.scale asked
 accepted shared asked (PayRows p) held reached = reached.accepted
 accepted shared asked (AddRow given) held reached = reached.accepted
 
@@ -146,11 +146,11 @@ some_actions (PayRows p) = omega arith
 some_actions (AddRow given) = omega arith
 
 -- they are few
-pub few_actions : (shared : Shared) (asked : Request) (progress : Progress) (held : List (List Claiming)) → IsReached shared asked progress held → length held + length (works_of progress) ≤ 3
-few_actions shared asked (PayRows p) held known = omega (arith, ap (λ (hs : List (List Claiming)). length hs) known.none)
-few_actions shared asked (AddRow given) held known = omega (arith, ap (λ (hs : List (List Claiming)). length hs) known.claims)
+pub few_actions : (shared : SharedTables) (asked : Request) (progress : Progress) (held : List (List ClaimView)) → IsReached shared asked progress held → length held + length (works_of progress) ≤ 3
+few_actions shared asked (PayRows p) held known = omega (arith, ap (λ (hs : List (List ClaimView)). length hs) known.none)
+few_actions shared asked (AddRow given) held known = omega (arith, ap (λ (hs : List (List ClaimView)). length hs) known.claims)
 
-pub can_all : (shared : Shared) (asked : Request) (progress : Progress) (held : List (List Claiming)) → IsReached shared asked progress held → All (AnyCanDo shared) (works_of progress)
+pub can_all : (shared : SharedTables) (asked : Request) (progress : Progress) (held : List (List ClaimView)) → IsReached shared asked progress held → All (AnyCanDo shared) (works_of progress)
 can_all shared asked (PayRows p) held known =
     let accepted : IsAccepted shared.scale (request.Payment p) = subst (IsAccepted shared.scale) known.is known.accepted in
     All-cons (AnyCanDo shared) (any_work.Payment (PayHome p)) (any_work.Payment (PayCustomer p) ∷ []) accepted
@@ -161,11 +161,11 @@ can_all shared asked (AddRow given) held known =
     (subst (IsAccepted shared.scale) known.is known.accepted, gathered_payers_are_known shared.scale p known.home known.customer given known.next known.payer)
     (All-nil (AnyCanDo shared))
 
-pub within : (shared : Shared) (asked : Request) (progress : Progress) (held : List (List Claiming)) → IsReached shared asked progress held
-    → AreSomeOf (map wish_of (all_claims held) ++ all_wishes (works_of progress)) (footprint asked)
+pub within : (shared : SharedTables) (asked : Request) (progress : Progress) (held : List (List ClaimView)) → IsReached shared asked progress held
+    → AreSomeOf (map group_want_of (all_claims held) ++ all_group_wants (works_of progress)) (footprint asked)
 within shared asked (PayRows p) held known =
-    subst (λ held. AreSomeOf (map wish_of (all_claims held) ++ all_wishes (works_of (PayRows p))) (footprint asked)) (sym known.none)
-    (subst (λ r. AreSomeOf (all_wishes (works_of (PayRows p))) (footprint r)) (sym known.is)
+    subst (λ held. AreSomeOf (map group_want_of (all_claims held) ++ all_group_wants (works_of (PayRows p))) (footprint asked)) (sym known.none)
+    (subst (λ r. AreSomeOf (all_group_wants (works_of (PayRows p))) (footprint r)) (sym known.is)
     (first_are_some
     (exclusively (Warehouse p.home.w_id) ∷ exclusively (District p.home.w_id p.home.d_id) ∷ exclusively (Customers p.customer_home.w_id p.customer_home.d_id) ∷ [])
     (exclusively (HistoryGroup p.home.w_id p.home.d_id) ∷ [])))
@@ -174,9 +174,9 @@ within shared asked (AddRow given) held known =
     let warehouse = exclusively (Warehouse p.home.w_id) in
     let district = exclusively (District p.home.w_id p.home.d_id) in
     let history = exclusively (HistoryGroup p.home.w_id p.home.d_id) in
-    subst (λ held. AreSomeOf (map wish_of (all_claims held) ++ all_wishes (works_of (AddRow given))) (footprint asked)) (sym known.claims)
-    (subst (λ r. AreSomeOf (wish_of known.warehouse ∷ wish_of known.district ∷ wish_of known.customers ∷ history ∷ []) (footprint r)) (sym known.is)
-    (all_are_some (wish_of known.warehouse ∷ wish_of known.district ∷ wish_of known.customers ∷ history ∷ []) (footprint (request.Payment p))
-    (ap (λ (w : Wish). w ∷ wish_of known.district ∷ wish_of known.customers ∷ history ∷ []) (exclusive_wish _ known.warehouse known.home_paid.warehouse_claim)
-    ∙ ap (λ (w : Wish). warehouse ∷ w ∷ wish_of known.customers ∷ history ∷ []) (exclusive_wish _ known.district known.home_paid.district_claim)
-    ∙ ap (λ (w : Wish). warehouse ∷ district ∷ w ∷ history ∷ []) (exclusive_wish _ known.customers known.customer_paid.claim))))
+    subst (λ held. AreSomeOf (map group_want_of (all_claims held) ++ all_group_wants (works_of (AddRow given))) (footprint asked)) (sym known.claims)
+    (subst (λ r. AreSomeOf (group_want_of known.warehouse ∷ group_want_of known.district ∷ group_want_of known.customers ∷ history ∷ []) (footprint r)) (sym known.is)
+    (all_are_some (group_want_of known.warehouse ∷ group_want_of known.district ∷ group_want_of known.customers ∷ history ∷ []) (footprint (request.Payment p))
+    (ap (λ (w : GroupWant). w ∷ group_want_of known.district ∷ group_want_of known.customers ∷ history ∷ []) (exclusive_group_want _ known.warehouse known.home_paid.warehouse_claim)
+    ∙ ap (λ (w : GroupWant). warehouse ∷ w ∷ group_want_of known.customers ∷ history ∷ []) (exclusive_group_want _ known.district known.home_paid.district_claim)
+    ∙ ap (λ (w : GroupWant). warehouse ∷ district ∷ w ∷ history ∷ []) (exclusive_group_want _ known.customers known.customer_paid.claim))))

@@ -3,14 +3,14 @@ use Rattle.std.proofs.Common.{◌≡◌, ℕ, Bool, List, [], ◌∷◌, ◌++�
 use Rattle.std.specs.Prelude.{count_by}
 use Rattle.std.proofs.lemmas.List.Sums.{sum_by-cons}
 use Rattle.requests.specs.declared.request.Request.TheVariants as request
-use Rattle.groups.specs.declared.wishes.Wish.{Wish}
+use Rattle.groups.specs.declared.group_wants.GroupWant.{GroupWant}
 use Rattle.groups.specs.Footprint.{footprint}
 use Rattle.groups.specs.Groups.{is_same}
 use Rattle.groups.specs.Laws.{FootprintsNameEachGroupOnce}
 use Rattle.tickets.specs.Claims.{all_claims}
-use Rattle.transactions.specs.Granted.{wish_of}
+use Rattle.transactions.specs.Granted.{group_want_of}
 use Rattle.transactions.specs.Progresses.{works_of}
-use Rattle.transactions.specs.Works.{all_wishes}
+use Rattle.transactions.specs.Works.{all_group_wants}
 use Rattle.transactions.specs.declared.progress.Progress.TheVariants.{NewOrder, Payment, OrderStatus, Delivery, StockLevel}
 use Rattle.transactions.specs.Laws.{AcceptedRequestsHaveTheirGroups, ActionsCanDoTheirWork, ClaimsAreOfTheFootprint, PhasesHaveActions, ReachedRequestsAreAccepted, TransactionsClaimEachGroupOnce, TransactionsHaveFewActions}
 use Rattle.transactions.proofs.AcceptedGroups.{delivery_groups_there, level_groups_there, order_groups_there}
@@ -69,12 +69,12 @@ counted {X} {Y} test image (x ∷ xs) =
 -- as in a footprint no group comes twice, none does among some of it
 pub each_once : FootprintsNameEachGroupOnce → TransactionsClaimEachGroupOnce
 each_once named shared asked progress held reached group =
-    let claimed = map wish_of (all_claims held) ++ all_wishes (works_of progress) in
+    let claimed = map group_want_of (all_claims held) ++ all_group_wants (works_of progress) in
     omega (
       arith,
-      counted (is_same group) (λ (wish : Wish). wish.group) claimed,
-      counted (is_same group) (λ (wish : Wish). wish.group) (footprint asked),
-      within shared asked progress held reached (λ (wish : Wish). is_same group wish.group),
+      counted (is_same group) (λ (group_want : GroupWant). group_want.group) claimed,
+      counted (is_same group) (λ (group_want : GroupWant). group_want.group) (footprint asked),
+      within shared asked progress held reached (λ (group_want : GroupWant). is_same group group_want.group),
       named asked group,
     )
 

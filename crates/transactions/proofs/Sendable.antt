@@ -1,4 +1,4 @@
--- What is asked of an action, what it finds, and how far a transaction has come may go to another thread; so may a station, where the
+-- What is asked of an action, what it finds, and how far a transaction has come may go to another thread; so may a shard, where the
 -- names of its groups and what waits there may.
 use denote.RattleType.{RattleType}
 use denote.Param.{number}
@@ -41,8 +41,8 @@ use Rattle.transactions.specs.contracts.payment.CustomerPaid as CustomerPaid
 use Rattle.transactions.specs.contracts.payment.Progress as PaymentProgress
 use Rattle.transactions.specs.contracts.payment.Paid as Paid
 use Rattle.transactions.specs.contracts.progress.Progress as Progress
-use Rattle.transactions.specs.contracts.station.Parked as Parked
-use Rattle.transactions.specs.contracts.station.Station as Station
+use Rattle.transactions.specs.contracts.shard.Parked as Parked
+use Rattle.transactions.specs.contracts.shard.Shard as Shard
 use Rattle.transactions.specs.contracts.stock_level.Work as StockLevelWork
 use Rattle.transactions.specs.contracts.stock_level.Found as StockLevelFound
 use Rattle.transactions.specs.contracts.stock_level.Progress as StockLevelProgress
@@ -378,7 +378,7 @@ Found-send = variants_send Found.enum (
   ),
 )
 
--- ---- at a station
+-- ---- at a shard
 module _ (J : RattleType) (names : GroupNames J.Denot) (s : IsSend J) where
   pub HeldClaims-send : IsSend (HeldClaims.the_row J names)
   HeldClaims-send = view_send _ _ _ _ _ (declared_send (HeldClaims.TheInside.the_type J names) (search (Claims-send, Vec-send) depth 10, tt))
@@ -408,8 +408,8 @@ module _ (J : RattleType) (names : GroupNames J.Denot) (s : IsSend J) where
       ),
     )
 
-    pub Station-send : IsSend (Station.the_row J T names)
-    Station-send = view_send _ _ _ _ _ (declared_send (Station.TheInside.the_type J T names) (
+    pub Shard-send : IsSend (Shard.the_row J T names)
+    Shard-send = view_send _ _ _ _ _ (declared_send (Shard.TheInside.the_type J T names) (
       Slice-send J names s,
       (
         search (Parked-send, Vec-send, sendable) depth 20,

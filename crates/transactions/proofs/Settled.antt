@@ -5,7 +5,7 @@ use Rattle.requests.specs.declared.group.Group.{Group}
 use Rattle.groups.specs.Groups.{is_same}
 use Rattle.groups.specs.Content.{Content, content}
 use Rattle.groups.specs.Laws.{ChangesOneGroup}
-use Rattle.tickets.specs.Claims.{Claiming, committed_by}
+use Rattle.tickets.specs.Claims.{ClaimView, committed_by}
 use Rattle.tickets.specs.Committed.{content_after}
 use Rattle.tickets.proofs.Apart.{apart}
 use Rattle.transactions.specs.Granted.{IsExclusiveOn}
@@ -20,7 +20,7 @@ module _ (own : Group) (change : Content → Content) (old new : Database) (put 
       put.elsewhere group (λ equal. elsewhere.1 (sym equal)) ∙ ap (λ b. cond b (change (content old own)) (content old group)) (sym elsewhere.0)
 
   -- the tables with the row have in each group what is committed there once the claim is settled
-  pub put-settles : (claim : Claiming) → IsExclusiveOn own claim → claim.left ≡ change (content old own)
+  pub put-settles : (claim : ClaimView) → IsExclusiveOn own claim → claim.left ≡ change (content old own)
       → (group : Group) → content new group ≡ content_after group (content old group) claim
   put-settles claim on left group =
       let made : content_after group (content old group) claim ≡ cond (is_same own group) (change (content old own)) (content old group) =

@@ -46,7 +46,7 @@ module _ {J : Type 0} where
   none_before None rans is = is
   none_before (Some why) rans is = absurd (stays_refused why rans is)
 
-  -- want of memory is answered only where no one died
+  -- lack of memory is answered only where no one died
   pub memory_last : (rans : List (Ran J))
       → ((refusal_of None rans ≡ None) × (refusal_of (Some refusal.NoMemory) rans ≡ Some refusal.NoMemory)) ⊎ (refusal_of (Some refusal.NoMemory) rans ≡ refusal_of None rans)
   memory_last [] = inl (refl, refl)
@@ -57,21 +57,21 @@ module _ {J : Type 0} where
 -- ---- why it is refused
 
 -- the death that is told is the one before, or this one
-first_told : (why : Refusal) (group : Group) (holder : ℕ) → (earlier_death why group holder ≡ why) ⊎ (earlier_death why group holder ≡ refusal.Died group holder)
-first_told (refusal.Died first older) group holder = inl refl
-first_told refusal.NoMemory group holder = inr refl
-first_told refusal.LogFull group holder = inr refl
-first_told refusal.BadWarehouse group holder = inr refl
-first_told refusal.BadDistrict group holder = inr refl
-first_told refusal.BadLines group holder = inr refl
-first_told refusal.BadQuantity group holder = inr refl
-first_told refusal.BadSupply group holder = inr refl
-first_told refusal.BadAmount group holder = inr refl
-first_told refusal.BadThreshold group holder = inr refl
-first_told refusal.BadCarrier group holder = inr refl
-first_told refusal.Busy group holder = inr refl
-first_told refusal.SessionBusy group holder = inr refl
-first_told refusal.Closed group holder = inr refl
+first_recorded : (why : Refusal) (group : Group) (holder : ℕ) → (earlier_death why group holder ≡ why) ⊎ (earlier_death why group holder ≡ refusal.Died group holder)
+first_recorded (refusal.Died first older) group holder = inl refl
+first_recorded refusal.NoMemory group holder = inr refl
+first_recorded refusal.LogFull group holder = inr refl
+first_recorded refusal.BadWarehouse group holder = inr refl
+first_recorded refusal.BadDistrict group holder = inr refl
+first_recorded refusal.BadLines group holder = inr refl
+first_recorded refusal.BadQuantity group holder = inr refl
+first_recorded refusal.BadSupply group holder = inr refl
+first_recorded refusal.BadAmount group holder = inr refl
+first_recorded refusal.BadThreshold group holder = inr refl
+first_recorded refusal.BadCarrier group holder = inr refl
+first_recorded refusal.Busy group holder = inr refl
+first_recorded refusal.SessionBusy group holder = inr refl
+first_recorded refusal.Closed group holder = inr refl
 
 module _ {J : Type 0} (P : Refusal → Type 0) where
   -- this is so of the action's death, if it died
@@ -89,7 +89,7 @@ module _ {J : Type 0} (P : Refusal → Type 0) where
     refused_by_one (Some why) (ran.Done claims found) died so = so
     refused_by_one (Some why) (ran.Died group holder) died so =
         ⊎_elim (λ (same : earlier_death why group holder ≡ why). subst P (sym same) so)
-        (λ (same : earlier_death why group holder ≡ refusal.Died group holder). subst P (sym same) died) (first_told why group holder)
+        (λ (same : earlier_death why group holder ≡ refusal.Died group holder). subst P (sym same) died) (first_recorded why group holder)
     refused_by_one (Some why) ran.NoMemory died so = so
 
     -- and after all of these

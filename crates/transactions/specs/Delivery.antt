@@ -7,7 +7,7 @@ use Rattle.std.specs.FinMap as table
 use Rattle.rows.specs.declared.keys.DistrictKey.{DistrictKey}
 use Rattle.rows.specs.declared.records.Customer.{Customer}
 use Rattle.rows.specs.declared.records.Order.{Order}
-use Rattle.partitions.specs.Parts.{Shared}
+use Rattle.partitions.specs.Parts.{SharedTables}
 use Rattle.schema.specs.Scale.{customer_key, district_key}
 use Rattle.schema.specs.Database.{Database}
 use Rattle.schema.specs.OrderRows.{oldest_new_order, with_delivery}
@@ -20,9 +20,9 @@ use Rattle.requests.specs.declared.request.Request.TheVariants as request
 use Rattle.requests.specs.Check.{IsAccepted}
 use Rattle.groups.specs.Content.{content}
 use Rattle.groups.specs.Content.Content.{OfCustomers}
-use Rattle.groups.specs.declared.wishes.Wish.{Wish}
+use Rattle.groups.specs.declared.group_wants.GroupWant.{GroupWant}
 use Rattle.groups.specs.Footprint.{exclusively}
-use Rattle.tickets.specs.Claims.{Claiming}
+use Rattle.tickets.specs.Claims.{ClaimView}
 use Rattle.machine.specs.NewOrder.{order_key}
 use Rattle.machine.specs.Delivery.{amount_of, customer_delivered}
 use Rattle.transactions.specs.declared.delivery.OrderDelivered.{OrderDelivered}
@@ -66,13 +66,13 @@ order_delivered t home carrier moment (Some order) = with_delivery t (order_key 
 
 -- What was found of the district is so in every tables that have in the group what the claim tells, and left is what they
 -- have there once that order is delivered.
-pub record IsOrderDelivered (carrier moment : ℕ) (home : DistrictKey) (one : Option OrderDelivered) (orders : Claiming) : Type 0 where
+pub record IsOrderDelivered (carrier moment : ℕ) (home : DistrictKey) (one : Option OrderDelivered) (orders : ClaimView) : Type 0 where
   pub claim : IsExclusiveOn (g.Orders home.w_id home.d_id) orders
-  pub shown : (t : Database) → content t orders.group ≡ orders.told → FindsOldest t home one
-  pub left : (t : Database) → content t orders.group ≡ orders.told → orders.left ≡ content (order_delivered t home carrier moment one) orders.group
+  pub shown : (t : Database) → content t orders.group ≡ orders.recorded → FindsOldest t home one
+  pub left : (t : Database) → content t orders.group ≡ orders.recorded → orders.left ≡ content (order_delivered t home carrier moment one) orders.group
 
 -- so it is of each of these districts of the warehouse, in turn
-abbrev pub AreOrdersDelivered : Delivery → List ℕ → Deliveries → List Claiming → Type 0
+abbrev pub AreOrdersDelivered : Delivery → List ℕ → Deliveries → List ClaimView → Type 0
 AreOrdersDelivered d [] [] [] = Unit {0}
 AreOrdersDelivered d (k ∷ districts) (one ∷ found) (claim ∷ claims) =
     IsOrderDelivered d.carrier_id d.moment (district_key d.w_id k) one claim × AreOrdersDelivered d districts found claims
@@ -85,60 +85,60 @@ abbrev pub row_credited : Customers → DistrictKey → OrderDelivered → Optio
 row_credited rows home order = option_and_then (λ row. customer_delivered row order.amount) (table.get rows (customer_key home order.c_id))
 
 -- left is the row of the customer who ordered it, once the order was delivered
-pub record IsCustomerCredited (home : DistrictKey) (order : OrderDelivered) (customers : Claiming) : Type 0 where
+pub record IsCustomerCredited (home : DistrictKey) (order : OrderDelivered) (customers : ClaimView) : Type 0 where
   pub rows : Customers
-  pub told : customers.told ≡ OfCustomers rows
+  pub recorded : customers.recorded ≡ OfCustomers rows
   pub new_row : Customer
   pub made : row_credited rows home order ≡ Some new_row
   pub left : customers.left ≡ OfCustomers (table.insert rows (customer_key home order.c_id) new_row)
 
 -- there is no such customer, or a value would leave its range
-pub record IsCustomerOutOfRange (home : DistrictKey) (order : OrderDelivered) (customers : Claiming) : Type 0 where
+pub record IsCustomerOutOfRange (home : DistrictKey) (order : OrderDelivered) (customers : ClaimView) : Type 0 where
   pub rows : Customers
-  pub told : customers.told ≡ OfCustomers rows
+  pub recorded : customers.recorded ≡ OfCustomers rows
   pub out : row_credited rows home order ≡ None
 
 -- by what was delivered in the district: nothing is done where nothing was
-abbrev pub IsCredited : DistrictKey → Option OrderDelivered → Claiming → Type 0
-IsCredited home None customers = customers.left ≡ customers.told
+abbrev pub IsCredited : DistrictKey → Option OrderDelivered → ClaimView → Type 0
+IsCredited home None customers = customers.left ≡ customers.recorded
 IsCredited home (Some order) customers = IsCustomerCredited home order customers
 
 -- the district has an order that can't be delivered
-abbrev pub IsOutOfRange : DistrictKey → Option OrderDelivered → Claiming → Type 0
+abbrev pub IsOutOfRange : DistrictKey → Option OrderDelivered → ClaimView → Type 0
 IsOutOfRange home None customers = ⊥
 IsOutOfRange home (Some order) customers = IsCustomerOutOfRange home order customers
 
 -- by what was found of the one customer
-abbrev pub FindsCustomer : DistrictKey → Option OrderDelivered → CustomersCredited → Claiming → Type 0
+abbrev pub FindsCustomer : DistrictKey → Option OrderDelivered → CustomersCredited → ClaimView → Type 0
 FindsCustomer home one Credited customers = IsCredited home one customers
 FindsCustomer home one OutOfRange customers = IsOutOfRange home one customers
 
 -- these are exclusive claims on these groups, one on each in turn
-abbrev pub AreExclusiveOn : List Group → List Claiming → Type 0
+abbrev pub AreExclusiveOn : List Group → List ClaimView → Type 0
 AreExclusiveOn [] [] = Unit {0}
 AreExclusiveOn (group ∷ groups) (claim ∷ claims) = IsExclusiveOn group claim × AreExclusiveOn groups claims
 AreExclusiveOn groups claims = ⊥
 
 -- the customers of each of these districts of the warehouse are credited, in turn
-abbrev pub AreCredited : ℕ → List ℕ → Deliveries → List Claiming → Type 0
+abbrev pub AreCredited : ℕ → List ℕ → Deliveries → List ClaimView → Type 0
 AreCredited w_id [] [] [] = Unit {0}
 AreCredited w_id (k ∷ districts) (one ∷ delivered) (claim ∷ claims) =
     IsCredited (district_key w_id k) one claim × AreCredited w_id districts delivered claims
 AreCredited w_id districts delivered claims = ⊥
 
 -- they are in the first of the districts, and not in the next
-abbrev pub IsOneOutOfRange : ℕ → List ℕ → Deliveries → List Claiming → Type 0
+abbrev pub IsOneOutOfRange : ℕ → List ℕ → Deliveries → List ClaimView → Type 0
 IsOneOutOfRange w_id (k ∷ districts) (one ∷ delivered) (claim ∷ claims) =
     IsOutOfRange (district_key w_id k) one claim ⊎ (IsCredited (district_key w_id k) one claim × IsOneOutOfRange w_id districts delivered claims)
 IsOneOutOfRange w_id districts delivered claims = ⊥
 
 -- by what was found
-abbrev pub FindsCredited : ℕ → List ℕ → Deliveries → CustomersCredited → List Claiming → Type 0
+abbrev pub FindsCredited : ℕ → List ℕ → Deliveries → CustomersCredited → List ClaimView → Type 0
 FindsCredited w_id districts delivered Credited claims = AreCredited w_id districts delivered claims
 FindsCredited w_id districts delivered OutOfRange claims = IsOneOutOfRange w_id districts delivered claims
 
 -- what was found of the customers of these districts of the warehouse, and done there
-pub record AreCustomersCredited (w_id : ℕ) (districts : List ℕ) (delivered : Deliveries) (credited : CustomersCredited) (customers : List Claiming) : Type 0 where
+pub record AreCustomersCredited (w_id : ℕ) (districts : List ℕ) (delivered : Deliveries) (credited : CustomersCredited) (customers : List ClaimView) : Type 0 where
   pub claims : AreExclusiveOn (map (λ k. g.Customers w_id k) districts) customers
   pub rows : FindsCredited w_id districts delivered credited customers
 
@@ -154,17 +154,17 @@ home_of (DeliverOrders d) = d.w_id
 home_of (CreditCustomers d delivered) = d.w_id
 
 -- the groups that an action claims for its work, and how
-abbrev pub wishes_of : Work → List Wish
-wishes_of (DeliverOrders d) = map (λ k. exclusively (g.Orders d.w_id k)) (range_with_len 1 10)
-wishes_of (CreditCustomers d delivered) = map (λ k. exclusively (g.Customers d.w_id k)) (range_with_len 1 10)
+abbrev pub group_wants_of : Work → List GroupWant
+group_wants_of (DeliverOrders d) = map (λ k. exclusively (g.Orders d.w_id k)) (range_with_len 1 10)
+group_wants_of (CreditCustomers d delivered) = map (λ k. exclusively (g.Customers d.w_id k)) (range_with_len 1 10)
 
 -- What the work needs: it is of a Delivery that the check accepts.
-abbrev pub CanDo : Shared → Work → Type 0
+abbrev pub CanDo : SharedTables → Work → Type 0
 CanDo shared (DeliverOrders d) = IsAccepted shared.scale (request.Delivery d)
 CanDo shared (CreditCustomers d delivered) = IsAccepted shared.scale (request.Delivery d)
 
 -- The work found this, and was done under these claims.
-abbrev pub HasDone : Shared → Work → Found → List Claiming → Type 0
+abbrev pub HasDone : SharedTables → Work → Found → List ClaimView → Type 0
 HasDone shared (DeliverOrders d) one claims =
     (delivered : Deliveries) × (one ≡ found.Orders delivered) × AreOrdersDelivered d ten delivered claims
 HasDone shared (CreditCustomers d delivered) one claims =
@@ -173,15 +173,15 @@ HasDone shared (CreditCustomers d delivered) one claims =
 -- ---- the phases
 
 -- the orders were delivered under these claims
-pub record HasDelivered (shared : Shared) (asked : Request) (d : Delivery) (delivered : Deliveries) (held : List (List Claiming)) : Type 0 where
+pub record HasDelivered (shared : SharedTables) (asked : Request) (d : Delivery) (delivered : Deliveries) (held : List (List ClaimView)) : Type 0 where
   pub is : asked ≡ request.Delivery d
   pub accepted : IsAccepted shared.scale asked
-  pub orders : List Claiming
+  pub orders : List ClaimView
   pub claims : held ≡ orders ∷ []
   pub done : AreOrdersDelivered d ten delivered orders
 
 -- what is known of how far a Delivery has come, beside the claims of each action of the phases before
-abbrev pub IsReached : Shared → Request → Progress → List (List Claiming) → Type 0
+abbrev pub IsReached : SharedTables → Request → Progress → List (List ClaimView) → Type 0
 IsReached shared asked (at.DeliverOrders d) held = IsAsked shared asked (request.Delivery d) held
 IsReached shared asked (at.CreditCustomers d delivered) held = HasDelivered shared asked d delivered held
 

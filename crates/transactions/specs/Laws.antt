@@ -1,6 +1,6 @@
 -- What the transactions of all kinds keep.
 use Rattle.std.specs.Prelude.{◌≡◌, ◌≤◌, ◌+◌, List, ◌++◌, All, IsTrue, length, map, count_by}
-use Rattle.partitions.specs.Parts.{Shared}
+use Rattle.partitions.specs.Parts.{SharedTables}
 use Rattle.schema.specs.declared.scale.Scale.{Scale}
 use Rattle.schema.specs.Scale.{has_warehouse}
 use Rattle.schema.specs.Database.{Database}
@@ -11,26 +11,26 @@ use Rattle.requests.specs.declared.reply.Reply.TheVariants as reply
 use Rattle.requests.specs.Check.{IsAccepted}
 use Rattle.groups.specs.Footprint.{footprint, groups_of}
 use Rattle.groups.specs.Groups.{is_same}
-use Rattle.tickets.specs.Claims.{Claiming, all_claims, leaving}
+use Rattle.tickets.specs.Claims.{ClaimView, all_claims, leaving}
 use Rattle.tickets.specs.Places.{IsGroupOf}
 use Rattle.commit_log.specs.Claimed.{IsCarriedOut}
-use Rattle.slices.specs.Sliced.{IsClaimAt, AreOfOneHome}
+use Rattle.slices.specs.SliceView.{IsClaimAt, AreOfOneHome}
 use Rattle.transactions.specs.declared.laws.TheConstants.{MOST_ACTIONS}
 use Rattle.transactions.specs.declared.work.Work.{Work}
 use Rattle.transactions.specs.declared.work.Found.{Found}
 use Rattle.transactions.specs.declared.progress.Progress.{Progress}
-use Rattle.transactions.specs.Granted.{AreSomeOf, AreWishesAt, wish_of}
-use Rattle.transactions.specs.Works.{CanDo, HasDone, all_wishes, home_of, wishes_of}
+use Rattle.transactions.specs.Granted.{AreSomeOf, AreGroupWantsAt, group_want_of}
+use Rattle.transactions.specs.Works.{CanDo, HasDone, all_group_wants, home_of, group_wants_of}
 use Rattle.transactions.specs.Progresses.{IsReached, works_of}
 
 -- the claim once what was done under it is taken back
-abbrev pub undone : Claiming → Claiming
+abbrev pub undone : ClaimView → ClaimView
 undone claim = leaving claim claim.back
 
 -- A request that was rolled back was carried out under its claims also as they are once all is taken back.
 abbrev pub RolledBackClaimsCanBeUndone : Type 0
 RolledBackClaimsCanBeUndone =
-    (opening : Database) (r : Request) (claims : List Claiming) (fault : Fault)
+    (opening : Database) (r : Request) (claims : List ClaimView) (fault : Fault)
     → IsCarriedOut opening r claims (reply.RolledBack fault) → IsCarriedOut opening r (map undone claims) (reply.RolledBack fault)
 
 -- The groups that an accepted request claims are groups of the scale's warehouses.
@@ -43,32 +43,32 @@ AcceptedRequestsHaveTheirGroups =
 -- The groups that an action claims for work that it can do are groups of the scale's warehouses.
 abbrev pub WorksHaveTheirGroups : Type 0
 WorksHaveTheirGroups =
-    (shared : Shared) (work : Work) → CanDo shared work → All (IsGroupOf shared.scale.warehouses) (groups_of (wishes_of work))
+    (shared : SharedTables) (work : Work) → CanDo shared work → All (IsGroupOf shared.scale.warehouses) (groups_of (group_wants_of work))
 
 -- Each work claims some group.
-abbrev pub WorksHaveWishes : Type 0
-WorksHaveWishes = (work : Work) → 1 ≤ length (wishes_of work)
+abbrev pub WorksHaveGroupWants : Type 0
+WorksHaveGroupWants = (work : Work) → 1 ≤ length (group_wants_of work)
 
--- The claims under which work was done are on the groups that it wished for, one for each wish in turn.
-abbrev pub WorksHaveAClaimForEachWish : Type 0
-WorksHaveAClaimForEachWish =
-    (shared : Shared) (work : Work) (found : Found) (claims : List Claiming)
-    → HasDone shared work found claims → map (λ (claim : Claiming). claim.group) claims ≡ groups_of (wishes_of work)
+-- The claims under which work was done are on the groups that it wanted for, one for each want in turn.
+abbrev pub WorksHaveAClaimForEachGroupWant : Type 0
+WorksHaveAClaimForEachGroupWant =
+    (shared : SharedTables) (work : Work) (found : Found) (claims : List ClaimView)
+    → HasDone shared work found claims → map (λ (claim : ClaimView). claim.group) claims ≡ groups_of (group_wants_of work)
 
 -- ---- at which warehouse an action does its work
 
 -- The work that can be done is at a warehouse of the scale.
 abbrev pub WorksAreAtWarehouses : Type 0
-WorksAreAtWarehouses = (shared : Shared) (work : Work) → CanDo shared work → IsTrue (has_warehouse shared.scale (home_of work))
+WorksAreAtWarehouses = (shared : SharedTables) (work : Work) → CanDo shared work → IsTrue (has_warehouse shared.scale (home_of work))
 
 -- All that an action claims for its work is the warehouse's.
 abbrev pub WorksClaimAtHome : Type 0
-WorksClaimAtHome = (work : Work) → AreWishesAt (home_of work) (wishes_of work)
+WorksClaimAtHome = (work : Work) → AreGroupWantsAt (home_of work) (group_wants_of work)
 
 -- The claims under which work was done are all on groups of the warehouse, and so of one warehouse.
 abbrev pub WorksAreDoneAtHome : Type 0
 WorksAreDoneAtHome =
-    (shared : Shared) (work : Work) (found : Found) (claims : List Claiming)
+    (shared : SharedTables) (work : Work) (found : Found) (claims : List ClaimView)
     → HasDone shared work found claims → All (IsClaimAt (home_of work)) claims × AreOfOneHome claims
 
 -- ---- how far a transaction has come
@@ -76,25 +76,25 @@ WorksAreDoneAtHome =
 -- The actions of a phase can do their work.
 abbrev pub ActionsCanDoTheirWork : Type 0
 ActionsCanDoTheirWork =
-    (shared : Shared) (asked : Request) (progress : Progress) (held : List (List Claiming)) → IsReached shared asked progress held
+    (shared : SharedTables) (asked : Request) (progress : Progress) (held : List (List ClaimView)) → IsReached shared asked progress held
     → All (CanDo shared) (works_of progress)
 
 -- What a transaction holds, and what the actions of its phase claim, is some of its request's footprint, each once.
 abbrev pub ClaimsAreOfTheFootprint : Type 0
 ClaimsAreOfTheFootprint =
-    (shared : Shared) (asked : Request) (progress : Progress) (held : List (List Claiming)) → IsReached shared asked progress held
-    → AreSomeOf (map wish_of (all_claims held) ++ all_wishes (works_of progress)) (footprint asked)
+    (shared : SharedTables) (asked : Request) (progress : Progress) (held : List (List ClaimView)) → IsReached shared asked progress held
+    → AreSomeOf (map group_want_of (all_claims held) ++ all_group_wants (works_of progress)) (footprint asked)
 
 -- Among what a transaction holds and what the actions of its phase claim, no group comes twice.
 abbrev pub TransactionsClaimEachGroupOnce : Type 0
 TransactionsClaimEachGroupOnce =
-    (shared : Shared) (asked : Request) (progress : Progress) (held : List (List Claiming)) → IsReached shared asked progress held
-    → (group : Group) → count_by (is_same group) (groups_of (map wish_of (all_claims held) ++ all_wishes (works_of progress))) ≤ 1
+    (shared : SharedTables) (asked : Request) (progress : Progress) (held : List (List ClaimView)) → IsReached shared asked progress held
+    → (group : Group) → count_by (is_same group) (groups_of (map group_want_of (all_claims held) ++ all_group_wants (works_of progress))) ≤ 1
 
 -- What is carried out is a request that its check accepts.
 abbrev pub ReachedRequestsAreAccepted : Type 0
 ReachedRequestsAreAccepted =
-    (shared : Shared) (asked : Request) (progress : Progress) (held : List (List Claiming)) → IsReached shared asked progress held
+    (shared : SharedTables) (asked : Request) (progress : Progress) (held : List (List ClaimView)) → IsReached shared asked progress held
     → IsAccepted shared.scale asked
 
 -- Each phase has an action.
@@ -104,5 +104,5 @@ PhasesHaveActions = (progress : Progress) → 1 ≤ length (works_of progress)
 -- The actions of the phases before and those of the phase are few in all.
 abbrev pub TransactionsHaveFewActions : Type 0
 TransactionsHaveFewActions =
-    (shared : Shared) (asked : Request) (progress : Progress) (held : List (List Claiming)) → IsReached shared asked progress held
+    (shared : SharedTables) (asked : Request) (progress : Progress) (held : List (List ClaimView)) → IsReached shared asked progress held
     → length held + length (works_of progress) ≤ MOST_ACTIONS

@@ -10,7 +10,7 @@ pub mod StockLevel
 pub mod StockLevelLaws
 pub mod Delivery
 pub mod DeliveryLaws
-pub mod Stations
+pub mod Shards
 pub mod Works
 pub mod Progresses
 pub mod Acting

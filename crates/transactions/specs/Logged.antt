@@ -4,14 +4,14 @@ use Rattle.requests.specs.declared.reply.Reply.{Reply}
 use Rattle.requests.specs.declared.reply.Reply.TheVariants.{Done, RolledBack}
 use Rattle.requests.specs.declared.refusal.Refusal.{Refusal}
 use Rattle.requests.specs.declared.refusal.Refusal.TheVariants as refusal
-use Rattle.tickets.specs.Claims.{Claiming}
+use Rattle.tickets.specs.Claims.{ClaimView}
 use Rattle.commit_log.specs.declared.entry.Entry.{Entry}
 use Rattle.commit_log.specs.declared.log_book.AppendFault.{AppendFault}
 use Rattle.commit_log.specs.declared.log_book.AppendFault.TheVariants as fault
 use Rattle.commit_log.specs.declared.log_book.TheConstants.{MOST_ENTRIES}
 use Rattle.commit_log.specs.Claimed.{claims_logged}
 use Rattle.commit_log.specs.Items.{item}
-use Rattle.commit_log.specs.Passing.{Passing, after_item, after_refusal}
+use Rattle.commit_log.specs.PassView.{PassView, after_item, after_refusal}
 use Rattle.transactions.specs.declared.logging.Logged.{Logged}
 
 -- the claims are settled, unless it was rolled back
@@ -26,17 +26,17 @@ why_refused fault.LogFull = refusal.LogFull
 
 module _ {J : Type 0} where
   -- the entry stands at this place, and the session's pass has it
-  abbrev pub logged_at : ℕ → Entry → Passing → Logged J
+  abbrev pub logged_at : ℕ → Entry → PassView → Logged J
   logged_at place entry pass =
       record { answer = Ok place; pass = after_item pass (item place entry.number entry.request entry.reply); is_settled = is_settled entry.reply }
 
   -- a log of so many entries refused it for this
-  abbrev pub refused_for : AppendFault → ℕ → Passing → Logged J
+  abbrev pub refused_for : AppendFault → ℕ → PassView → Logged J
   refused_for why entries pass = record { answer = Err (why_refused why); pass = after_refusal why entries pass; is_settled = false }
 
   -- The log has the entry more, at its end, behind all that the session has seen, and the claims are as they are then; or it refused
   -- it, and log and claims are as they were. A full log refuses every entry as such, and no other does.
-  abbrev pub Logs : Entry → Passing → List Entry → List (List Claiming) → Logged J → List Entry → List (List Claiming) → Type 0
+  abbrev pub Logs : Entry → PassView → List Entry → List (List ClaimView) → Logged J → List Entry → List (List ClaimView) → Type 0
   Logs entry pass old held logged new after =
       ((length old < MOST_ENTRIES) × (pass.seen ≤ length old) × (logged ≡ logged_at (length old) entry pass)
       × (new ≡ old ++ entry ∷ []) × (after ≡ map (claims_logged entry.reply) held))

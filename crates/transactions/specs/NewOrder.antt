@@ -7,7 +7,7 @@ use Rattle.amounts.specs.Total.{total_of}
 use Rattle.rows.specs.declared.records.Warehouse.{Warehouse}
 use Rattle.rows.specs.declared.records.District.{District}
 use Rattle.rows.specs.declared.records.Customer.{Customer}
-use Rattle.partitions.specs.Parts.{Shared, shared_of}
+use Rattle.partitions.specs.Parts.{SharedTables, shared_of}
 use Rattle.schema.specs.declared.scale.Scale.{Scale}
 use Rattle.schema.specs.Scale.{customer_key, has_customer}
 use Rattle.schema.specs.Database.{Database, customer_of_order, is_order_id}
@@ -26,10 +26,10 @@ use Rattle.groups.specs.Groups.{is_same, warehouse_of}
 use Rattle.groups.specs.Content.{content}
 use Rattle.groups.specs.Content.Content.{OfWarehouse, OfDistrict, OfCustomers}
 use Rattle.groups.specs.NewOrder.{group_of_supply, supplies_of}
-use Rattle.groups.specs.declared.wishes.Wish.{Wish}
+use Rattle.groups.specs.declared.group_wants.GroupWant.{GroupWant}
 use Rattle.groups.specs.Footprint.{exclusively, shared as sharing}
 use Rattle.requests.specs.Check.{IsAccepted}
-use Rattle.tickets.specs.Claims.{Claiming}
+use Rattle.tickets.specs.Claims.{ClaimView}
 use Rattle.machine.specs.NewOrder.{district_ordered, order_key, order_row, stocks_taken, sum_of, all_there}
 use Rattle.machine.specs.NewOrderLines.{line_placed}
 use Rattle.transactions.specs.declared.new_order.HomeFound.{HomeFound}
@@ -63,26 +63,26 @@ abbrev pub home_shown : Warehouse → District → HomeShown
 home_shown w d = record { warehouse_tax = w.tax; district_tax = d.tax; o_id = d.next_o_id; has_next = is_some (district_ordered d) }
 
 -- one of the two rows isn't there, and nothing is done
-pub record IsHomeMissing (warehouse district : Claiming) : Type 0 where
-  pub none : (warehouse.told ≡ OfWarehouse None) ⊎ (district.told ≡ OfDistrict None)
-  pub left : district.left ≡ district.told
+pub record IsHomeMissing (warehouse district : ClaimView) : Type 0 where
+  pub none : (warehouse.recorded ≡ OfWarehouse None) ⊎ (district.recorded ≡ OfDistrict None)
+  pub left : district.left ≡ district.recorded
 
 -- both are there, this is shown of them, and left is the district with its next number, where it has one
-pub record IsNumberTaken (home : HomeShown) (warehouse district : Claiming) : Type 0 where
+pub record IsNumberTaken (home : HomeShown) (warehouse district : ClaimView) : Type 0 where
   pub warehouse_row : Warehouse
   pub district_row : District
-  pub warehouse_told : warehouse.told ≡ OfWarehouse (Some warehouse_row)
-  pub district_told : district.told ≡ OfDistrict (Some district_row)
+  pub warehouse_recorded : warehouse.recorded ≡ OfWarehouse (Some warehouse_row)
+  pub district_recorded : district.recorded ≡ OfDistrict (Some district_row)
   pub shown : home ≡ home_shown warehouse_row district_row
   pub left : district.left ≡ OfDistrict (Some (unwrap_or (district_ordered district_row) district_row))
 
 -- by what was found: a row is missing, or the order got its number
-abbrev pub FindsHome : HomeFound → Claiming → Claiming → Type 0
+abbrev pub FindsHome : HomeFound → ClaimView → ClaimView → Type 0
 FindsHome h.Missing warehouse district = IsHomeMissing warehouse district
 FindsHome (h.Shown home) warehouse district = IsNumberTaken home warehouse district
 
 -- what a New-Order found of its home warehouse and district, and did there
-pub record IsHomeOrdered (n : NewOrder) (found : HomeFound) (warehouse district : Claiming) : Type 0 where
+pub record IsHomeOrdered (n : NewOrder) (found : HomeFound) (warehouse district : ClaimView) : Type 0 where
   pub warehouse_claim : IsSharedOn (g.Warehouse n.home.w_id) warehouse
   pub district_claim : IsExclusiveOn (g.District n.home.w_id n.home.d_id) district
   pub rows : FindsHome found warehouse district
@@ -104,10 +104,10 @@ orderer_found (Some row) = c.Shown (orderer_of row)
 orderer_found None = c.Missing
 
 -- what a New-Order found of its customer, among those of the district
-pub record IsOrdererShown (n : NewOrder) (found : OrdererFound) (customers : Claiming) : Type 0 where
+pub record IsOrdererShown (n : NewOrder) (found : OrdererFound) (customers : ClaimView) : Type 0 where
   pub claim : IsSharedOn (g.Customers n.home.w_id n.home.d_id) customers
   pub rows : Customers
-  pub told : customers.told ≡ OfCustomers rows
+  pub recorded : customers.recorded ≡ OfCustomers rows
   pub shown : found ≡ orderer_found (table.get rows (customer_key n.home n.c_id))
 
 -- a customer who is shown is one of the scale
@@ -158,10 +158,10 @@ once_found _ n t = t
 
 -- What a New-Order found of the lines that a group supplies, and did there: what every tables with these items show of them
 -- that have in the group what the claim tells; and left is what those have in the group once the lines are taken.
-pub record IsStockTaken (shared : Shared) (n : NewOrder) (group : Group) (found : StockTaken) (stock : Claiming) : Type 0 where
+pub record IsStockTaken (shared : SharedTables) (n : NewOrder) (group : Group) (found : StockTaken) (stock : ClaimView) : Type 0 where
   pub claim : IsExclusiveOn group stock
-  pub shown : (t : Database) → shared_of t ≡ shared → content t stock.group ≡ stock.told → found ≡ stock_found t n (lines_in group n.lines)
-  pub left : (t : Database) → shared_of t ≡ shared → content t stock.group ≡ stock.told → stock.left ≡ content (once_found found n t) stock.group
+  pub shown : (t : Database) → shared_of t ≡ shared → content t stock.group ≡ stock.recorded → found ≡ stock_found t n (lines_in group n.lines)
+  pub left : (t : Database) → shared_of t ≡ shared → content t stock.group ≡ stock.recorded → stock.left ≡ content (once_found found n t) stock.group
 
 -- lines that are sold have the numbers of those that the group supplies, and are of items and warehouses of the scale
 abbrev pub AreSoldKnown : Scale → NewOrder → Group → StockTaken → Type 0
@@ -171,7 +171,7 @@ AreSoldKnown scale n group (Taken sold) =
 AreSoldKnown scale n group _ = Unit {0}
 
 -- so of each of several groups
-abbrev pub AreStocksTaken : Shared → NewOrder → List Group → List StockTaken → List Claiming → Type 0
+abbrev pub AreStocksTaken : SharedTables → NewOrder → List Group → List StockTaken → List ClaimView → Type 0
 AreStocksTaken shared n [] [] [] = Unit {0}
 AreStocksTaken shared n (group ∷ groups) (one ∷ found) (stock ∷ stocks) =
     IsStockTaken shared n group one stock × AreSoldKnown shared.scale n group one × AreStocksTaken shared n groups found stocks
@@ -187,9 +187,9 @@ pub record IsOrderKnown (scale : Scale) (order : OrderRows) : Type 0 where
   pub lines : IsTrue (list_all (is_line_within scale) order.lines)
 
 -- left is what every tables that have in the group what the claim tells have there with the order
-pub record IsOrderAdded (order : OrderRows) (orders : Claiming) : Type 0 where
+pub record IsOrderAdded (order : OrderRows) (orders : ClaimView) : Type 0 where
   pub claim : IsExclusiveOn (g.Orders order.key.w_id order.key.d_id) orders
-  pub left : (t : Database) → content t orders.group ≡ orders.told → orders.left ≡ content (with_order t order.key order.row order.lines) orders.group
+  pub left : (t : Database) → content t orders.group ≡ orders.recorded → orders.left ≡ content (with_order t order.key order.row order.lines) orders.group
 
 -- ---- what becomes of an order
 
@@ -252,11 +252,11 @@ home_of (TakeStock n group) = warehouse_of group
 home_of (AddOrder order) = order.key.w_id
 
 -- the groups that an action claims for its work, and how
-abbrev pub wishes_of : Work → List Wish
-wishes_of (TakeNumber n) = sharing (g.Warehouse n.home.w_id) ∷ exclusively (g.District n.home.w_id n.home.d_id) ∷ []
-wishes_of (ShowOrderer n) = sharing (g.Customers n.home.w_id n.home.d_id) ∷ []
-wishes_of (TakeStock n group) = exclusively group ∷ []
-wishes_of (AddOrder order) = exclusively (g.Orders order.key.w_id order.key.d_id) ∷ []
+abbrev pub group_wants_of : Work → List GroupWant
+group_wants_of (TakeNumber n) = sharing (g.Warehouse n.home.w_id) ∷ exclusively (g.District n.home.w_id n.home.d_id) ∷ []
+group_wants_of (ShowOrderer n) = sharing (g.Customers n.home.w_id n.home.d_id) ∷ []
+group_wants_of (TakeStock n group) = exclusively group ∷ []
+group_wants_of (AddOrder order) = exclusively (g.Orders order.key.w_id order.key.d_id) ∷ []
 
 -- whether the group is one of those that supply the order's lines
 abbrev pub is_supply_of : NewOrder → Group → Bool
@@ -264,36 +264,36 @@ is_supply_of n group = list_any (λ own. is_same group own) (supplies_of n.lines
 
 -- What the work needs: it is of a New-Order that the check accepts, and a group that it claims supplies some of the lines; an
 -- order that is added is one that the tables can have.
-abbrev pub CanDo : Shared → Work → Type 0
+abbrev pub CanDo : SharedTables → Work → Type 0
 CanDo shared (TakeNumber n) = IsAccepted shared.scale (request.NewOrder n)
 CanDo shared (ShowOrderer n) = IsAccepted shared.scale (request.NewOrder n)
 CanDo shared (TakeStock n group) = IsAccepted shared.scale (request.NewOrder n) × IsTrue (is_supply_of n group)
 CanDo shared (AddOrder order) = IsOrderKnown shared.scale order
 
 -- The work found this, and was done under these claims; what it found is of an order that the check accepts.
-abbrev pub HasDone : Shared → Work → Found → List Claiming → Type 0
+abbrev pub HasDone : SharedTables → Work → Found → List ClaimView → Type 0
 HasDone shared (TakeNumber n) one claims =
-    (home : HomeFound) × (warehouse : Claiming) × (district : Claiming)
+    (home : HomeFound) × (warehouse : ClaimView) × (district : ClaimView)
     × (one ≡ found.Home home) × (claims ≡ warehouse ∷ district ∷ []) × IsHomeOrdered n home warehouse district × IsNumberKnown home
     × IsAccepted shared.scale (request.NewOrder n)
 HasDone shared (ShowOrderer n) one claims =
-    (orderer : OrdererFound) × (customers : Claiming)
+    (orderer : OrdererFound) × (customers : ClaimView)
     × (one ≡ found.Orderer orderer) × (claims ≡ customers ∷ []) × IsOrdererShown n orderer customers × IsOrdererKnown shared.scale n orderer
 HasDone shared (TakeStock n group) one claims =
-    (taken : StockTaken) × (stock : Claiming)
+    (taken : StockTaken) × (stock : ClaimView)
     × (one ≡ found.Stock taken) × (claims ≡ stock ∷ []) × IsStockTaken shared n group taken stock × AreSoldKnown shared.scale n group taken
     × IsAccepted shared.scale (request.NewOrder n)
-HasDone shared (AddOrder order) one claims = (orders : Claiming) × (one ≡ found.Added) × (claims ≡ orders ∷ []) × IsOrderAdded order orders
+HasDone shared (AddOrder order) one claims = (orders : ClaimView) × (one ≡ found.Added) × (claims ≡ orders ∷ []) × IsOrderAdded order orders
 
 -- ---- the phases
 
 -- the order got its number and its customer was shown under these claims, and these are the groups that supply its lines
-pub record IsBegun (shared : Shared) (asked : Request) (given : OrderBegun) (held : List (List Claiming)) : Type 0 where
+pub record IsBegun (shared : SharedTables) (asked : Request) (given : OrderBegun) (held : List (List ClaimView)) : Type 0 where
   pub is : asked ≡ request.NewOrder given.order
   pub accepted : IsAccepted shared.scale asked
-  pub warehouse : Claiming
-  pub district : Claiming
-  pub customers : Claiming
+  pub warehouse : ClaimView
+  pub district : ClaimView
+  pub customers : ClaimView
   pub claims : held ≡ (warehouse ∷ district ∷ []) ∷ (customers ∷ []) ∷ []
   pub home : IsHomeOrdered given.order (h.Shown given.home) warehouse district
   pub number : IsNumberKnown (h.Shown given.home)
@@ -302,18 +302,18 @@ pub record IsBegun (shared : Shared) (asked : Request) (given : OrderBegun) (hel
   pub supplies : given.first ∷ given.others ≡ supplies_of given.order.lines
 
 -- then its lines were sold under these claims too, and the rows and the reply are what follows
-pub record IsSold (shared : Shared) (asked : Request) (given : OrderPlaced) (held : List (List Claiming)) : Type 0 where
+pub record IsSold (shared : SharedTables) (asked : Request) (given : OrderPlaced) (held : List (List ClaimView)) : Type 0 where
   pub begun : OrderBegun
-  pub before : List (List Claiming)
+  pub before : List (List ClaimView)
   pub reached : IsBegun shared asked begun before
   pub found : List StockTaken
-  pub stocks : List Claiming
+  pub stocks : List ClaimView
   pub claims : held ≡ before ++ map (λ stock. stock ∷ []) stocks
   pub taken : AreStocksTaken shared begun.order (supplies_of begun.order.lines) found stocks
   pub next : decided begun.order begun.home begun.orderer found ≡ Ok given
 
 -- what is known of how far a New-Order has come, beside the claims of each action of the phases before
-abbrev pub IsReached : Shared → Request → Progress → List (List Claiming) → Type 0
+abbrev pub IsReached : SharedTables → Request → Progress → List (List ClaimView) → Type 0
 IsReached shared asked (ReadRows n) held = IsAsked shared asked (request.NewOrder n) held
 IsReached shared asked (TakeLines given) held = IsBegun shared asked given held
 IsReached shared asked (AddRows given) held = IsSold shared asked given held

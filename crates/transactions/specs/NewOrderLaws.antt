@@ -1,6 +1,6 @@
 -- The actions of a New-Order, together, are the New-Order.
 use Rattle.std.specs.Prelude.{◌≡◌, ◌⊎◌, List, [], ◌∷◌, ◌++◌, Ok, Err}
-use Rattle.partitions.specs.Parts.{Shared, shared_of}
+use Rattle.partitions.specs.Parts.{SharedTables, shared_of}
 use Rattle.schema.specs.Database.{Database}
 use Rattle.requests.specs.declared.new_order.NewOrder.{NewOrder}
 use Rattle.requests.specs.declared.request.Request.TheVariants as request
@@ -10,7 +10,7 @@ use Rattle.requests.specs.declared.reply.Reply.TheVariants as reply
 use Rattle.requests.specs.declared.reply.Shown.TheVariants as kind
 use Rattle.requests.specs.Check.{IsAccepted}
 use Rattle.groups.specs.NewOrder.{supplies_of}
-use Rattle.tickets.specs.Claims.{Claiming}
+use Rattle.tickets.specs.Claims.{ClaimView}
 use Rattle.commit_log.specs.Claimed.{IsCarriedOut}
 use Rattle.transactions.specs.declared.new_order.HomeFound.{HomeFound}
 use Rattle.transactions.specs.declared.new_order.HomeFound.TheVariants as h
@@ -27,7 +27,7 @@ use Rattle.transactions.specs.NewOrder.{AreStocksTaken, IsHomeOrdered, IsNumberK
 abbrev pub NewOrdersAreCarriedOut : Type 0
 NewOrdersAreCarriedOut =
     (opening : Database) (n : NewOrder) (home : HomeShown) (orderer : Orderer) (found : List StockTaken) (placed : OrderPlaced)
-    (warehouse district customers : Claiming) (stocks : List Claiming) (orders : Claiming)
+    (warehouse district customers : ClaimView) (stocks : List ClaimView) (orders : ClaimView)
     → IsHomeOrdered n (h.Shown home) warehouse district → IsOrdererShown n (c.Shown orderer) customers
     → AreStocksTaken (shared_of opening) n (supplies_of n.lines) found stocks
     → decided n home orderer found ≡ Ok placed → IsOrderAdded placed.rows orders
@@ -36,7 +36,7 @@ NewOrdersAreCarriedOut =
 -- Where its home warehouse, its district or its customer isn't there, it was carried out with that fault as its reply.
 abbrev pub NewOrdersOfNobodyAreCarriedOut : Type 0
 NewOrdersOfNobodyAreCarriedOut =
-    (opening : Database) (n : NewOrder) (home : HomeFound) (orderer : OrdererFound) (warehouse district customers : Claiming)
+    (opening : Database) (n : NewOrder) (home : HomeFound) (orderer : OrdererFound) (warehouse district customers : ClaimView)
     → IsHomeOrdered n home warehouse district → IsOrdererShown n orderer customers
     → (home ≡ h.Missing) ⊎ (orderer ≡ c.Missing)
     → IsCarriedOut opening (request.NewOrder n) (warehouse ∷ district ∷ customers ∷ []) (reply.RolledBack NoCustomer)
@@ -45,7 +45,7 @@ NewOrdersOfNobodyAreCarriedOut =
 abbrev pub RolledBackNewOrdersAreCarriedOut : Type 0
 RolledBackNewOrdersAreCarriedOut =
     (opening : Database) (n : NewOrder) (home : HomeShown) (orderer : Orderer) (found : List StockTaken) (fault : Fault)
-    (warehouse district customers : Claiming) (stocks : List Claiming)
+    (warehouse district customers : ClaimView) (stocks : List ClaimView)
     → IsHomeOrdered n (h.Shown home) warehouse district → IsOrdererShown n (c.Shown orderer) customers
     → AreStocksTaken (shared_of opening) n (supplies_of n.lines) found stocks
     → decided n home orderer found ≡ Err fault
@@ -54,7 +54,7 @@ RolledBackNewOrdersAreCarriedOut =
 -- The order that is added is one that the tables of the scale can have.
 abbrev pub PlacedOrdersAreKnown : Type 0
 PlacedOrdersAreKnown =
-    (shared : Shared) (n : NewOrder) (home : HomeShown) (orderer : Orderer) (found : List StockTaken) (placed : OrderPlaced) (stocks : List Claiming)
+    (shared : SharedTables) (n : NewOrder) (home : HomeShown) (orderer : Orderer) (found : List StockTaken) (placed : OrderPlaced) (stocks : List ClaimView)
     → IsAccepted shared.scale (request.NewOrder n) → IsNumberKnown (h.Shown home) → IsOrdererKnown shared.scale n (c.Shown orderer)
     → AreStocksTaken shared n (supplies_of n.lines) found stocks
     → decided n home orderer found ≡ Ok placed → IsOrderKnown shared.scale placed.rows

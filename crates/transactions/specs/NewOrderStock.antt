@@ -4,7 +4,7 @@ use Rattle.std.specs.FinMap as table
 use Rattle.schema.specs.Database.{Database}
 use Rattle.requests.specs.declared.group.Group.TheVariants as g
 use Rattle.requests.specs.declared.new_order.NewOrder.{NewOrder}
-use Rattle.tickets.specs.Claims.{Claiming}
+use Rattle.tickets.specs.Claims.{ClaimView}
 use Rattle.machine.specs.NewOrder.{Stocks, all_there, stock_key_of}
 use Rattle.machine.specs.NewOrderLines.{line_placed}
 use Rattle.transactions.specs.declared.new_order.LineSold.{LineSold}
@@ -27,7 +27,7 @@ puts_done [] stocks = stocks
 puts_done (put ∷ puts) stocks = table.insert (puts_done puts stocks) put.key put.row
 
 -- the rows are of the claim's group, and there is one at the key of each
-abbrev pub AreOfGroup : Claiming → Stocks → List StockPut → Type 0
+abbrev pub AreOfGroup : ClaimView → Stocks → List StockPut → Type 0
 AreOfGroup claim stocks puts =
     All (λ put. (claim.group ≡ g.Stock put.key.w_id (put.key.i_id % 64)) × IsTrue (table.contains_key stocks put.key)) puts
 

@@ -4,7 +4,7 @@ use Rattle.std.specs.Prelude.{◌≡◌, ℕ, List, [], ◌∷◌, Option, Some,
 use Rattle.rows.specs.Keys.{district_of_customer}
 use Rattle.rows.specs.declared.keys.CustomerKey.{CustomerKey}
 use Rattle.rows.specs.declared.records.Customer.{Customer}
-use Rattle.partitions.specs.Parts.{Shared}
+use Rattle.partitions.specs.Parts.{SharedTables}
 use Rattle.schema.specs.Scale.{has_district}
 use Rattle.schema.specs.Database.{Database}
 use Rattle.indexes.specs.Namesakes.{Customers, Keyed}
@@ -17,9 +17,9 @@ use Rattle.requests.specs.declared.order_status.StatusOrder.{StatusOrder}
 use Rattle.requests.specs.Check.{IsAccepted}
 use Rattle.groups.specs.Content.{content}
 use Rattle.groups.specs.Content.Content.{OfCustomers}
-use Rattle.groups.specs.declared.wishes.Wish.{Wish}
+use Rattle.groups.specs.declared.group_wants.GroupWant.{GroupWant}
 use Rattle.groups.specs.Footprint.{shared as sharing}
-use Rattle.tickets.specs.Claims.{Claiming}
+use Rattle.tickets.specs.Claims.{ClaimView}
 use Rattle.machine.specs.Chosen.{chosen}
 use Rattle.machine.specs.OrderStatus.{latest_shown}
 use Rattle.transactions.specs.declared.order_status.StatusCustomer.{StatusCustomer}
@@ -50,18 +50,18 @@ customer_shown (Some c) = Shown c.0 (status_customer c.1)
 customer_shown None = Missing
 
 -- what an Order-Status found of its customer, among those of the district
-pub record IsCustomerShown (o : OrderStatus) (found : CustomerShown) (customers : Claiming) : Type 0 where
+pub record IsCustomerShown (o : OrderStatus) (found : CustomerShown) (customers : ClaimView) : Type 0 where
   pub claim : IsSharedOn (g.Customers o.home.w_id o.home.d_id) customers
   pub rows : Customers
-  pub told : customers.told ≡ OfCustomers rows
+  pub recorded : customers.recorded ≡ OfCustomers rows
   pub shown : found ≡ customer_shown (chosen rows o.home o.customer)
 
 -- ---- the customer's last order
 
 -- what it found of the last order: what every tables show of it that have in the group what the claim tells
-pub record IsOrderShown (key : CustomerKey) (order : Option StatusOrder) (orders : Claiming) : Type 0 where
+pub record IsOrderShown (key : CustomerKey) (order : Option StatusOrder) (orders : ClaimView) : Type 0 where
   pub claim : IsSharedOn (g.Orders key.w_id key.d_id) orders
-  pub shown : (t : Database) → content t orders.group ≡ orders.told → order ≡ latest_shown t key
+  pub shown : (t : Database) → content t orders.group ≡ orders.recorded → order ≡ latest_shown t key
 
 -- ---- the actions
 
@@ -71,35 +71,35 @@ home_of (ShowCustomer o) = o.home.w_id
 home_of (ShowOrder key) = key.w_id
 
 -- the groups that an action claims for its work, and how
-abbrev pub wishes_of : Work → List Wish
-wishes_of (ShowCustomer o) = sharing (g.Customers o.home.w_id o.home.d_id) ∷ []
-wishes_of (ShowOrder key) = sharing (g.Orders key.w_id key.d_id) ∷ []
+abbrev pub group_wants_of : Work → List GroupWant
+group_wants_of (ShowCustomer o) = sharing (g.Customers o.home.w_id o.home.d_id) ∷ []
+group_wants_of (ShowOrder key) = sharing (g.Orders key.w_id key.d_id) ∷ []
 
 -- What the work needs: it is of an Order-Status that the check accepts, and whose order it shows is of a district of the scale.
-abbrev pub CanDo : Shared → Work → Type 0
+abbrev pub CanDo : SharedTables → Work → Type 0
 CanDo shared (ShowCustomer o) = IsAccepted shared.scale (request.OrderStatus o)
 CanDo shared (ShowOrder key) = IsTrue (has_district shared.scale (district_of_customer key))
 
 -- The work found this, and was done under these claims.
-abbrev pub HasDone : Shared → Work → Found → List Claiming → Type 0
+abbrev pub HasDone : SharedTables → Work → Found → List ClaimView → Type 0
 HasDone shared (ShowCustomer o) one claims =
-    (customer : CustomerShown) × (customers : Claiming) × (one ≡ found.Customer customer) × (claims ≡ customers ∷ []) × IsCustomerShown o customer customers
+    (customer : CustomerShown) × (customers : ClaimView) × (one ≡ found.Customer customer) × (claims ≡ customers ∷ []) × IsCustomerShown o customer customers
 HasDone shared (ShowOrder key) one claims =
-    (order : Option StatusOrder) × (orders : Claiming) × (one ≡ found.Order order) × (claims ≡ orders ∷ []) × IsOrderShown key order orders
+    (order : Option StatusOrder) × (orders : ClaimView) × (one ≡ found.Order order) × (claims ≡ orders ∷ []) × IsOrderShown key order orders
 
 -- ---- the phases
 
 -- the customer was read under this claim
-pub record IsStatusShown (shared : Shared) (asked : Request) (given : StatusShown) (held : List (List Claiming)) : Type 0 where
+pub record IsStatusShown (shared : SharedTables) (asked : Request) (given : StatusShown) (held : List (List ClaimView)) : Type 0 where
   pub order_status : OrderStatus
   pub is : asked ≡ request.OrderStatus order_status
   pub accepted : IsAccepted shared.scale asked
-  pub customers : Claiming
+  pub customers : ClaimView
   pub claims : held ≡ (customers ∷ []) ∷ []
   pub shown : IsCustomerShown order_status (Shown given.key given.customer) customers
 
 -- what is known of how far an Order-Status has come, beside the claims of each action of the phases before
-abbrev pub IsReached : Shared → Request → Progress → List (List Claiming) → Type 0
+abbrev pub IsReached : SharedTables → Request → Progress → List (List ClaimView) → Type 0
 IsReached shared asked (ReadCustomer o) held = IsAsked shared asked (request.OrderStatus o) held
 IsReached shared asked (ReadOrder given) held = IsStatusShown shared asked given held
 

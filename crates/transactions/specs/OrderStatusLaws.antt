@@ -12,7 +12,7 @@ use Rattle.requests.specs.declared.order_status.StatusOrder.{StatusOrder}
 use Rattle.requests.specs.declared.reply.Reply.TheVariants as reply
 use Rattle.requests.specs.declared.reply.Shown.TheVariants as kind
 use Rattle.requests.specs.Check.{IsAccepted}
-use Rattle.tickets.specs.Claims.{Claiming}
+use Rattle.tickets.specs.Claims.{ClaimView}
 use Rattle.commit_log.specs.Claimed.{IsCarriedOut}
 use Rattle.transactions.specs.declared.order_status.StatusCustomer.{StatusCustomer}
 use Rattle.transactions.specs.declared.order_status.CustomerShown.TheVariants.{Missing, Shown}
@@ -23,21 +23,21 @@ use Rattle.transactions.specs.OrderStatus.{IsCustomerShown, IsOrderShown, reply_
 abbrev pub OrderStatusesAreCarriedOut : Type 0
 OrderStatusesAreCarriedOut =
     (opening : Database) (o : OrderStatus) (key : CustomerKey) (customer : StatusCustomer) (order : Option StatusOrder)
-    (customers orders : Claiming)
+    (customers orders : ClaimView)
     → IsCustomerShown o (Shown key customer) customers → IsOrderShown key order orders
     → IsCarriedOut opening (request.OrderStatus o) (customers ∷ orders ∷ []) (reply.Done (kind.OrderStatus (reply_shown key customer order)))
 
 -- Where its customer isn't there, it was carried out with that fault as its reply.
 abbrev pub RolledBackOrderStatusesAreCarriedOut : Type 0
 RolledBackOrderStatusesAreCarriedOut =
-    (opening : Database) (o : OrderStatus) (customers : Claiming)
+    (opening : Database) (o : OrderStatus) (customers : ClaimView)
     → IsCustomerShown o Missing customers
     → IsCarriedOut opening (request.OrderStatus o) (customers ∷ []) (reply.RolledBack NoCustomer)
 
 -- The customer who is shown belongs to the district that was asked of.
 abbrev pub ShownCustomersAreAtHome : Type 0
 ShownCustomersAreAtHome =
-    (o : OrderStatus) (key : CustomerKey) (customer : StatusCustomer) (customers : Claiming)
+    (o : OrderStatus) (key : CustomerKey) (customer : StatusCustomer) (customers : ClaimView)
     → IsCustomerShown o (Shown key customer) customers → district_of_customer key ≡ o.home
 
 -- The scale has the home district of an accepted Order-Status.

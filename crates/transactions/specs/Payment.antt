@@ -8,7 +8,7 @@ use Rattle.rows.specs.declared.records.Warehouse.{Warehouse}
 use Rattle.rows.specs.declared.records.District.{District}
 use Rattle.rows.specs.declared.records.Customer.{Customer}
 use Rattle.rows.specs.declared.records.History.{History}
-use Rattle.partitions.specs.Parts.{Shared}
+use Rattle.partitions.specs.Parts.{SharedTables}
 use Rattle.schema.specs.declared.scale.Scale.{Scale}
 use Rattle.schema.specs.Scale.{customer_key, has_customer}
 use Rattle.indexes.specs.Namesakes.{Customers}
@@ -21,9 +21,9 @@ use Rattle.requests.specs.declared.reply.Reply.TheVariants.{RolledBack}
 use Rattle.requests.specs.declared.payment.PaymentReply.{PaymentReply}
 use Rattle.requests.specs.Check.{IsAccepted}
 use Rattle.groups.specs.Content.Content.{OfWarehouse, OfDistrict, OfCustomers, OfHistory}
-use Rattle.groups.specs.declared.wishes.Wish.{Wish}
+use Rattle.groups.specs.declared.group_wants.GroupWant.{GroupWant}
 use Rattle.groups.specs.Footprint.{exclusively}
-use Rattle.tickets.specs.Claims.{Claiming}
+use Rattle.tickets.specs.Claims.{ClaimView}
 use Rattle.machine.specs.Chosen.{chosen}
 use Rattle.machine.specs.Payment.{warehouse_paid, district_paid, customer_paid, payment_reply, history_row}
 use Rattle.transactions.specs.declared.payment.HomePaid.{HomePaid}
@@ -49,27 +49,27 @@ use Rattle.transactions.specs.Granted.{IsAsked, IsExclusiveOn}
 -- ---- the home warehouse and district
 
 -- one of the two rows isn't there, and nothing is done
-pub record IsHomeMissing (warehouse district : Claiming) : Type 0 where
-  pub none : (warehouse.told ≡ OfWarehouse None) ⊎ (district.told ≡ OfDistrict None)
-  pub warehouse_left : warehouse.left ≡ warehouse.told
-  pub district_left : district.left ≡ district.told
+pub record IsHomeMissing (warehouse district : ClaimView) : Type 0 where
+  pub none : (warehouse.recorded ≡ OfWarehouse None) ⊎ (district.recorded ≡ OfDistrict None)
+  pub warehouse_left : warehouse.left ≡ warehouse.recorded
+  pub district_left : district.left ≡ district.recorded
 
 -- both are there, a sum would leave its range, and nothing is done
-pub record IsHomeOutOfRange (p : Payment) (warehouse district : Claiming) : Type 0 where
+pub record IsHomeOutOfRange (p : Payment) (warehouse district : ClaimView) : Type 0 where
   pub warehouse_row : Warehouse
   pub district_row : District
-  pub warehouse_told : warehouse.told ≡ OfWarehouse (Some warehouse_row)
-  pub district_told : district.told ≡ OfDistrict (Some district_row)
+  pub warehouse_recorded : warehouse.recorded ≡ OfWarehouse (Some warehouse_row)
+  pub district_recorded : district.recorded ≡ OfDistrict (Some district_row)
   pub out : (warehouse_paid warehouse_row (pos p.amount) ≡ None) ⊎ (district_paid district_row (pos p.amount) ≡ None)
-  pub warehouse_left : warehouse.left ≡ warehouse.told
-  pub district_left : district.left ≡ district.told
+  pub warehouse_left : warehouse.left ≡ warehouse.recorded
+  pub district_left : district.left ≡ district.recorded
 
 -- both are there and have these names, and left are both with the amount added
-pub record AreHomeRowsPaid (p : Payment) (warehouse_name district_name : List ℕ) (warehouse district : Claiming) : Type 0 where
+pub record AreHomeRowsPaid (p : Payment) (warehouse_name district_name : List ℕ) (warehouse district : ClaimView) : Type 0 where
   pub warehouse_row : Warehouse
   pub district_row : District
-  pub warehouse_told : warehouse.told ≡ OfWarehouse (Some warehouse_row)
-  pub district_told : district.told ≡ OfDistrict (Some district_row)
+  pub warehouse_recorded : warehouse.recorded ≡ OfWarehouse (Some warehouse_row)
+  pub district_recorded : district.recorded ≡ OfDistrict (Some district_row)
   pub warehouse_named : warehouse_name ≡ warehouse_row.name
   pub district_named : district_name ≡ district_row.name
   pub new_warehouse : Warehouse
@@ -80,14 +80,14 @@ pub record AreHomeRowsPaid (p : Payment) (warehouse_name district_name : List �
   pub district_left : district.left ≡ OfDistrict (Some new_district)
 
 -- by what was found: the rows are missing, or a sum would leave its range, or both rows are paid
-abbrev pub FindsHome : Payment → HomePaid → Claiming → Claiming → Type 0
+abbrev pub FindsHome : Payment → HomePaid → ClaimView → ClaimView → Type 0
 FindsHome p h.Missing warehouse district = IsHomeMissing warehouse district
 FindsHome p h.OutOfRange warehouse district = IsHomeOutOfRange p warehouse district
 FindsHome p (h.Paid warehouse_name district_name) warehouse district =
     AreHomeRowsPaid p warehouse_name district_name warehouse district
 
 -- what a payment found of its home warehouse and district, and did there
-pub record IsHomePaid (p : Payment) (found : HomePaid) (warehouse district : Claiming) : Type 0 where
+pub record IsHomePaid (p : Payment) (found : HomePaid) (warehouse district : ClaimView) : Type 0 where
   pub warehouse_claim : IsExclusiveOn (g.Warehouse p.home.w_id) warehouse
   pub district_claim : IsExclusiveOn (g.District p.home.w_id p.home.d_id) district
   pub rows : FindsHome p found warehouse district
@@ -99,28 +99,28 @@ abbrev pub payer_paid : Payment → CustomerKey → Customer → Option Customer
 payer_paid p key row = customer_paid row (payment_note key p.home p.amount) (pos p.amount)
 
 -- the district has no such customer, and nothing is done
-pub record IsCustomerMissing (p : Payment) (customers : Claiming) : Type 0 where
+pub record IsCustomerMissing (p : Payment) (customers : ClaimView) : Type 0 where
   pub rows : Customers
-  pub told : customers.told ≡ OfCustomers rows
+  pub recorded : customers.recorded ≡ OfCustomers rows
   pub missing : chosen rows p.customer_home p.customer ≡ None
-  pub left : customers.left ≡ customers.told
+  pub left : customers.left ≡ customers.recorded
 
 -- the customer is there, a sum would leave its range, and nothing is done
-pub record IsCustomerOutOfRange (p : Payment) (customers : Claiming) : Type 0 where
+pub record IsCustomerOutOfRange (p : Payment) (customers : ClaimView) : Type 0 where
   pub rows : Customers
   pub key : CustomerKey
   pub row : Customer
-  pub told : customers.told ≡ OfCustomers rows
+  pub recorded : customers.recorded ≡ OfCustomers rows
   pub there : chosen rows p.customer_home p.customer ≡ Some (key, row)
   pub out : payer_paid p key row ≡ None
-  pub left : customers.left ≡ customers.told
+  pub left : customers.left ≡ customers.recorded
 
 -- the customer is there, left is the customer's row with the amount paid, and the reply shows that
-pub record IsCustomerRowPaid (p : Payment) (reply : PaymentReply) (customers : Claiming) : Type 0 where
+pub record IsCustomerRowPaid (p : Payment) (reply : PaymentReply) (customers : ClaimView) : Type 0 where
   pub rows : Customers
   pub key : CustomerKey
   pub row : Customer
-  pub told : customers.told ≡ OfCustomers rows
+  pub recorded : customers.recorded ≡ OfCustomers rows
   pub there : chosen rows p.customer_home p.customer ≡ Some (key, row)
   pub new_row : Customer
   pub made : payer_paid p key row ≡ Some new_row
@@ -128,13 +128,13 @@ pub record IsCustomerRowPaid (p : Payment) (reply : PaymentReply) (customers : C
   pub shown : reply ≡ payment_reply key new_row
 
 -- by what was found: there is no such customer, or a sum would leave its range, or the customer's row is paid
-abbrev pub FindsCustomer : Payment → CustomerPaid → Claiming → Type 0
+abbrev pub FindsCustomer : Payment → CustomerPaid → ClaimView → Type 0
 FindsCustomer p c.Missing customers = IsCustomerMissing p customers
 FindsCustomer p c.OutOfRange customers = IsCustomerOutOfRange p customers
 FindsCustomer p (c.Paid reply) customers = IsCustomerRowPaid p reply customers
 
 -- what a payment found of its customer, and did there
-pub record IsCustomerPaid (p : Payment) (found : CustomerPaid) (customers : Claiming) : Type 0 where
+pub record IsCustomerPaid (p : Payment) (found : CustomerPaid) (customers : ClaimView) : Type 0 where
   pub claim : IsExclusiveOn (g.Customers p.customer_home.w_id p.customer_home.d_id) customers
   pub rows : FindsCustomer p found customers
 
@@ -146,10 +146,10 @@ IsPayerKnown scale p _ = Unit {0}
 -- ---- the list of payments
 
 -- left is the home district's list with the row at its end
-pub record IsPaymentAdded (p : Payment) (row : History) (history : Claiming) : Type 0 where
+pub record IsPaymentAdded (p : Payment) (row : History) (history : ClaimView) : Type 0 where
   pub claim : IsExclusiveOn (g.History p.home.w_id p.home.d_id) history
   pub rows : Option (List History)
-  pub told : history.told ≡ OfHistory rows
+  pub recorded : history.recorded ≡ OfHistory rows
   pub left : history.left ≡ OfHistory (Some (unwrap_or rows [] ++ row ∷ []))
 
 -- ---- the actions
@@ -161,26 +161,26 @@ home_of (PayCustomer p) = p.customer_home.w_id
 home_of (AddPayment p row) = p.home.w_id
 
 -- the groups that an action claims for its work, and how
-abbrev pub wishes_of : Work → List Wish
-wishes_of (PayHome p) = exclusively (g.Warehouse p.home.w_id) ∷ exclusively (g.District p.home.w_id p.home.d_id) ∷ []
-wishes_of (PayCustomer p) = exclusively (g.Customers p.customer_home.w_id p.customer_home.d_id) ∷ []
-wishes_of (AddPayment p row) = exclusively (g.History p.home.w_id p.home.d_id) ∷ []
+abbrev pub group_wants_of : Work → List GroupWant
+group_wants_of (PayHome p) = exclusively (g.Warehouse p.home.w_id) ∷ exclusively (g.District p.home.w_id p.home.d_id) ∷ []
+group_wants_of (PayCustomer p) = exclusively (g.Customers p.customer_home.w_id p.customer_home.d_id) ∷ []
+group_wants_of (AddPayment p row) = exclusively (g.History p.home.w_id p.home.d_id) ∷ []
 
 -- What the work needs: it is of a payment that the check accepts, and whom it names is one of the scale.
-abbrev pub CanDo : Shared → Work → Type 0
+abbrev pub CanDo : SharedTables → Work → Type 0
 CanDo shared (PayHome p) = IsAccepted shared.scale (request.Payment p)
 CanDo shared (PayCustomer p) = IsAccepted shared.scale (request.Payment p)
 CanDo shared (AddPayment p row) = IsAccepted shared.scale (request.Payment p) × IsTrue (has_customer shared.scale row.customer)
 
 -- The work found this, and was done under these claims.
-abbrev pub HasDone : Shared → Work → Found → List Claiming → Type 0
+abbrev pub HasDone : SharedTables → Work → Found → List ClaimView → Type 0
 HasDone shared (PayHome p) one claims =
-    (home : HomePaid) × (warehouse : Claiming) × (district : Claiming)
+    (home : HomePaid) × (warehouse : ClaimView) × (district : ClaimView)
     × (one ≡ found.Home home) × (claims ≡ warehouse ∷ district ∷ []) × IsHomePaid p home warehouse district
 HasDone shared (PayCustomer p) one claims =
-    (customer : CustomerPaid) × (customers : Claiming)
+    (customer : CustomerPaid) × (customers : ClaimView)
     × (one ≡ found.Customer customer) × (claims ≡ customers ∷ []) × IsCustomerPaid p customer customers × IsPayerKnown shared.scale p customer
-HasDone shared (AddPayment p row) one claims = (history : Claiming) × (one ≡ found.Added) × (claims ≡ history ∷ []) × IsPaymentAdded p row history
+HasDone shared (AddPayment p row) one claims = (history : ClaimView) × (one ≡ found.Added) × (claims ≡ history ∷ []) × IsPaymentAdded p row history
 
 -- ---- the phases
 
@@ -202,12 +202,12 @@ gathered p (h.Paid warehouse district) c.Missing = Finish (RolledBack NoCustomer
 gathered p _ _ = Finish (RolledBack Range)
 
 -- the home rows and the customer's have been paid under these claims, and the row and the reply are what follows
-pub record IsPaid (shared : Shared) (asked : Request) (given : Paid) (held : List (List Claiming)) : Type 0 where
+pub record IsPaid (shared : SharedTables) (asked : Request) (given : Paid) (held : List (List ClaimView)) : Type 0 where
   pub is : asked ≡ request.Payment given.payment
   pub accepted : IsAccepted shared.scale asked
-  pub warehouse : Claiming
-  pub district : Claiming
-  pub customers : Claiming
+  pub warehouse : ClaimView
+  pub district : ClaimView
+  pub customers : ClaimView
   pub claims : held ≡ (warehouse ∷ district ∷ []) ∷ (customers ∷ []) ∷ []
   pub home : HomePaid
   pub customer : CustomerPaid
@@ -217,7 +217,7 @@ pub record IsPaid (shared : Shared) (asked : Request) (given : Paid) (held : Lis
   pub next : gathered given.payment home customer ≡ Next (any_progress.Payment (AddRow given))
 
 -- what is known of how far a payment has come, beside the claims of each action of the phases before
-abbrev pub IsReached : Shared → Request → Progress → List (List Claiming) → Type 0
+abbrev pub IsReached : SharedTables → Request → Progress → List (List ClaimView) → Type 0
 IsReached shared asked (PayRows p) held = IsAsked shared asked (request.Payment p) held
 IsReached shared asked (AddRow given) held = IsPaid shared asked given held
 

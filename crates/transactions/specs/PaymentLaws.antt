@@ -9,7 +9,7 @@ use Rattle.requests.specs.declared.reply.Fault.{Fault}
 use Rattle.requests.specs.declared.reply.Reply.TheVariants as reply
 use Rattle.requests.specs.declared.reply.Shown.TheVariants as kind
 use Rattle.requests.specs.Check.{IsAccepted}
-use Rattle.tickets.specs.Claims.{Claiming}
+use Rattle.tickets.specs.Claims.{ClaimView}
 use Rattle.commit_log.specs.Claimed.{IsCarriedOut}
 use Rattle.transactions.specs.declared.payment.HomePaid.{HomePaid}
 use Rattle.transactions.specs.declared.payment.CustomerPaid.{CustomerPaid}
@@ -24,7 +24,7 @@ use Rattle.transactions.specs.Payment.{IsHomePaid, IsCustomerPaid, IsPayerKnown,
 abbrev pub PaymentsAreCarriedOut : Type 0
 PaymentsAreCarriedOut =
     (opening : Database) (p : Payment) (home : HomePaid) (customer : CustomerPaid) (given : Paid)
-    (warehouse district customers history : Claiming)
+    (warehouse district customers history : ClaimView)
     → IsHomePaid p home warehouse district → IsCustomerPaid p customer customers
     → gathered p home customer ≡ Next (any_progress.Payment (AddRow given)) → IsPaymentAdded p given.row history
     → IsCarriedOut opening (request.Payment p) (warehouse ∷ district ∷ customers ∷ history ∷ []) (reply.Done (kind.Payment given.reply))
@@ -33,7 +33,7 @@ PaymentsAreCarriedOut =
 abbrev pub RolledBackPaymentsAreCarriedOut : Type 0
 RolledBackPaymentsAreCarriedOut =
     (opening : Database) (p : Payment) (home : HomePaid) (customer : CustomerPaid) (fault : Fault)
-    (warehouse district customers : Claiming)
+    (warehouse district customers : ClaimView)
     → IsHomePaid p home warehouse district → IsCustomerPaid p customer customers
     → gathered p home customer ≡ Finish (reply.RolledBack fault)
     → IsCarriedOut opening (request.Payment p) (warehouse ∷ district ∷ customers ∷ []) (reply.RolledBack fault)

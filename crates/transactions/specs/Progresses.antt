@@ -1,9 +1,9 @@
 -- How far a transaction of any kind has come, and what follows.
 use Rattle.std.specs.Prelude.{◌≡◌, List, ◌++◌}
-use Rattle.partitions.specs.Parts.{Shared, shared_of}
+use Rattle.partitions.specs.Parts.{SharedTables, shared_of}
 use Rattle.schema.specs.Database.{Database}
 use Rattle.requests.specs.declared.request.Request.{Request}
-use Rattle.tickets.specs.Claims.{Claiming, all_claims}
+use Rattle.tickets.specs.Claims.{ClaimView, all_claims}
 use Rattle.commit_log.specs.Claimed.{IsCarriedOut}
 use Rattle.transactions.specs.declared.work.Work.{Work}
 use Rattle.transactions.specs.declared.work.Found.{Found}
@@ -19,7 +19,7 @@ use Rattle.transactions.specs.StockLevel as stock_level
 use Rattle.transactions.specs.Works.{HaveAllDone}
 
 -- what is known of how far it has come, for a request, beside the claims of each action of the phases before, by place
-abbrev pub IsReached : Shared → Request → Progress → List (List Claiming) → Type 0
+abbrev pub IsReached : SharedTables → Request → Progress → List (List ClaimView) → Type 0
 IsReached shared asked (NewOrder progress) held = new_order.IsReached shared asked progress held
 IsReached shared asked (Payment progress) held = payment.IsReached shared asked progress held
 IsReached shared asked (OrderStatus progress) held = order_status.IsReached shared asked progress held
@@ -38,11 +38,11 @@ works_of (StockLevel progress) = stock_level.works_of progress
 
 -- all actions of its phase have done their work, and found this
 abbrev pub HasFound : Progress → List Found → Type 0
-HasFound progress found = (shared : Shared) × (claims : List (List Claiming)) × HaveAllDone shared (works_of progress) found claims
+HasFound progress found = (shared : SharedTables) × (claims : List (List ClaimView)) × HaveAllDone shared (works_of progress) found claims
 
 -- Under these claims of each action the next phase is given what is known to it, or the request was carried out with this
 -- reply, a rollback or not, whatever tables of this scale with these items there were in the beginning.
-abbrev pub Follows : Shared → Request → List (List Claiming) → Gathered → Type 0
+abbrev pub Follows : SharedTables → Request → List (List ClaimView) → Gathered → Type 0
 Follows shared asked claims (Next progress) = IsReached shared asked progress claims
 Follows shared asked claims (Finish shown) = (opening : Database) → shared_of opening ≡ shared → IsCarriedOut opening asked (all_claims claims) shown
 
@@ -50,6 +50,6 @@ Follows shared asked claims (Finish shown) = (opening : Database) → shared_of 
 -- this follows of what the actions found.
 abbrev pub FollowsFrom : Progress → List Found → Gathered → Type 0
 FollowsFrom progress found gathered =
-    (shared : Shared) (asked : Request) (held claims : List (List Claiming))
+    (shared : SharedTables) (asked : Request) (held claims : List (List ClaimView))
     → IsReached shared asked progress held → HaveAllDone shared (works_of progress) found claims
     → Follows shared asked (held ++ claims) gathered

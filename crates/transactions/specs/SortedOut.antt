@@ -3,19 +3,19 @@ use Rattle.std.specs.Prelude.{◌≡◌, ℕ, List, [], ◌∷◌, ◌++◌, Opt
 use Rattle.requests.specs.declared.group.Group.{Group}
 use Rattle.requests.specs.declared.refusal.Refusal.{Refusal}
 use Rattle.requests.specs.declared.refusal.Refusal.TheVariants as refusal
-use Rattle.tickets.specs.Claims.{Claiming}
+use Rattle.tickets.specs.Claims.{ClaimView}
 use Rattle.transactions.specs.declared.work.Found.{Found}
 use Rattle.transactions.specs.declared.acting.Ran.{Ran}
 use Rattle.transactions.specs.declared.acting.Ran.TheVariants.{Done, Died, NoMemory}
 
--- the first who died comes before want of memory
+-- the first who died comes before lack of memory
 abbrev pub earlier_death : Refusal → Group → ℕ → Refusal
 earlier_death (refusal.Died first older) group holder = refusal.Died first older
 earlier_death _ group holder = refusal.Died group holder
 
 module _ {J : Type 0} where
   -- the claims of an action that has done its work
-  abbrev pub held_by : Ran J → List (List Claiming)
+  abbrev pub held_by : Ran J → List (List ClaimView)
   held_by (Done claims found) = claims ∷ []
   held_by (Died group holder) = []
   held_by NoMemory = []
@@ -27,7 +27,7 @@ module _ {J : Type 0} where
   found_by NoMemory = []
 
   -- the claims of the actions that have done their work, by place, those of each together
-  abbrev pub held_in : List (Ran J) → List (List Claiming)
+  abbrev pub held_in : List (Ran J) → List (List ClaimView)
   held_in [] = []
   held_in (ran ∷ rans) = held_by ran ++ held_in rans
 
@@ -54,7 +54,7 @@ module _ {J : Type 0} where
   refusal_of why [] = why
   refusal_of why (ran ∷ rans) = refusal_of (refused_by why ran) rans
 
--- for what it is refused in the end: as it was to be, and else for want of memory for what follows
+-- for what it is refused in the end: as it was to be, and else for lack of memory for what follows
 abbrev pub IsRefusedFor : Option Refusal → Refusal → Type 0
 IsRefusedFor (Some first) why = why ≡ first
 IsRefusedFor None why = why ≡ refusal.NoMemory

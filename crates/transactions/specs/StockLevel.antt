@@ -5,7 +5,7 @@ use Rattle.std.specs.List.{range_with_len}
 use Rattle.std.specs.FinMap as table
 use Rattle.rows.specs.declared.keys.DistrictKey.{DistrictKey}
 use Rattle.schema.specs.Database.{Database}
-use Rattle.partitions.specs.Parts.{Shared}
+use Rattle.partitions.specs.Parts.{SharedTables}
 use Rattle.requests.specs.declared.group.Group.{Group}
 use Rattle.requests.specs.declared.group.Group.TheVariants as g
 use Rattle.requests.specs.declared.request.Request.{Request}
@@ -14,10 +14,10 @@ use Rattle.requests.specs.declared.stock_level.StockLevel.{StockLevel}
 use Rattle.requests.specs.declared.stock_level.StockLevelReply.{StockLevelReply}
 use Rattle.requests.specs.Check.{IsAccepted}
 use Rattle.groups.specs.Content.{content}
-use Rattle.groups.specs.declared.wishes.Wish.{Wish}
+use Rattle.groups.specs.declared.group_wants.GroupWant.{GroupWant}
 use Rattle.groups.specs.Footprint.{shared as sharing}
-use Rattle.tickets.specs.Claims.{Claiming}
-use Rattle.tickets.specs.Committed.{Tells}
+use Rattle.tickets.specs.Claims.{ClaimView}
+use Rattle.tickets.specs.Committed.{Records}
 use Rattle.machine.specs.StockLevel.{next_order, recent_items, low_stock}
 use Rattle.transactions.specs.declared.stock_level.Work.{Work}
 use Rattle.transactions.specs.declared.stock_level.Work.TheVariants.{ReadNext, ReadItems, CountLow}
@@ -34,16 +34,16 @@ use Rattle.transactions.specs.Granted.{IsAsked, IsSharedOn}
 -- ---- the district
 
 -- The number of the district's next order was found: that of every tables that have in the group what the claim tells.
-pub record IsNextFound (home : DistrictKey) (next : ℕ) (district : Claiming) : Type 0 where
+pub record IsNextFound (home : DistrictKey) (next : ℕ) (district : ClaimView) : Type 0 where
   pub claim : IsSharedOn (g.District home.w_id home.d_id) district
-  pub shown : (t : Database) → content t district.group ≡ district.told → next ≡ next_order (table.get t.districts home)
+  pub shown : (t : Database) → content t district.group ≡ district.recorded → next ≡ next_order (table.get t.districts home)
 
 -- ---- the lines of its last orders
 
 -- the item of each line of the district's 20 orders before this number was found, likewise
-pub record AreItemsFound (home : DistrictKey) (next : ℕ) (items : List ℕ) (orders : Claiming) : Type 0 where
+pub record AreItemsFound (home : DistrictKey) (next : ℕ) (items : List ℕ) (orders : ClaimView) : Type 0 where
   pub claim : IsSharedOn (g.Orders home.w_id home.d_id) orders
-  pub shown : (t : Database) → content t orders.group ≡ orders.told → items ≡ recent_items t home next
+  pub shown : (t : Database) → content t orders.group ≡ orders.recorded → items ≡ recent_items t home next
 
 -- ---- the stock
 
@@ -52,15 +52,15 @@ abbrev pub stock_of : ℕ → List Group
 stock_of w_id = map (λ residue. g.Stock w_id residue) (range_with_len 0 64)
 
 -- these are shared claims on these groups, one on each in turn
-abbrev pub AreSharedOn : List Group → List Claiming → Type 0
+abbrev pub AreSharedOn : List Group → List ClaimView → Type 0
 AreSharedOn [] [] = Unit {0}
 AreSharedOn (group ∷ groups) (claim ∷ claims) = IsSharedOn group claim × AreSharedOn groups claims
 AreSharedOn groups claims = ⊥
 
 -- how many of these items are low was found: as many as in every tables that have in the groups what the claims tell
-pub record IsLowFound (s : StockLevel) (items : List ℕ) (count : ℕ) (stock : List Claiming) : Type 0 where
+pub record IsLowFound (s : StockLevel) (items : List ℕ) (count : ℕ) (stock : List ClaimView) : Type 0 where
   pub claims : AreSharedOn (stock_of s.home.w_id) stock
-  pub shown : (t : Database) → Tells (content t) stock → count ≡ low_stock t s.home.w_id s.threshold items
+  pub shown : (t : Database) → Records (content t) stock → count ≡ low_stock t s.home.w_id s.threshold items
 
 -- ---- the actions
 
@@ -71,49 +71,49 @@ home_of (ReadItems s next) = s.home.w_id
 home_of (CountLow s items) = s.home.w_id
 
 -- the groups that an action claims for its work, and how
-abbrev pub wishes_of : Work → List Wish
-wishes_of (ReadNext s) = sharing (g.District s.home.w_id s.home.d_id) ∷ []
-wishes_of (ReadItems s next) = sharing (g.Orders s.home.w_id s.home.d_id) ∷ []
-wishes_of (CountLow s items) = map (λ residue. sharing (g.Stock s.home.w_id residue)) (range_with_len 0 64)
+abbrev pub group_wants_of : Work → List GroupWant
+group_wants_of (ReadNext s) = sharing (g.District s.home.w_id s.home.d_id) ∷ []
+group_wants_of (ReadItems s next) = sharing (g.Orders s.home.w_id s.home.d_id) ∷ []
+group_wants_of (CountLow s items) = map (λ residue. sharing (g.Stock s.home.w_id residue)) (range_with_len 0 64)
 
 -- What the work needs: it is of a Stock-Level that the check accepts.
-abbrev pub CanDo : Shared → Work → Type 0
+abbrev pub CanDo : SharedTables → Work → Type 0
 CanDo shared (ReadNext s) = IsAccepted shared.scale (request.StockLevel s)
 CanDo shared (ReadItems s next) = IsAccepted shared.scale (request.StockLevel s)
 CanDo shared (CountLow s items) = IsAccepted shared.scale (request.StockLevel s)
 
 -- The work found this, and was done under these claims.
-abbrev pub HasDone : Shared → Work → Found → List Claiming → Type 0
+abbrev pub HasDone : SharedTables → Work → Found → List ClaimView → Type 0
 HasDone shared (ReadNext s) one claims =
-    (next : ℕ) × (district : Claiming) × (one ≡ found.Next next) × (claims ≡ district ∷ []) × IsNextFound s.home next district
+    (next : ℕ) × (district : ClaimView) × (one ≡ found.Next next) × (claims ≡ district ∷ []) × IsNextFound s.home next district
 HasDone shared (ReadItems s next) one claims =
-    (items : List ℕ) × (orders : Claiming) × (one ≡ found.Items items) × (claims ≡ orders ∷ []) × AreItemsFound s.home next items orders
+    (items : List ℕ) × (orders : ClaimView) × (one ≡ found.Items items) × (claims ≡ orders ∷ []) × AreItemsFound s.home next items orders
 HasDone shared (CountLow s items) one claims =
     (count : ℕ) × (one ≡ found.Low count) × IsLowFound s items count claims
 
 -- ---- the phases
 
 -- the number of the district's next order was read under this claim
-pub record IsNextRead (shared : Shared) (asked : Request) (s : StockLevel) (next : ℕ) (held : List (List Claiming)) : Type 0 where
+pub record IsNextRead (shared : SharedTables) (asked : Request) (s : StockLevel) (next : ℕ) (held : List (List ClaimView)) : Type 0 where
   pub is : asked ≡ request.StockLevel s
   pub accepted : IsAccepted shared.scale asked
-  pub district : Claiming
+  pub district : ClaimView
   pub claims : held ≡ (district ∷ []) ∷ []
   pub read : IsNextFound s.home next district
 
 -- and then the items of the district's last 20 orders, under this one
-pub record AreItemsRead (shared : Shared) (asked : Request) (s : StockLevel) (items : List ℕ) (held : List (List Claiming)) : Type 0 where
+pub record AreItemsRead (shared : SharedTables) (asked : Request) (s : StockLevel) (items : List ℕ) (held : List (List ClaimView)) : Type 0 where
   pub is : asked ≡ request.StockLevel s
   pub accepted : IsAccepted shared.scale asked
   pub next : ℕ
-  pub district : Claiming
-  pub orders : Claiming
+  pub district : ClaimView
+  pub orders : ClaimView
   pub claims : held ≡ (district ∷ []) ∷ (orders ∷ []) ∷ []
   pub next_read : IsNextFound s.home next district
   pub read : AreItemsFound s.home next items orders
 
 -- what is known of how far a Stock-Level has come, beside the claims of each action of the phases before
-abbrev pub IsReached : Shared → Request → Progress → List (List Claiming) → Type 0
+abbrev pub IsReached : SharedTables → Request → Progress → List (List ClaimView) → Type 0
 IsReached shared asked (at.ReadNext s) held = IsAsked shared asked (request.StockLevel s) held
 IsReached shared asked (at.ReadItems s next) held = IsNextRead shared asked s next held
 IsReached shared asked (at.CountLow s items) held = AreItemsRead shared asked s items held

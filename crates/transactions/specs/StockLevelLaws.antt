@@ -5,7 +5,7 @@ use Rattle.requests.specs.declared.stock_level.StockLevel.{StockLevel}
 use Rattle.requests.specs.declared.request.Request.TheVariants as request
 use Rattle.requests.specs.declared.reply.Reply.TheVariants as reply
 use Rattle.requests.specs.declared.reply.Shown.TheVariants as kind
-use Rattle.tickets.specs.Claims.{Claiming}
+use Rattle.tickets.specs.Claims.{ClaimView}
 use Rattle.commit_log.specs.Claimed.{IsCarriedOut}
 use Rattle.transactions.specs.StockLevel.{AreItemsFound, IsLowFound, IsNextFound, reply_counted}
 
@@ -13,6 +13,6 @@ use Rattle.transactions.specs.StockLevel.{AreItemsFound, IsLowFound, IsNextFound
 -- Stock-Level was carried out under these claims, with that as its reply.
 abbrev pub StockLevelsAreCarriedOut : Type 0
 StockLevelsAreCarriedOut =
-    (opening : Database) (s : StockLevel) (next : ℕ) (items : List ℕ) (count : ℕ) (district orders : Claiming) (stock : List Claiming)
+    (opening : Database) (s : StockLevel) (next : ℕ) (items : List ℕ) (count : ℕ) (district orders : ClaimView) (stock : List ClaimView)
     → IsNextFound s.home next district → AreItemsFound s.home next items orders → IsLowFound s items count stock
     → IsCarriedOut opening (request.StockLevel s) (district ∷ orders ∷ stock) (reply.Done (kind.StockLevel (reply_counted count)))

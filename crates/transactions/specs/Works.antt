@@ -1,13 +1,13 @@
 -- What the actions of all transactions do, and what they claim for it, by kind.
 use Rattle.std.specs.Prelude.{◌≡◌, ℕ, List, [], ◌∷◌, ◌++◌, map}
-use Rattle.partitions.specs.Parts.{Shared}
+use Rattle.partitions.specs.Parts.{SharedTables}
 use Rattle.requests.specs.declared.request.Request.{Request}
 use Rattle.requests.specs.declared.request.Request.TheVariants as request
-use Rattle.groups.specs.declared.wishes.Wish.{Wish}
+use Rattle.groups.specs.declared.group_wants.GroupWant.{GroupWant}
 use Rattle.groups.specs.declared.wants.Extent.TheVariants.{One}
 use Rattle.groups.specs.declared.wants.Want.{Want}
 use Rattle.groups.specs.Groups.{warehouse_of}
-use Rattle.tickets.specs.Claims.{Claiming}
+use Rattle.tickets.specs.Claims.{ClaimView}
 use Rattle.transactions.specs.declared.new_order.work.Found.{Found as NewOrderFound}
 use Rattle.transactions.specs.declared.payment.Found.{Found as PaymentFound}
 use Rattle.transactions.specs.declared.order_status.Found.{Found as OrderStatusFound}
@@ -40,28 +40,28 @@ home_of_request (request.Delivery asked) = asked.w_id
 home_of_request (request.StockLevel asked) = asked.home.w_id
 
 -- the warehouse of the claims of an action, which are all on groups of one
-abbrev pub home_of_claims : List Claiming → ℕ
+abbrev pub home_of_claims : List ClaimView → ℕ
 home_of_claims [] = 0
 home_of_claims (claim ∷ claims) = warehouse_of claim.group
 
 -- the groups that an action claims for its work, and how
-abbrev pub wishes_of : Work → List Wish
-wishes_of (NewOrder work) = new_order.wishes_of work
-wishes_of (Payment work) = payment.wishes_of work
-wishes_of (OrderStatus work) = order_status.wishes_of work
-wishes_of (Delivery work) = delivery.wishes_of work
-wishes_of (StockLevel work) = stock_level.wishes_of work
+abbrev pub group_wants_of : Work → List GroupWant
+group_wants_of (NewOrder work) = new_order.group_wants_of work
+group_wants_of (Payment work) = payment.group_wants_of work
+group_wants_of (OrderStatus work) = order_status.group_wants_of work
+group_wants_of (Delivery work) = delivery.group_wants_of work
+group_wants_of (StockLevel work) = stock_level.group_wants_of work
 
--- a want of one group by itself, as a wish has it
-abbrev pub want_of : Wish → Want
-want_of wish = record { extent = One wish.group; mode = wish.mode }
+-- a want of one group by itself, as a want has it
+abbrev pub want_of : GroupWant → Want
+want_of group_want = record { extent = One group_want.group; mode = group_want.mode }
 
 -- what the action wants of the lock table of its warehouse
 abbrev pub wants_of : Work → List Want
-wants_of work = map want_of (wishes_of work)
+wants_of work = map want_of (group_wants_of work)
 
 -- what the work needs
-abbrev pub CanDo : Shared → Work → Type 0
+abbrev pub CanDo : SharedTables → Work → Type 0
 CanDo shared (NewOrder work) = new_order.CanDo shared work
 CanDo shared (Payment work) = payment.CanDo shared work
 CanDo shared (OrderStatus work) = order_status.CanDo shared work
@@ -69,7 +69,7 @@ CanDo shared (Delivery work) = delivery.CanDo shared work
 CanDo shared (StockLevel work) = stock_level.CanDo shared work
 
 -- The work found this, and was done under these claims.
-abbrev pub HasDone : Shared → Work → Found → List Claiming → Type 0
+abbrev pub HasDone : SharedTables → Work → Found → List ClaimView → Type 0
 HasDone shared (NewOrder work) one claims = (own : NewOrderFound) × (one ≡ found.NewOrder own) × new_order.HasDone shared work own claims
 HasDone shared (Payment work) one claims = (own : PaymentFound) × (one ≡ found.Payment own) × payment.HasDone shared work own claims
 HasDone shared (OrderStatus work) one claims = (own : OrderStatusFound) × (one ≡ found.OrderStatus own) × order_status.HasDone shared work own claims
@@ -79,12 +79,12 @@ HasDone shared (StockLevel work) one claims = (own : StockLevelFound) × (one �
 -- ---- the actions of a phase
 
 -- Each action found this, and did its work under these claims, by place.
-abbrev pub HaveAllDone : Shared → List Work → List Found → List (List Claiming) → Type 0
+abbrev pub HaveAllDone : SharedTables → List Work → List Found → List (List ClaimView) → Type 0
 HaveAllDone shared [] [] [] = Unit {0}
 HaveAllDone shared (work ∷ works) (one ∷ found) (held ∷ claims) = HasDone shared work one held × HaveAllDone shared works found claims
 HaveAllDone shared works found claims = ⊥
 
--- what all of them wish, by place
-abbrev pub all_wishes : List Work → List Wish
-all_wishes [] = []
-all_wishes (work ∷ works) = wishes_of work ++ all_wishes works
+-- what all of them want, by place
+abbrev pub all_group_wants : List Work → List GroupWant
+all_group_wants [] = []
+all_group_wants (work ∷ works) = group_wants_of work ++ all_group_wants works

@@ -1,10 +1,10 @@
 //! An action, from its claims to their return.
 ghost use Rattle.std.specs.Prelude.{◌≡◌, [], ◌∷◌, All};
 ghost use Rattle.partitions.specs.Parts.{shared_of};
-ghost use Rattle.slices.specs.Sliced.{IsClaimAt, SliceKeeps};
+ghost use Rattle.slices.specs.SliceView.{IsClaimAt, SliceKeeps};
 ghost use Rattle.transactions.specs.Acting.{claims_of_ran, CanBeSettled, CanBeUndone, IsRanUnder};
 ghost use Rattle.transactions.specs.Granted.{AreGrantedFor};
-ghost use Rattle.transactions.specs.Works.{CanDo, home_of, wishes_of};
+ghost use Rattle.transactions.specs.Works.{CanDo, home_of, group_wants_of};
 
 use crate::{Found, Work, run};
 use groups::Mode;
@@ -35,7 +35,7 @@ pub(crate) fn run_under<J: GroupNames>(
 ) -> Ran<J>
     requires can { CanDo (shared_of slice.old.tables) work }
     requires home { home_of work ≡ slice.old.home }
-    requires granted { AreGrantedFor (wishes_of work) claims.items }
+    requires granted { AreGrantedFor (group_wants_of work) claims.items }
     ensures kept { SliceKeeps claims.items slice.old (claims_of_ran result) slice.new }
     ensures done { IsRanUnder slice.old work claims.items result slice.new }
 {

@@ -18,10 +18,10 @@ impl<J: GroupNames> Model for HeldClaims<J> {
     ghost use Rattle.std.specs.Coded.{codes};
     ghost use Rattle.std.specs.Prelude.{List, ◌≤◌, vec_capacity};
     ghost use Rattle.groups.specs.contracts.content.Content as content;
-    ghost use Rattle.tickets.specs.Claims.{Claiming};
+    ghost use Rattle.tickets.specs.Claims.{ClaimView};
     ghost use Rattle.transactions.specs.declared.laws.TheConstants.{MOST_ACTIONS};
 
-    ghost Value = { List (List Claiming) };
+    ghost Value = { List (List ClaimView) };
 
     ghost coded = { Prim.hlevel (codes, content.the_row.coded) };
 

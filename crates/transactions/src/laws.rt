@@ -1,5 +1,5 @@
 //! Laws of all kinds of transactions: functions that do nothing, and are proved.
-ghost use Rattle.transactions.specs.Laws.{AcceptedRequestsHaveTheirGroups, ActionsCanDoTheirWork, ClaimsAreOfTheFootprint, PhasesHaveActions, ReachedRequestsAreAccepted, RolledBackClaimsCanBeUndone, TransactionsClaimEachGroupOnce, TransactionsHaveFewActions, WorksAreAtWarehouses, WorksAreDoneAtHome, WorksClaimAtHome, WorksHaveAClaimForEachWish, WorksHaveTheirGroups, WorksHaveWishes};
+ghost use Rattle.transactions.specs.Laws.{AcceptedRequestsHaveTheirGroups, ActionsCanDoTheirWork, ClaimsAreOfTheFootprint, PhasesHaveActions, ReachedRequestsAreAccepted, RolledBackClaimsCanBeUndone, TransactionsClaimEachGroupOnce, TransactionsHaveFewActions, WorksAreAtWarehouses, WorksAreDoneAtHome, WorksClaimAtHome, WorksHaveAClaimForEachGroupWant, WorksHaveTheirGroups, WorksHaveGroupWants};
 
 use groups::footprints_name_each_group_once;
 
@@ -21,10 +21,10 @@ pub fn works_have_their_groups()
     ensures { WorksHaveTheirGroups }
 {}
 
-/// Each work claims some group, and is done under one claim for each of its wishes, on the group wished for.
-pub fn works_have_wishes()
-    ensures some { WorksHaveWishes }
-    ensures claims { WorksHaveAClaimForEachWish }
+/// Each work claims some group, and is done under one claim for each of its wants, on the group wanted for.
+pub fn works_have_group_wants()
+    ensures some { WorksHaveGroupWants }
+    ensures claims { WorksHaveAClaimForEachGroupWant }
 {}
 
 /// Work that can be done is at a warehouse of the scale, and so an action's slice is there.

@@ -3,18 +3,18 @@
 ghost use Rattle.std.specs.Prelude.{◌≡◌, [], ◌∷◌, length, slice_get, IfOk, OnErr};
 ghost use Rattle.partitions.specs.Parts.{shared_of};
 ghost use Rattle.requests.specs.declared.group.Group.TheVariants as group;
-ghost use Rattle.slices.specs.Sliced.{SliceKeeps};
+ghost use Rattle.slices.specs.SliceView.{SliceKeeps};
 ghost use Rattle.transactions.specs.declared.order_status.CustomerShown.{CustomerShown as AnyCustomerShown};
 ghost use Rattle.transactions.specs.declared.work.Found.TheVariants as any_found;
 ghost use Rattle.transactions.specs.declared.progress.Progress.TheVariants as any;
 ghost use Rattle.transactions.specs.Granted.{AreGrantedFor, AreLeft, IsSharedOn};
-ghost use Rattle.transactions.specs.OrderStatus.{CanDo, HasDone, IsCustomerFound, IsCustomerShown, IsOrderFound, IsOrderShown, home_of, reply_shown, wishes_of, works_of};
+ghost use Rattle.transactions.specs.OrderStatus.{CanDo, HasDone, IsCustomerFound, IsCustomerShown, IsOrderFound, IsOrderShown, home_of, reply_shown, group_wants_of, works_of};
 ghost use Rattle.transactions.specs.OrderStatusLaws.{AcceptedStatusesHaveTheirDistrict, OrderStatusesAreCarriedOut, RolledBackOrderStatusesAreCarriedOut, ShownCustomersAreAtHome};
 ghost use Rattle.transactions.specs.Progresses.{FollowsFrom, HasFound};
 
 use crate::progress::Gathered;
 use amounts::Cents;
-use groups::Wish;
+use groups::GroupWant;
 use machine::{chosen, latest_shown};
 use requests::{Fault, Group, OrderStatus, OrderStatusReply, Reply, Shown, StatusOrder};
 use schema::{CustomerKey, DistrictKey, NoMemory, Text};
@@ -89,8 +89,8 @@ impl Work {
     }
 
     // How many groups it claims.
-    pub(crate) fn wish_count(&self) -> usize
-        ensures { result ≡ length (wishes_of self.now) }
+    pub(crate) fn group_want_count(&self) -> usize
+        ensures { result ≡ length (group_wants_of self.now) }
     {
         match self {
             Work::ShowCustomer(_) => 1,
@@ -98,9 +98,9 @@ impl Work {
         }
     }
 
-    // The wish of this number, from 0.
-    pub(crate) fn wish(&self, number: usize) -> Option<Wish>
-        ensures { result ≡ slice_get (wishes_of self.now) number }
+    // The want of this number, from 0.
+    pub(crate) fn group_want(&self, number: usize) -> Option<GroupWant>
+        ensures { result ≡ slice_get (group_wants_of self.now) number }
     {
         let group = match self {
             Work::ShowCustomer(asked) => {
@@ -113,7 +113,7 @@ impl Work {
             },
         };
         match number {
-            0 => Some(Wish::shared(group)),
+            0 => Some(GroupWant::shared(group)),
             _ => None,
         }
     }
@@ -128,7 +128,7 @@ impl Work {
     ) -> Result<Found, NoMemory>
         requires can { CanDo (shared_of slice.old.tables) self }
         requires home { home_of self ≡ slice.old.home }
-        requires granted { AreGrantedFor (wishes_of self) claims.old }
+        requires granted { AreGrantedFor (group_wants_of self) claims.old }
         ensures kept { SliceKeeps claims.old slice.old claims.new slice.new }
         ensures done { IfOk result (λ found. HasDone (shared_of slice.old.tables) self found claims.new) }
         ensures left { AreLeft claims.old claims.new }

@@ -8,19 +8,19 @@ ghost use Rattle.requests.specs.declared.group.Group.TheVariants as group;
 ghost use Rattle.groups.specs.Content.{content};
 ghost use Rattle.groups.specs.Laws.{with_district, with_warehouse};
 ghost use Rattle.tickets.specs.Claims.{leaving};
-ghost use Rattle.slices.specs.Sliced.{SliceKeeps};
+ghost use Rattle.slices.specs.SliceView.{SliceKeeps};
 ghost use Rattle.transactions.specs.declared.payment.HomePaid.{HomePaid as AnyHomePaid};
 ghost use Rattle.transactions.specs.declared.payment.CustomerPaid.{CustomerPaid as AnyCustomerPaid};
 ghost use Rattle.transactions.specs.declared.work.Found.TheVariants as any_found;
 ghost use Rattle.transactions.specs.declared.progress.Progress.TheVariants as any;
 ghost use Rattle.transactions.specs.Granted.{AreGrantedFor, AreLeft, IsExclusiveOn, IsFresh};
-ghost use Rattle.transactions.specs.Payment.{AreRowsFound, CanDo, HasDone, IsCustomerPaid, IsHomePaid, IsPayerKnown, IsPaymentAdded, gathered, home_of, wishes_of, works_of};
+ghost use Rattle.transactions.specs.Payment.{AreRowsFound, CanDo, HasDone, IsCustomerPaid, IsHomePaid, IsPayerKnown, IsPaymentAdded, gathered, home_of, group_wants_of, works_of};
 ghost use Rattle.transactions.specs.PaymentLaws.{AcceptedPaymentsHaveTheirDistrict, GatheredPayersAreKnown, PaymentsAreCarriedOut, RolledBackPaymentsAreCarriedOut};
 ghost use Rattle.transactions.specs.Progresses.{FollowsFrom, HasFound};
 
 use crate::progress::Gathered;
 use amounts::Cents;
-use groups::Wish;
+use groups::GroupWant;
 use machine::{chosen, customer_paid, district_paid, history_row, payment_reply, warehouse_paid};
 use requests::{Fault, Group, Payment, PaymentReply, Reply, Shown};
 use schema::{CustomerKey, District, DistrictKey, History, NoMemory, Text, Warehouse};
@@ -104,8 +104,8 @@ impl Work {
     }
 
     // How many groups it claims.
-    pub(crate) fn wish_count(&self) -> usize
-        ensures { result ≡ length (wishes_of self.now) }
+    pub(crate) fn group_want_count(&self) -> usize
+        ensures { result ≡ length (group_wants_of self.now) }
     {
         match self {
             Work::PayHome(_) => 2,
@@ -114,30 +114,30 @@ impl Work {
         }
     }
 
-    // The wish of this number, from 0.
-    pub(crate) fn wish(&self, number: usize) -> Option<Wish>
-        ensures { result ≡ slice_get (wishes_of self.now) number }
+    // The want of this number, from 0.
+    pub(crate) fn group_want(&self, number: usize) -> Option<GroupWant>
+        ensures { result ≡ slice_get (group_wants_of self.now) number }
     {
         match self {
             Work::PayHome(payment) => {
                 let DistrictKey { w_id, d_id } = payment.home;
                 match number {
-                    0 => Some(Wish::exclusively(Group::Warehouse { w_id })),
-                    1 => Some(Wish::exclusively(Group::District { w_id, d_id })),
+                    0 => Some(GroupWant::exclusively(Group::Warehouse { w_id })),
+                    1 => Some(GroupWant::exclusively(Group::District { w_id, d_id })),
                     _ => None,
                 }
             }
             Work::PayCustomer(payment) => {
                 let DistrictKey { w_id, d_id } = payment.customer_home;
                 match number {
-                    0 => Some(Wish::exclusively(Group::Customers { w_id, d_id })),
+                    0 => Some(GroupWant::exclusively(Group::Customers { w_id, d_id })),
                     _ => None,
                 }
             }
             Work::AddPayment(payment, _) => {
                 let DistrictKey { w_id, d_id } = payment.home;
                 match number {
-                    0 => Some(Wish::exclusively(Group::History { w_id, d_id })),
+                    0 => Some(GroupWant::exclusively(Group::History { w_id, d_id })),
                     _ => None,
                 }
             }
@@ -154,7 +154,7 @@ impl Work {
     ) -> Result<Found, NoMemory>
         requires can { CanDo (shared_of slice.old.tables) self }
         requires home { home_of self ≡ slice.old.home }
-        requires granted { AreGrantedFor (wishes_of self) claims.old }
+        requires granted { AreGrantedFor (group_wants_of self) claims.old }
         ensures kept { SliceKeeps claims.old slice.old claims.new slice.new }
         ensures done { IfOk result (λ found. HasDone (shared_of slice.old.tables) self found claims.new) }
         ensures left { AreLeft claims.old claims.new }

@@ -1,8 +1,8 @@
 //! How far a transaction has come, by kind, and what follows of what the actions of its phase found.
 ghost use Rattle.std.specs.Prelude.{◌≡◌, List, IfOk};
-ghost use Rattle.partitions.specs.Parts.{Shared};
+ghost use Rattle.partitions.specs.Parts.{SharedTables};
 ghost use Rattle.requests.specs.declared.request.Request.{Request as AnyRequest};
-ghost use Rattle.tickets.specs.Claims.{Claiming};
+ghost use Rattle.tickets.specs.Claims.{ClaimView};
 ghost use Rattle.transactions.specs.Granted.{IsAsked};
 ghost use Rattle.transactions.specs.Progresses.{FollowsFrom, HasFound, IsReached, works_of};
 
@@ -34,7 +34,7 @@ pub enum Gathered {
 impl Progress {
     /// Where a transaction begins.
     pub fn begin(request: Request) -> Progress
-        ensures { (shared : Shared) (asked : AnyRequest) (held : List (List Claiming)) → IsAsked shared asked request held → IsReached shared asked result held }
+        ensures { (shared : SharedTables) (asked : AnyRequest) (held : List (List ClaimView)) → IsAsked shared asked request held → IsReached shared asked result held }
     {
         match request {
             Request::NewOrder(order) => { Progress::NewOrder(new_order::Progress::ReadRows(order)) }

@@ -36,7 +36,7 @@ impl Sorted {
     }
 
     /// What came of the next action by place: its claims are held with those of the others, and what it found stands
-    /// behind what they found. The first death by place is what the transaction is refused for, and else want of memory.
+    /// behind what they found. The first death by place is what the transaction is refused for, and else lack of memory.
     pub fn sort_one<J: GroupNames>(&mut self, ran: Ran<J>, held: &mut HeldClaims<J>)
         requires room { length held.old < MOST_ACTIONS }
         requires found { self.old.refusal ≡ None → length self.old.found.items < vec_capacity self.old.found }

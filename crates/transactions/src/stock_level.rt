@@ -3,16 +3,16 @@
 ghost use Rattle.std.specs.Prelude.{◌≡◌, ◌≤◌, ℕ, [], ◌∷◌, Vec as AnyVec, length, slice_get, IfOk, OnErr};
 ghost use Rattle.partitions.specs.Parts.{shared_of};
 ghost use Rattle.requests.specs.declared.group.Group.TheVariants as group;
-ghost use Rattle.slices.specs.Sliced.{SliceKeeps};
+ghost use Rattle.slices.specs.SliceView.{SliceKeeps};
 ghost use Rattle.transactions.specs.declared.work.Found.TheVariants as any_found;
 ghost use Rattle.transactions.specs.declared.progress.Progress.TheVariants as any;
 ghost use Rattle.transactions.specs.Granted.{AreGrantedFor, AreLeft, IsSharedOn};
-ghost use Rattle.transactions.specs.StockLevel.{AreItemsFound, AreItemsOf, AreSharedOn, CanDo, HasDone, IsLowFound, IsLowOf, IsNextFound, IsNextOf, home_of, reply_counted, stock_of, wishes_of, work_of, works_of};
+ghost use Rattle.transactions.specs.StockLevel.{AreItemsFound, AreItemsOf, AreSharedOn, CanDo, HasDone, IsLowFound, IsLowOf, IsNextFound, IsNextOf, home_of, reply_counted, stock_of, group_wants_of, work_of, works_of};
 ghost use Rattle.transactions.specs.StockLevelLaws.{StockLevelsAreCarriedOut};
 ghost use Rattle.transactions.specs.Progresses.{FollowsFrom, HasFound};
 
 use crate::progress::Gathered;
-use groups::Wish;
+use groups::GroupWant;
 use machine::{low_stock, recent_items};
 use requests::{Group, Reply, Shown, StockLevel, StockLevelReply};
 use schema::{DistrictKey, NoMemory};
@@ -98,8 +98,8 @@ impl Work {
     }
 
     // How many groups it claims.
-    pub(crate) fn wish_count(&self) -> usize
-        ensures { result ≡ length (wishes_of self.now) }
+    pub(crate) fn group_want_count(&self) -> usize
+        ensures { result ≡ length (group_wants_of self.now) }
     {
         match self {
             Work::ReadNext(_) => 1,
@@ -108,20 +108,20 @@ impl Work {
         }
     }
 
-    // The wish of this number, from 0.
-    pub(crate) fn wish(&self, number: usize) -> Option<Wish>
-        ensures { result ≡ slice_get (wishes_of self.now) number }
+    // The want of this number, from 0.
+    pub(crate) fn group_want(&self, number: usize) -> Option<GroupWant>
+        ensures { result ≡ slice_get (group_wants_of self.now) number }
     {
         match self {
             Work::ReadNext(asked) if number == 0 => {
                 let DistrictKey { w_id, d_id } = asked.home;
-                Some(Wish::shared(Group::District { w_id, d_id }))
+                Some(GroupWant::shared(Group::District { w_id, d_id }))
             }
             Work::ReadItems(asked, _) if number == 0 => {
                 let DistrictKey { w_id, d_id } = asked.home;
-                Some(Wish::shared(Group::Orders { w_id, d_id }))
+                Some(GroupWant::shared(Group::Orders { w_id, d_id }))
             }
-            Work::CountLow(asked, _) if number < STOCK_GROUPS => Some(Wish::shared(Group::Stock {
+            Work::CountLow(asked, _) if number < STOCK_GROUPS => Some(GroupWant::shared(Group::Stock {
                 w_id: asked.home.w_id,
                 residue: number as u32,
             })),
@@ -139,7 +139,7 @@ impl Work {
     ) -> Result<Found, NoMemory>
         requires can { CanDo (shared_of slice.old.tables) self }
         requires home { home_of self ≡ slice.old.home }
-        requires granted { AreGrantedFor (wishes_of self) claims.old }
+        requires granted { AreGrantedFor (group_wants_of self) claims.old }
         ensures kept { SliceKeeps claims.old slice.old claims.new slice.new }
         ensures done { IfOk result (λ found. HasDone (shared_of slice.old.tables) self found claims.new) }
         ensures left { AreLeft claims.old claims.new }

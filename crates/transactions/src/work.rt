@@ -1,13 +1,13 @@
 //! What the actions of all transactions do and find, by kind.
 ghost use Rattle.std.specs.Prelude.{◌≡◌, length, slice_get, IfOk, OnErr};
 ghost use Rattle.partitions.specs.Parts.{shared_of};
-ghost use Rattle.slices.specs.Sliced.{SliceKeeps};
+ghost use Rattle.slices.specs.SliceView.{SliceKeeps};
 ghost use Rattle.transactions.specs.Granted.{AreGrantedFor, AreLeft};
 ghost use Rattle.transactions.specs.Works as spec;
-ghost use Rattle.transactions.specs.Works.{CanDo, HasDone, home_of, wants_of, wishes_of};
+ghost use Rattle.transactions.specs.Works.{CanDo, HasDone, home_of, wants_of, group_wants_of};
 
 use crate::{delivery, new_order, order_status, payment, stock_level};
-use groups::{Extent, Want, Wish};
+use groups::{Extent, Want, GroupWant};
 use requests::Request;
 use schema::NoMemory;
 use slices::Slice;
@@ -49,42 +49,42 @@ impl Work {
     }
 
     /// How many groups the action claims for its work: at least one.
-    pub fn wish_count(&self) -> usize
-        ensures { result ≡ length (wishes_of self.now) }
+    pub fn group_want_count(&self) -> usize
+        ensures { result ≡ length (group_wants_of self.now) }
     {
         match self {
-            Work::NewOrder(work) => work.wish_count(),
-            Work::Payment(work) => work.wish_count(),
-            Work::OrderStatus(work) => work.wish_count(),
-            Work::Delivery(work) => work.wish_count(),
-            Work::StockLevel(work) => work.wish_count(),
+            Work::NewOrder(work) => work.group_want_count(),
+            Work::Payment(work) => work.group_want_count(),
+            Work::OrderStatus(work) => work.group_want_count(),
+            Work::Delivery(work) => work.group_want_count(),
+            Work::StockLevel(work) => work.group_want_count(),
         }
     }
 
-    /// The wish of this number, from 0, of those that the action has for its work: a group, and how it is
-    /// claimed. They are no more than `wish_count`. It takes no memory.
-    pub fn wish(&self, number: usize) -> Option<Wish>
-        ensures { result ≡ slice_get (wishes_of self.now) number }
+    /// The want of this number, from 0, of those that the action has for its work: a group, and how it is
+    /// claimed. They are no more than `group_want_count`. It takes no memory.
+    pub fn group_want(&self, number: usize) -> Option<GroupWant>
+        ensures { result ≡ slice_get (group_wants_of self.now) number }
     {
         match self {
-            Work::NewOrder(work) => work.wish(number),
-            Work::Payment(work) => work.wish(number),
-            Work::OrderStatus(work) => work.wish(number),
-            Work::Delivery(work) => work.wish(number),
-            Work::StockLevel(work) => work.wish(number),
+            Work::NewOrder(work) => work.group_want(number),
+            Work::Payment(work) => work.group_want(number),
+            Work::OrderStatus(work) => work.group_want(number),
+            Work::Delivery(work) => work.group_want(number),
+            Work::StockLevel(work) => work.group_want(number),
         }
     }
 
-    /// What the action wants of the lock table of its warehouse: each group of its wishes by itself, in turn.
+    /// What the action wants of the lock table of its warehouse: each group of its wants by itself, in turn.
     /// Want of memory leaves nothing behind.
     pub fn wants(&self, alloc: Global) -> Result<Vec<Want>, NoMemory>
         ensures { IfOk result (λ wants. wants.items ≡ wants_of self.now) }
     {
-        let mut wants = Vec::with_capacity(alloc, self.wish_count())?;
-        while let Some(wish) = self.wish(wants.len()) {
+        let mut wants = Vec::with_capacity(alloc, self.group_want_count())?;
+        while let Some(group_want) = self.group_want(wants.len()) {
             wants.push_reserved(Want {
-                extent: Extent::One(wish.group),
-                mode: wish.mode,
+                extent: Extent::One(group_want.group),
+                mode: group_want.mode,
             });
         }
         Ok(wants)
@@ -101,7 +101,7 @@ pub fn run<J: GroupNames>(
 ) -> Result<Found, NoMemory>
     requires can { CanDo (shared_of slice.old.tables) work }
     requires home { home_of work ≡ slice.old.home }
-    requires granted { AreGrantedFor (wishes_of work) claims.old }
+    requires granted { AreGrantedFor (group_wants_of work) claims.old }
     ensures kept { SliceKeeps claims.old slice.old claims.new slice.new }
     ensures done { IfOk result (λ found. HasDone (shared_of slice.old.tables) work found claims.new) }
     ensures left { AreLeft claims.old claims.new }

@@ -1,4 +1,4 @@
--- What is said to a wish of a transaction, by the holders that conflict with it.
+-- What is said to a want of a transaction, by the holders that conflict with it.
 use Rattle.std.specs.Prelude.{◌≡◌, ◌≢◌, ℕ, ◌<◌, ◌≤◌, List, [], All, Any}
 use Rattle.wait_die.specs.declared.deciding.Holder.{Holder}
 use Rattle.wait_die.specs.declared.deciding.Decision.{Decision}

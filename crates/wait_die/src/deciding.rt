@@ -11,7 +11,7 @@ pub struct Holder {
     pub place: usize,
 }
 
-/// What is said to a wish.
+/// What is said to a want.
 #[derive(Clone, Copy, Debug, PartialEq, Eq)]
 pub enum Decision {
     /// It is granted.
@@ -22,7 +22,7 @@ pub enum Decision {
     Dies(Age),
 }
 
-/// What is said to a wish of a transaction of this age, by the holders that conflict with it.
+/// What is said to a want of a transaction of this age, by the holders that conflict with it.
 pub fn verdict(age: Age, conflicting: &[Holder]) -> Decision
     ensures { IsVerdict age conflicting.now result }
 {

@@ -1,4 +1,4 @@
-//! Wait-die: a wish waits only for younger holders, and dies where one that conflicts with it is not
+//! Wait-die: a want waits only for younger holders, and dies where one that conflicts with it is not
 //! younger. So ages rise along who waits for whom, and nobody waits for itself, through any others.
 //!
 //! Nothing here waits itself, and nothing takes memory.

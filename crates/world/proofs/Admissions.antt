@@ -3,9 +3,9 @@ use Rattle.std.proofs.Common.{◌≡◌, ◌+◌, ℕ, List, [], ◌∷◌, ◌+
 use Rattle.std.specs.Prelude.{true, Option, IfSome, Vec, is_some, slice_get, slice_set}
 use Rattle.std.specs.declared.alloc.Global.{Global}
 use Rattle.std.proofs.lemmas.Option.{get_or_from_slice_get}
-use Rattle.partitions.specs.Parts.{Shared}
+use Rattle.partitions.specs.Parts.{SharedTables}
 use Rattle.commit_log.specs.Asks.{asking}
-use Rattle.commit_log.specs.Passing.{Passing, Seating, seating, with_asks}
+use Rattle.commit_log.specs.PassView.{PassView, SessionSeatView, session_seat_view, with_asks}
 use Rattle.requests.specs.declared.request.Request.{Request}
 use Rattle.requests.specs.Check.{IsAccepted}
 use Rattle.transactions.specs.declared.work.Work.{Work}
@@ -14,21 +14,21 @@ use Rattle.world.specs.declared.desk.Active.TheVariants.{Acting}
 use Rattle.world.specs.declared.desk.SessionDesk.{SessionDesk}
 use Rattle.world.specs.declared.flight.Message.TheVariants.{Start}
 use Rattle.world.specs.declared.flight.Report.{Report}
-use Rattle.world.specs.declared.flight.Journey.{Journey}
+use Rattle.world.specs.declared.flight.Flow.{Flow}
 use Rattle.world.specs.declared.world.Parts.{Parts}
 use Rattle.world.specs.Sound.{IsPassOf, IsSessionOf}
 use Rattle.world.specs.Happening.{Admits, CanAsk}
 
 -- a pass at the desk is of the session whose seat is there
-own_pass : (pass : Option Passing) (number session : ℕ) → session ≡ number → IsPassOf number pass → IfSome pass (λ p. p.session ≡ session)
+own_pass : (pass : Option PassView) (number session : ℕ) → session ≡ number → IsPassOf number pass → IfSome pass (λ p. p.session ≡ session)
 own_pass None number session is own = tt
 own_pass (Some pass) number session is own = own ∙ sym is
 
 -- the session's pass goes with its request
-asked_with : (old : Option Passing) (told : Passing → Passing) (pass : Passing) → is_some old ≡ true → IfSome old (λ was. pass ≡ told was)
-    → (was : Passing) × ((old ≡ Some was) × (pass ≡ told was))
-asked_with None told pass there is = absurd (cc)
-asked_with (Some was) told pass there is = (was, (refl, is))
+asked_with : (old : Option PassView) (recorded : PassView → PassView) (pass : PassView) → is_some old ≡ true → IfSome old (λ was. pass ≡ recorded was)
+    → (was : PassView) × ((old ≡ Some was) × (pass ≡ recorded was))
+asked_with None recorded pass there is = absurd (cc)
+asked_with (Some was) recorded pass there is = (was, (refl, is))
 
 module _ {J : Type 0} where
   -- the desk that is read at a place where there is one
@@ -51,30 +51,30 @@ module _ {J : Type 0} where
       own_pass read.pass place read.seat.session known.0 known.1
 
   -- what is left of the desk of a session that asked
-  left_at : (desk : SessionDesk J) (session : ℕ) (pass : Passing) → desk.seat ≡ seating session pass.asks → desk.pass ≡ None
-      → desk ≡ record { seat = seating session pass.asks; pass = None }
+  left_at : (desk : SessionDesk J) (session : ℕ) (pass : PassView) → desk.seat ≡ session_seat_view session pass.asks → desk.pass ≡ None
+      → desk ≡ record { seat = session_seat_view session pass.asks; pass = None }
   left_at desk session pass seat away =
-      let seated : Seating → SessionDesk J = λ s. record { seat = s; pass = desk.pass } in
-      let with_pass : Option Passing → SessionDesk J = λ p. record { seat = seating session pass.asks; pass = p } in
+      let seated : SessionSeatView → SessionDesk J = λ s. record { seat = s; pass = desk.pass } in
+      let with_pass : Option PassView → SessionDesk J = λ p. record { seat = session_seat_view session pass.asks; pass = p } in
       ap seated seat ∙ ap with_pass away
 
   -- what is true of a world to which a request was admitted
-  pub admits : (session number : ℕ) (asked : Request) (desk left : SessionDesk J) (old new : Parts J) (journey : Journey J) (works : Vec Work Global) (meeting : List (Option (Report J)))
+  pub admits : (session number : ℕ) (asked : Request) (desk left : SessionDesk J) (old new : Parts J) (flow : Flow J) (works : Vec Work Global) (meeting : List (Option (Report J)))
       → is_some desk.pass ≡ true
-      → journey.transaction.age ≡ old.desk.admitted → journey.transaction.number ≡ number → journey.transaction.request ≡ asked → journey.transaction.held ≡ []
-      → slice_get old.desk.active journey.transaction.slot ≡ Some None
-      → ((shared : Shared) → IsAccepted shared.scale asked → IsReached shared asked journey.progress [])
-      → IfSome desk.pass (λ was. journey.transaction.pass ≡ with_asks was (asking number asked was.seen was.mine))
-      → works.items ≡ works_of journey.progress → meeting ≡ replicate (length works.items) None
-      → left.seat ≡ seating desk.seat.session journey.transaction.pass.asks → left.pass ≡ None
-      → new.catalog ≡ old.catalog → new.stations ≡ old.stations → new.inbox ≡ old.inbox ++ Start journey works ∷ []
+      → flow.transaction.age ≡ old.desk.admitted → flow.transaction.number ≡ number → flow.transaction.request ≡ asked → flow.transaction.held ≡ []
+      → slice_get old.desk.active flow.transaction.slot ≡ Some None
+      → ((shared : SharedTables) → IsAccepted shared.scale asked → IsReached shared asked flow.progress [])
+      → IfSome desk.pass (λ was. flow.transaction.pass ≡ with_asks was (asking number asked was.seen was.mine))
+      → works.items ≡ works_of flow.progress → meeting ≡ replicate (length works.items) None
+      → left.seat ≡ session_seat_view desk.seat.session flow.transaction.pass.asks → left.pass ≡ None
+      → new.catalog ≡ old.catalog → new.shards ≡ old.shards → new.inbox ≡ old.inbox ++ Start flow works ∷ []
       → new.outbox ≡ old.outbox → new.log ≡ old.log → new.desk.admitted ≡ old.desk.admitted + 1
-      → new.desk.active ≡ slice_set old.desk.active journey.transaction.slot (Some (Acting 0 meeting)) → new.desk.sessions.items ≡ slice_set old.desk.sessions.items session left
+      → new.desk.active ≡ slice_set old.desk.active flow.transaction.slot (Some (Acting 0 meeting)) → new.desk.sessions.items ≡ slice_set old.desk.sessions.items session left
       → Admits session number asked desk old new
-  admits session number asked desk left old new journey works meeting there age same request held free begins told works_are first seat away catalog stations inbox outbox log admitted active sessions =
-      let with_pass = asked_with desk.pass (λ was. with_asks was (asking number asked was.seen was.mine)) journey.transaction.pass there told in
+  admits session number asked desk left old new flow works meeting there age same request held free begins recorded works_are first seat away catalog shards inbox outbox log admitted active sessions =
+      let with_pass = asked_with desk.pass (λ was. with_asks was (asking number asked was.seen was.mine)) flow.transaction.pass there recorded in
       record {
-        journey = journey;
+        flow = flow;
         works = works;
         pass = with_pass.0;
         age = age;
@@ -87,11 +87,11 @@ module _ {J : Type 0} where
         pass_is = with_pass.1.1;
         works_are = works_are;
         catalog = catalog;
-        stations = stations;
+        shards = shards;
         inbox = inbox;
         outbox = outbox;
         log = log;
         admitted = admitted;
-        active = active ∙ ap (λ (slots : List (Option (Report J))). slice_set old.desk.active journey.transaction.slot (Some (Acting 0 slots))) first;
-        sessions = sessions ∙ ap (slice_set old.desk.sessions.items session) (left_at left desk.seat.session journey.transaction.pass seat away);
+        active = active ∙ ap (λ (slots : List (Option (Report J))). slice_set old.desk.active flow.transaction.slot (Some (Acting 0 slots))) first;
+        sessions = sessions ∙ ap (slice_set old.desk.sessions.items session) (left_at left desk.seat.session flow.transaction.pass seat away);
       }

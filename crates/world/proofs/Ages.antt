@@ -4,21 +4,21 @@ use Rattle.std.specs.Prelude.{replicate, slice_set, zero, suc}
 use Rattle.std.specs.List.{slice_get}
 use Rattle.std.proofs.lemmas.Map.Views.{exact_unsigned_eq}
 use Rattle.world.specs.declared.desk.Active.{Active}
-use Rattle.world.specs.Sound.{Courses, HaveTheirAges, UnderWay}
-use Rattle.world.proofs.Courses.{course_on}
+use Rattle.world.specs.Sound.{ActiveTransactions, HaveTheirAges, ActiveTransaction}
+use Rattle.world.proofs.ActiveTransactions.{transaction_on}
 use Rattle.world.proofs.Reported.{put_at}
 use Rattle.world.proofs.Tokens.{by_bool}
 
 module _ {J : Type 0} where
   -- the transaction in the slot has come as far as it likes, and is as old as it was
-  pub ages_on : (at : Courses) (admitted slot : ℕ) (slots : List (Option (Active J))) (u : UnderWay) → ((x : Active J) → slice_get slots slot ≡ Some (Some x) → u.age ≡ (at slot).age)
-      → HaveTheirAges at admitted slots → HaveTheirAges (course_on at slot u) admitted slots
+  pub ages_on : (at : ActiveTransactions) (admitted slot : ℕ) (slots : List (Option (Active J))) (u : ActiveTransaction) → ((x : Active J) → slice_get slots slot ≡ Some (Some x) → u.age ≡ (at slot).age)
+      → HaveTheirAges at admitted slots → HaveTheirAges (transaction_on at slot u) admitted slots
   ages_on at admitted slot slots u same h = record {
     before = λ m a is. omega (arith, still m a is, h.before m a is);
     apart = λ m n a b is there alike. h.apart m n a b is there (sym (still m a is) ∙ alike ∙ still n b there);
   }
     where
-      still : (m : ℕ) (a : Active J) → slice_get slots m ≡ Some (Some a) → (course_on at slot u m).age ≡ (at m).age
+      still : (m : ℕ) (a : Active J) → slice_get slots m ≡ Some (Some a) → (transaction_on at slot u m).age ≡ (at m).age
       still m a is =
           by_bool (slot == m)
           (λ here.
@@ -27,7 +27,7 @@ module _ {J : Type 0} where
           (λ other. ap {B = ℕ} (λ b. (cond b u (at m)).age) other)
 
   -- where the transaction in the slot goes on, or is over
-  pub ages_then : (at : Courses) (admitted slot : ℕ) (slots : List (Option (Active J))) (a : Option (Active J)) (x : Active J) → slice_get slots slot ≡ Some (Some x)
+  pub ages_then : (at : ActiveTransactions) (admitted slot : ℕ) (slots : List (Option (Active J))) (a : Option (Active J)) (x : Active J) → slice_get slots slot ≡ Some (Some x)
       → HaveTheirAges at admitted slots → HaveTheirAges at admitted (slice_set slots slot a)
   ages_then at admitted slot slots a x there h = record {
     before = λ m b is. let was = stood m b is in h.before m was.0 was.1;
@@ -42,7 +42,7 @@ module _ {J : Type 0} where
           by (inr is) = (b, is)
 
   -- one more is admitted, who has the next age
-  pub ages_admitted : (at : Courses) (admitted slot : ℕ) (slots : List (Option (Active J))) (begun : Active J) → (at slot).age ≡ admitted
+  pub ages_admitted : (at : ActiveTransactions) (admitted slot : ℕ) (slots : List (Option (Active J))) (begun : Active J) → (at slot).age ≡ admitted
       → HaveTheirAges at admitted slots → HaveTheirAges at (admitted + 1) (slice_set slots slot (Some begun))
   ages_admitted at admitted slot slots begun age h = record {
     before = λ m b is. first m b (put_at slots slot m (Some begun) (Some b) is);
@@ -68,5 +68,5 @@ module _ {J : Type 0} where
   none_there (suc n) zero a is = absurd (cc)
   none_there (suc n) (suc m) a is = none_there n m a is
 
-  pub no_ages : (at : Courses) (admitted n : ℕ) → HaveTheirAges {J = J} at admitted (replicate n None)
+  pub no_ages : (at : ActiveTransactions) (admitted n : ℕ) → HaveTheirAges {J = J} at admitted (replicate n None)
   no_ages at admitted n = record { before = λ m a is. absurd (none_there n m a is); apart = λ m k a b is there alike. absurd (none_there n m a is) }

@@ -9,12 +9,12 @@ use Rattle.history.specs.declared.event.Event.TheVariants.{Submit, Order, Take, 
 use Rattle.history.specs.declared.event.EventAnswer.{EventAnswer}
 use Rattle.history.specs.declared.event.EventAnswer.TheVariants.{Nothing}
 use Rattle.world.specs.declared.desk.SessionDesk.{SessionDesk}
-use Rattle.world.specs.declared.flight.Letter.{Letter}
-use Rattle.world.specs.declared.flight.Posted.{Posted}
-use Rattle.world.specs.declared.flight.Posted.TheVariants as posted
+use Rattle.world.specs.declared.flight.Envelope.{Envelope}
+use Rattle.world.specs.declared.flight.Outgoing.{Outgoing}
+use Rattle.world.specs.declared.flight.Outgoing.TheVariants as outgoing
 use Rattle.world.specs.declared.world.Parts.{Parts}
 use Rattle.world.specs.declared.world.Core.{Core}
-use Rattle.world.specs.Happening.{CanOrder, CannotSubmit, Delivers, Happens, Orders, SendsFirst, SendsPosted, SubmitsAt, SubmitsInto, SubmitsUnless, TakesFirst, answer_arrived, begins_at, can_admit, has_room, refusal_at}
+use Rattle.world.specs.Happening.{CanOrder, CannotSubmit, Delivers, Happens, Orders, SendsFirst, SendsOutgoing, SubmitsAt, SubmitsInto, SubmitsUnless, TakesFirst, answer_arrived, begins_at, can_admit, has_room, refusal_at}
 use Rattle.world.specs.Queues.{queue_of}
 use Rattle.range_moves.specs.declared.order.MoveOrder.{MoveOrder}
 use Rattle.world.specs.Worlds.{CannotHappen}
@@ -50,22 +50,22 @@ module _ {J : Type 0} where
   submit_nothing room None session number asked old new answer said = (λ is. tt, λ h. said.0)
   submit_nothing room (Some desk) session number asked old new answer said = unless_nothing room (refusal_at desk asked old) session number asked desk old new answer said
 
-  take_nothing : (executor : ℕ) (letters : List (Letter J)) (old new : Core J) (answer : EventAnswer) → TakesFirst executor letters old answer new → (answer ≡ Nothing) ↔ (letters ≡ [])
+  take_nothing : (executor : ℕ) (envelopes : List (Envelope J)) (old new : Core J) (answer : EventAnswer) → TakesFirst executor envelopes old answer new → (answer ≡ Nothing) ↔ (envelopes ≡ [])
   take_nothing executor [] old new answer said = (λ is. refl, λ is. said.0)
   take_nothing executor (l ∷ rest) old new answer said = (λ is. let e = said.0 in absurd (cc), λ is. absurd (cc))
 
-  delivers_something : (room : Bool) (executor : ℕ) (l : Letter J) (old new : Core J) (answer : EventAnswer) → Delivers room executor l old answer new → answer ≡ Nothing → ⊥
+  delivers_something : (room : Bool) (executor : ℕ) (l : Envelope J) (old new : Core J) (answer : EventAnswer) → Delivers room executor l old answer new → answer ≡ Nothing → ⊥
   delivers_something true executor l old new answer said is = let e = said.0 in absurd (cc)
   delivers_something false executor l old new answer said is = let e = said.0 in absurd (cc)
 
-  pub posted_something : (executor : ℕ) (p : Posted J) (old new : Core J) (answer : EventAnswer) → SendsPosted executor p old answer new → answer ≡ Nothing → ⊥
-  posted_something executor (posted.Letter l) old new answer said is = delivers_something (has_room l.to old) executor l old new answer said is
-  posted_something executor (posted.Item i) old new answer said is = sends_something i _ said.0 answer said.1.0 is
-  posted_something executor posted.Arrived old new answer said is = arrived_something (old.houses.awaited - 1) (sym said.0 ∙ is)
+  pub outgoing_something : (executor : ℕ) (p : Outgoing J) (old new : Core J) (answer : EventAnswer) → SendsOutgoing executor p old answer new → answer ≡ Nothing → ⊥
+  outgoing_something executor (outgoing.Envelope l) old new answer said is = delivers_something (has_room l.to old) executor l old new answer said is
+  outgoing_something executor (outgoing.Item i) old new answer said is = sends_something i _ said.0 answer said.1.0 is
+  outgoing_something executor outgoing.Arrived old new answer said is = arrived_something (old.placements.awaited - 1) (sym said.0 ∙ is)
 
-  send_nothing : (executor : ℕ) (posts : List (Posted J)) (old new : Core J) (answer : EventAnswer) → SendsFirst executor posts old answer new → (answer ≡ Nothing) ↔ (posts ≡ [])
+  send_nothing : (executor : ℕ) (posts : List (Outgoing J)) (old new : Core J) (answer : EventAnswer) → SendsFirst executor posts old answer new → (answer ≡ Nothing) ↔ (posts ≡ [])
   send_nothing executor [] old new answer said = (λ is. refl, λ is. said.0)
-  send_nothing executor (p ∷ rest) old new answer said = (λ is. absurd (posted_something executor p (record old { outboxes = slice_set old.outboxes executor rest }) new answer said is), λ is. absurd (cc))
+  send_nothing executor (p ∷ rest) old new answer said = (λ is. absurd (outgoing_something executor p (record old { outboxes = slice_set old.outboxes executor rest }) new answer said is), λ is. absurd (cc))
 
   order_nothing : (order : MoveOrder) (old new : Core J) (answer : EventAnswer) → Orders order old answer new → (answer ≡ Nothing) ↔ (¬ CanOrder order old)
   order_nothing order old new answer (inl said) = (λ is. let e = said.1.0 in absurd (cc), λ cannot. absurd (cannot said.0))

@@ -1,10 +1,10 @@
--- What is under way in a world, as messages and items are taken and put.
+-- What is in flight in a world, as messages and items are taken and put.
 use Rattle.std.proofs.Common.{◌≡◌, ℕ, ◌+◌, List, [], ◌∷◌, ◌++◌, sym, ◌∙◌, ap, subst, cond}
 use Rattle.std.specs.List.{count_by}
 use Rattle.std.specs.List.Sorted.{IsPermutation}
 use Rattle.std.proofs.lemmas.List.Sorted.{IsPermutation-refl, sum_by-IsPermutation, length_permutation}
 use Rattle.history.specs.History.{is_of}
-use Rattle.slices.specs.Sliced.{AreAllHeld, Joined}
+use Rattle.slices.specs.SliceView.{AreAllHeld, JoinedSlices}
 use Rattle.slices.proofs.Held.{held_in_any_order}
 use Rattle.world.specs.declared.desk.Desk.{Desk}
 use Rattle.world.specs.declared.flight.Message.{Message}
@@ -41,8 +41,8 @@ pub parts_more : {X : Type 0} (f : X → InFlight) (xs ys : List X) → IsSame (
 parts_more f xs ys =
     subst (λ p. IsSame p (join (parts f ys) (parts f xs))) (sym (parts-append f xs ys)) (same-swap (parts f xs) (parts f ys))
 
--- the claims that the lock tables have out are those under way, in whatever order
-pub held_same : (slices : Joined) (a b : InFlight) → IsSame a b → AreAllHeld slices.holdings a.claims → AreAllHeld slices.holdings b.claims
+-- the claims that the lock tables have out are those in flight, in whatever order
+pub held_same : (slices : JoinedSlices) (a b : InFlight) → IsSame a b → AreAllHeld slices.holdings a.claims → AreAllHeld slices.holdings b.claims
 held_same slices a b same h = held_in_any_order slices.holdings a.claims b.claims same.claims h
 
 module _ {J : Type 0} where

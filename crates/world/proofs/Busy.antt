@@ -2,13 +2,13 @@
 use Rattle.std.proofs.Common.{◌≡◌, ◌↔◌, ℕ, ◌<◌, ◌≤◌, Bool, true, false, Option, Some, None, Result, Ok, Err, refl, sym, ◌∙◌, ap, subst, cond, arith, ⊎_elim}
 use Rattle.std.specs.Prelude.{count_by, is_some}
 use Rattle.std.specs.List.{slice_get}
-use Rattle.partitions.specs.Parts.{Shared}
+use Rattle.partitions.specs.Parts.{SharedTables}
 use Rattle.requests.specs.declared.request.Request.{Request}
 use Rattle.requests.specs.declared.refusal.Refusal.{Refusal}
 use Rattle.requests.specs.declared.refusal.Refusal.TheVariants.{SessionBusy}
 use Rattle.requests.specs.Check.{check_of}
 use Rattle.requests.proofs.Checked.{refused_by_itself}
-use Rattle.commit_log.specs.Passing.{Passing}
+use Rattle.commit_log.specs.PassView.{PassView}
 use Rattle.history.specs.declared.event.Event.{Event}
 use Rattle.history.specs.declared.event.Event.TheVariants.{Submit, Order, Take, Send}
 use Rattle.history.specs.declared.event.EventAnswer.{EventAnswer}
@@ -25,12 +25,12 @@ use Rattle.world.specs.Worlds.{IsBusyExactly}
 use Rattle.world.proofs.Ready.{stands_at}
 
 -- no check answers that a session is waiting
-never_busy : (shared : Shared) (asked : Request) → check_of shared.scale asked ≡ Err SessionBusy → ⊥
+never_busy : (shared : SharedTables) (asked : Request) → check_of shared.scale asked ≡ Err SessionBusy → ⊥
 never_busy shared asked is = absurd (omega (arith, refused_by_itself shared.scale asked SessionBusy is))
 
 module _ {J : Type 0} where
   -- where its pass is at the desk a session isn't told that it waits
-  here_not_busy : (room : Bool) (shared : Shared) (asked : Request) (pass : Passing) (active : Bool) (session number : ℕ) (desk : SessionDesk J) (old new : Parts J) (answer : EventAnswer)
+  here_not_busy : (room : Bool) (shared : SharedTables) (asked : Request) (pass : PassView) (active : Bool) (session number : ℕ) (desk : SessionDesk J) (old new : Parts J) (answer : EventAnswer)
       → SubmitsUnless room (refuses (Some pass) (check_of shared.scale asked) active) session number asked desk old answer new → answer ≡ Answered session number (Err SessionBusy) → ⊥
   here_not_busy room shared asked pass active session number desk old new answer said is = by_check (check_of shared.scale asked) active refl said
     where
@@ -46,18 +46,18 @@ module _ {J : Type 0} where
       by_check (Ok u) true at said = let e = said.0 in absurd (cc)
       by_check (Ok u) false at said = into (can_admit room old) said
 
-  busy_of : (room : Bool) (shared : Shared) (w : Parts J) (h : IsSoundWith shared nothing w) (old new : Parts J) (session number : ℕ) (asked : Request) (answer : EventAnswer) (desk : SessionDesk J) (pass : Option Passing) → desk.pass ≡ pass
+  busy_of : (room : Bool) (shared : SharedTables) (w : Parts J) (h : IsSoundWith shared nothing w) (old new : Parts J) (session number : ℕ) (asked : Request) (answer : EventAnswer) (desk : SessionDesk J) (pass : Option PassView) → desk.pass ≡ pass
       → slice_get w.desk.sessions.items session ≡ Some desk
       → SubmitsUnless room (refuses pass (check_of old.catalog.scale asked) (is_full old.desk.active)) session number asked desk old answer new
       → (answer ≡ Answered session number (Err SessionBusy)) ↔ (1 ≤ count_by (is_of session) (flight w).pending)
   busy_of room shared w h old new session number asked answer desk None is there said =
-      (λ told. omega (arith, h.balance.alone session desk there, ap (λ (o : Option Passing). cond {A = ℕ} (is_some o) 1 0) is), λ some. said.0)
+      (λ recorded. omega (arith, h.balance.alone session desk there, ap (λ (o : Option PassView). cond {A = ℕ} (is_some o) 1 0) is), λ some. said.0)
   busy_of room shared w h old new session number asked answer desk (Some pass) is there said = (
-    λ told. absurd (here_not_busy room old.catalog asked pass (is_full old.desk.active) session number desk old new answer said told),
-    λ some. absurd (omega (arith, some, h.balance.alone session desk there, ap (λ (o : Option Passing). cond {A = ℕ} (is_some o) 1 0) is)),
+    λ recorded. absurd (here_not_busy room old.catalog asked pass (is_full old.desk.active) session number desk old new answer said recorded),
+    λ some. absurd (omega (arith, some, h.balance.alone session desk there, ap (λ (o : Option PassView). cond {A = ℕ} (is_some o) 1 0) is)),
   )
 
-  pub busy_exactly : (shared : Shared) (event : Event) (old new : Core J) (answer : EventAnswer) → IsSound shared old → Happens event old answer new → IsBusyExactly event old answer
+  pub busy_exactly : (shared : SharedTables) (event : Event) (old new : Core J) (answer : EventAnswer) → IsSound shared old → Happens event old answer new → IsBusyExactly event old answer
   busy_exactly shared (Submit session number asked) old new answer h said = λ below.
       let room = has_room (begins_at asked old) old in
       let found = stands_at old.parts.desk.sessions.items session (subst (λ n. session < n) (sym h.all.seats) below) in

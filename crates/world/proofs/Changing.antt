@@ -10,29 +10,29 @@ use Rattle.partitions.specs.Parts.{IsPartAt}
 use Rattle.requests.specs.declared.refusal.Refusal.{Refusal}
 use Rattle.history.specs.declared.event.EventAnswer.{EventAnswer}
 use Rattle.range_moves.proofs.Sendings.{is_other}
-use Rattle.slices.specs.Sliced.{AreSlicesOf, Sliced, part_in}
+use Rattle.slices.specs.SliceView.{AreSlicesOf, SliceView, part_in}
 use Rattle.transactions.specs.declared.progress.Gathered.{Gathered}
 use Rattle.transactions.specs.declared.progress.Gathered.TheVariants.{Next, Finish}
-use Rattle.transactions.specs.declared.station.Turned.{Turned}
+use Rattle.transactions.specs.declared.shard.Turned.{Turned}
 use Rattle.transactions.specs.Logged.{Logs}
-use Rattle.transactions.specs.Stations.{Stationed}
+use Rattle.transactions.specs.Shards.{ShardView}
 use Rattle.world.specs.declared.desk.Active.{Active}
 use Rattle.world.specs.declared.flight.Carried.{Carried}
 use Rattle.world.specs.declared.flight.Commit.{Commit}
-use Rattle.world.specs.declared.flight.Journey.{Journey}
+use Rattle.world.specs.declared.flight.Flow.{Flow}
 use Rattle.world.specs.declared.flight.Item.{Item}
 use Rattle.world.specs.declared.flight.Item.TheVariants as item
 use Rattle.world.specs.declared.flight.Message.{Message}
-use Rattle.world.specs.declared.flight.Message.TheVariants.{Start, Errand, Settle, Undo}
+use Rattle.world.specs.declared.flight.Message.TheVariants.{Start, Act, Settle, Undo}
 use Rattle.world.specs.declared.flight.Report.{Report}
 use Rattle.world.specs.declared.flight.Transaction.{Transaction}
 use Rattle.world.specs.declared.world.Parts.{Parts}
 use Rattle.world.specs.Changes.{HasMore, HasTurned, MayLog, OthersStay}
-use Rattle.world.specs.Events.{AllTurns, AtStation, Commits, MeetsAs, MeetsUnless, ReportsInto, SendsItem, TakesMessage, TurnsFollow, goes_on}
+use Rattle.world.specs.Events.{AllTurns, AtShard, Commits, MeetsAs, MeetsUnless, ReportsInto, SendsItem, TakesMessage, TurnsFollow, goes_on}
 use Rattle.world.specs.Following.{entry_of, putting, refusal_of, with_active}
-use Rattle.world.specs.Letters.{IsNoPush, home_of_message, is_at_home, parked_else, parked_for}
+use Rattle.world.specs.Envelopes.{IsNoPush, home_of_message, is_at_home, parked_else, parked_for}
 use Rattle.world.specs.Queues.{put_into, queue_of}
-use Rattle.world.specs.Stations.{slice_of, slices_in}
+use Rattle.world.specs.Shards.{slice_of, slices_in}
 use Rattle.world.proofs.Sessions.{get_other}
 use Rattle.world.proofs.Sorting.{carried_both}
 
@@ -92,14 +92,14 @@ module _ {J : Type 0} where
   goes_desk t (Next progress) old new said = puts_desk _ _ _ old new said
   goes_desk t (Finish shown) old new said = puts_desk _ _ _ old new said
 
-  unless_desk : (why : Option Refusal) (reports : List (Report J)) (journey : Journey J) (old new : Parts J) → MeetsUnless why reports journey old new → ChangesDesk old new
-  unless_desk (Some why) reports journey old new said = puts_desk _ _ _ old new said
-  unless_desk None reports journey old new said = ⊎_elim (λ no_memory. puts_desk _ _ _ old new no_memory) (λ gathered. goes_desk _ gathered.0 old new gathered.1.1) said
+  unless_desk : (why : Option Refusal) (reports : List (Report J)) (flow : Flow J) (old new : Parts J) → MeetsUnless why reports flow old new → ChangesDesk old new
+  unless_desk (Some why) reports flow old new said = puts_desk _ _ _ old new said
+  unless_desk None reports flow old new said = ⊎_elim (λ no_memory. puts_desk _ _ _ old new no_memory) (λ gathered. goes_desk _ gathered.0 old new gathered.1.1) said
 
   meets_desk : (reports : List (Report J)) (old new : Parts J) → MeetsAs reports old new → ChangesDesk old new
   meets_desk reports old new said =
-      let P : Journey J → Type 0 = λ journey. MeetsUnless (refusal_of None reports) reports journey old new in
-      carried_both reports P P (ChangesDesk old new) (λ journey one same. unless_desk (refusal_of None reports) reports journey old new one) said said
+      let P : Flow J → Type 0 = λ flow. MeetsUnless (refusal_of None reports) reports flow old new in
+      carried_both reports P P (ChangesDesk old new) (λ flow one same. unless_desk (refusal_of None reports) reports flow old new one) said said
 
   active_desk : (slot : ℕ) (active : Option (Active J)) (old new : Parts J) → new ≡ with_active slot active old → ChangesDesk old new
   active_desk slot active old new said = subst (λ (w : Parts J). ChangesDesk old w) (sym said) refl
@@ -118,7 +118,7 @@ module _ {J : Type 0} where
   may_stay (item.Report r) old new same = same
   may_stay (item.Ended slot) old new same = same
   may_stay (item.Commit commit) old new same = inl same
-  may_stay (item.Reply told) old new same = same
+  may_stay (item.Reply recorded) old new same = same
 
   desk_alone : (i : Item J) (old new : Parts J) → ChangesDesk old new → ItemChanges i old new
   desk_alone i old new said = record {
@@ -138,71 +138,71 @@ module _ {J : Type 0} where
   item_changes (item.Report r) old new answer no_push said = desk_alone (item.Report r) old new (into_desk r.slot said.1.0 _ old new said.1.1.1.1)
   item_changes (item.Ended slot) old new answer no_push said = desk_alone (item.Ended slot) old new (active_desk slot _ old new said.1.1.1)
   item_changes (item.Commit commit) old new answer no_push said = commits_log commit old new answer said
-  item_changes (item.Reply told) old new answer no_push said =
+  item_changes (item.Reply recorded) old new answer no_push said =
       let same = said.1.1.1 in
-      desk_alone (item.Reply told) old new
-      (λ k. record { catalog = same.0 k; stations = same.1.0 k; inbox = same.1.1.0 k; outbox = new.outbox; desk = new.desk; log = same.1.1.1.1.0 k })
+      desk_alone (item.Reply recorded) old new
+      (λ k. record { catalog = same.0 k; shards = same.1.0 k; inbox = same.1.1.0 k; outbox = new.outbox; desk = new.desk; log = same.1.1.1.1.0 k })
 
   -- ---- a message is worked on
 
-  -- nothing but the stations and the outbox changes, and of the stations none but this warehouse's
+  -- nothing but the shards and the outbox changes, and of the shards none but this warehouse's
   pub record AtOne (home : ℕ) (old new : Parts J) : Type 0 where
-    pub others : (place : ℕ) → place ≢ home - 1 → slice_get new.stations.items place ≡ slice_get old.stations.items place
-    pub many : length new.stations.items ≡ length old.stations.items
-    pub rest : new ≡ record old { stations = new.stations; outbox = new.outbox }
+    pub others : (place : ℕ) → place ≢ home - 1 → slice_get new.shards.items place ≡ slice_get old.shards.items place
+    pub many : length new.shards.items ≡ length old.shards.items
+    pub rest : new ≡ record old { shards = new.shards; outbox = new.outbox }
 
   one_then : (home : ℕ) (old mid new : Parts J) → AtOne home old mid → AtOne home mid new → AtOne home old new
   one_then home old mid new first next = record {
     others = λ place is. next.others place is ∙ first.others place is;
     many = next.many ∙ first.many;
-    rest = next.rest ∙ ap (λ (w : Parts J). record w { stations = new.stations; outbox = new.outbox }) first.rest;
+    rest = next.rest ∙ ap (λ (w : Parts J). record w { shards = new.shards; outbox = new.outbox }) first.rest;
   }
 
-  at_station : (home : ℕ) (items : List (Item J)) (of : Stationed (Carried J) → Stationed (Carried J) → Type 0) (old new : Parts J) → AtStation home items of old new → AtOne home old new
-  at_station home items of old new at = record {
-    others = λ place is. ap (λ (ss : List (Stationed (Carried J))). slice_get ss place) at.stations ∙ get_other old.stations.items (home - 1) place at.now is;
-    many = ap (λ (ss : List (Stationed (Carried J))). length ss) at.stations ∙ length-set old.stations.items (home - 1) at.now;
-    rest = at.rest ∙ (λ k. record old { stations = new.stations; outbox = sym (ap (λ (w : Parts J). w.outbox) at.rest) k });
+  at_shard : (home : ℕ) (items : List (Item J)) (of : ShardView (Carried J) → ShardView (Carried J) → Type 0) (old new : Parts J) → AtShard home items of old new → AtOne home old new
+  at_shard home items of old new at = record {
+    others = λ place is. ap (λ (ss : List (ShardView (Carried J))). slice_get ss place) at.shards ∙ get_other old.shards.items (home - 1) place at.now is;
+    many = ap (λ (ss : List (ShardView (Carried J))). length ss) at.shards ∙ length-set old.shards.items (home - 1) at.now;
+    rest = at.rest ∙ (λ k. record old { shards = new.shards; outbox = sym (ap (λ (w : Parts J). w.outbox) at.rest) k });
   }
 
   follow_one : (home : ℕ) (turned : List (Turned J (Carried J))) (old new : Parts J) → TurnsFollow home turned old new → AtOne home old new
   follow_one home [] old new same = record {
-    others = λ place is. ap (λ (ss : List (Stationed (Carried J))). slice_get ss place) same.stations;
-    many = ap (λ (ss : List (Stationed (Carried J))). length ss) same.stations;
-    rest = same.rest ∙ (λ k. record old { stations = new.stations; outbox = sym (ap (λ (w : Parts J). w.outbox) same.rest) k });
+    others = λ place is. ap (λ (ss : List (ShardView (Carried J))). slice_get ss place) same.shards;
+    many = ap (λ (ss : List (ShardView (Carried J))). length ss) same.shards;
+    rest = same.rest ∙ (λ k. record old { shards = new.shards; outbox = sym (ap (λ (w : Parts J). w.outbox) same.rest) k });
   }
-  follow_one home (one ∷ more) old new follow = one_then home old follow.0 new (at_station home _ _ old follow.0 follow.1.0) (follow_one home more follow.0 new follow.1.1)
+  follow_one home (one ∷ more) old new follow = one_then home old follow.0 new (at_shard home _ _ old follow.0 follow.1.0) (follow_one home more follow.0 new follow.1.1)
 
-  then_turns : (home : ℕ) (items : List (Item J)) (of : Stationed (Carried J) → Stationed (Carried J) → Type 0) (old mid new : Parts J) → AtStation home items of old mid → AllTurns home mid new → AtOne home old new
-  then_turns home items of old mid new at turns = one_then home old mid new (at_station home items of old mid at) (follow_one home turns.turned mid new turns.follow)
+  then_turns : (home : ℕ) (items : List (Item J)) (of : ShardView (Carried J) → ShardView (Carried J) → Type 0) (old mid new : Parts J) → AtShard home items of old mid → AllTurns home mid new → AtOne home old new
+  then_turns home items of old mid new at turns = one_then home old mid new (at_shard home items of old mid at) (follow_one home turns.turned mid new turns.follow)
 
   pub takes_one : (m : Message J) (old new : Parts J) → TakesMessage m old new → AtOne (home_of_message m) old new
-  takes_one (Start journey works) old new said = record {
-    others = λ place is. ap (λ (w : Parts J). slice_get w.stations.items place) said;
-    many = ap (λ (w : Parts J). length w.stations.items) said;
-    rest = subst (λ (w : Parts J). w ≡ record old { stations = w.stations; outbox = w.outbox }) (sym said) refl;
+  takes_one (Start flow works) old new said = record {
+    others = λ place is. ap (λ (w : Parts J). slice_get w.shards.items place) said;
+    many = ap (λ (w : Parts J). length w.shards.items) said;
+    rest = subst (λ (w : Parts J). w ≡ record old { shards = w.shards; outbox = w.outbox }) (sym said) refl;
   }
-  takes_one (Errand errand) old new said = then_turns _ _ _ old said.0 new said.1.0.1 said.1.1
+  takes_one (Act act) old new said = then_turns _ _ _ old said.0 new said.1.0.1 said.1.1
   takes_one (Settle slot claims) old new said = then_turns _ _ _ old said.0 new said.1.0 said.1.1
   takes_one (Undo slot claims) old new said = then_turns _ _ _ old said.0 new said.1.0 said.1.1
 
   -- warehouses are counted from 1 on
-  above : (home : ℕ) (items : List (Item J)) (of : Stationed (Carried J) → Stationed (Carried J) → Type 0) (old new : Parts J) → AreSlicesOf old.catalog (slices_in old) → AtStation home items of old new → 1 ≤ home
+  above : (home : ℕ) (items : List (Item J)) (of : ShardView (Carried J) → ShardView (Carried J) → Type 0) (old new : Parts J) → AreSlicesOf old.catalog (slices_in old) → AtShard home items of old new → 1 ≤ home
   above home items of old new are at =
-      let within : home - 1 < length old.stations.items = slice_get_within old.stations.items (home - 1) at.was at.there in
-      let inside : home - 1 < length (slices_in old) = omega (arith, within, length-map old.stations.items slice_of) in
+      let within : home - 1 < length old.shards.items = slice_get_within old.shards.items (home - 1) at.was at.there in
+      let inside : home - 1 < length (slices_in old) = omega (arith, within, length-map old.shards.items slice_of) in
       let same : slice_index_or (slices_in old) (home - 1) at.was.slice ≡ at.was.slice =
-      get_or-map slice_of old.stations.items (home - 1) at.was at.was.slice within ∙ ap slice_of (get_or_from_slice_get old.stations.items (home - 1) at.was at.was at.there) in
-      let part : IsPartAt old.catalog (home - 1) (part_in at.was.slice) = subst (λ (s : Sliced). IsPartAt old.catalog (home - 1) (part_in s)) same (are.each (home - 1) at.was.slice inside) in
+      get_or-map slice_of old.shards.items (home - 1) at.was at.was.slice within ∙ ap slice_of (get_or_from_slice_get old.shards.items (home - 1) at.was at.was at.there) in
+      let part : IsPartAt old.catalog (home - 1) (part_in at.was.slice) = subst (λ (s : SliceView). IsPartAt old.catalog (home - 1) (part_in s)) same (are.each (home - 1) at.was.slice inside) in
       omega (arith, part.home, at.home_is)
 
-  -- the stations of all other warehouses are as they were
+  -- the shards of all other warehouses are as they were
   pub takes_others : (m : Message J) (old new : Parts J) → AreSlicesOf old.catalog (slices_in old) → TakesMessage m old new
-      → (w_id : ℕ) → 1 ≤ w_id → w_id ≢ home_of_message m → slice_get new.stations.items (w_id - 1) ≡ slice_get old.stations.items (w_id - 1)
-  takes_others (Start journey works) old new are said w_id one other = ap (λ (w : Parts J). slice_get w.stations.items (w_id - 1)) said
-  takes_others (Errand errand) old new are said w_id one other =
+      → (w_id : ℕ) → 1 ≤ w_id → w_id ≢ home_of_message m → slice_get new.shards.items (w_id - 1) ≡ slice_get old.shards.items (w_id - 1)
+  takes_others (Start flow works) old new are said w_id one other = ap (λ (w : Parts J). slice_get w.shards.items (w_id - 1)) said
+  takes_others (Act act) old new are said w_id one other =
       let some = above _ _ _ old said.0 are said.1.0.1 in
-      (takes_one (Errand errand) old new said).others (w_id - 1) (λ same. other (omega (arith, same, one, some)))
+      (takes_one (Act act) old new said).others (w_id - 1) (λ same. other (omega (arith, same, one, some)))
   takes_others (Settle slot claims) old new are said w_id one other =
       let some = above _ _ _ old said.0 are said.1.0 in
       (takes_one (Settle slot claims) old new said).others (w_id - 1) (λ same. other (omega (arith, same, one, some)))

@@ -1,7 +1,7 @@
 -- What an event does with one executor's queues in hand, it does with all queues as one.
 use Rattle.std.proofs.Common.{◌≡◌, inl, inr, ℕ, Bool, true, false, List, [], ◌∷◌, ◌++◌, length, Option, Some, None, Err, refl, sym, ◌∙◌, ap, subst, append_assoc, nat_lt, ⊎_elim}
 use Rattle.std.specs.List.{slice_get}
-use Rattle.partitions.specs.Parts.{Shared}
+use Rattle.partitions.specs.Parts.{SharedTables}
 use Rattle.requests.specs.declared.request.Request.{Request}
 use Rattle.requests.specs.declared.refusal.Refusal.{Refusal}
 use Rattle.history.specs.declared.event.Event.TheVariants.{Submit}
@@ -15,7 +15,7 @@ use Rattle.transactions.specs.declared.work.Found.{Found}
 use Rattle.world.specs.declared.desk.Active.{Active}
 use Rattle.world.specs.declared.desk.SessionDesk.{SessionDesk}
 use Rattle.world.specs.declared.flight.Commit.{Commit}
-use Rattle.world.specs.declared.flight.Journey.{Journey}
+use Rattle.world.specs.declared.flight.Flow.{Flow}
 use Rattle.world.specs.declared.flight.Transaction.{Transaction}
 use Rattle.world.specs.declared.flight.Message.{Message}
 use Rattle.world.specs.declared.flight.Message.TheVariants as message
@@ -52,14 +52,14 @@ module _ {J : Type 0} (messages : List (Message J)) (items : List (Item J)) wher
   gathers_framed progress found t old new (inl said) = inl (ap framed said ∙ puts_framed _ _ _ old)
   gathers_framed progress found t old new (inr said) = inr (said.0, (said.1.0, ap framed said.1.1 ∙ goes_framed t said.0 old))
 
-  unless_framed : (why : Option Refusal) (reports : List (Report J)) (journey : Journey J) (old new : Parts J) → MeetsUnless why reports journey old new → MeetsUnless why reports journey (framed old) (framed new)
-  unless_framed (Some why) reports journey old new said = ap framed said ∙ puts_framed _ _ _ old
-  unless_framed None reports journey old new said = gathers_framed journey.progress _ _ old new said
+  unless_framed : (why : Option Refusal) (reports : List (Report J)) (flow : Flow J) (old new : Parts J) → MeetsUnless why reports flow old new → MeetsUnless why reports flow (framed old) (framed new)
+  unless_framed (Some why) reports flow old new said = ap framed said ∙ puts_framed _ _ _ old
+  unless_framed None reports flow old new said = gathers_framed flow.progress _ _ old new said
 
   meets_framed : (reports : List (Report J)) (old new : Parts J) → MeetsAs reports old new → MeetsAs reports (framed old) (framed new)
   meets_framed reports old new said =
-      carried_there reports (λ journey. MeetsUnless (refusal_of None reports) reports journey old new) (λ journey. MeetsUnless (refusal_of None reports) reports journey (framed old) (framed new))
-      (λ journey one. unless_framed (refusal_of None reports) reports journey old new one) said
+      carried_there reports (λ flow. MeetsUnless (refusal_of None reports) reports flow old new) (λ flow. MeetsUnless (refusal_of None reports) reports flow (framed old) (framed new))
+      (λ flow one. unless_framed (refusal_of None reports) reports flow old new one) said
 
   into_framed : (slot first : ℕ) (slots : List (Option (Report J))) (old new : Parts J) → ReportsInto slot first slots old new → ReportsInto slot first slots (framed old) (framed new)
   into_framed slot first slots old new (inl said) = inl (said.0, ap framed said.1)
@@ -84,7 +84,7 @@ module _ {J : Type 0} (messages : List (Message J)) (items : List (Item J)) wher
   pushes_framed false m old new answer said =
       (said.0, ap framed said.1 ∙ (λ i. record (framed old) { outbox = sym (append_assoc items old.outbox (item.Push m ∷ [])) i }))
 
-  pub sends_framed : (shared : Shared) (old new : Parts J) (i : Item J) (answer : EventAnswer) (h : IsSoundWith shared (part_item i) (framed old)) → IsSoundItem shared h.under_way i
+  pub sends_framed : (shared : SharedTables) (old new : Parts J) (i : Item J) (answer : EventAnswer) (h : IsSoundWith shared (part_item i) (framed old)) → IsSoundItem shared h.in_flight i
       → SendsItem i old answer new → SendsOn shared (part_item i) (framed old) answer (framed new)
   sends_framed shared old new (item.Push m) answer h s said =
       sends_push shared (framed old) (framed new) m answer (nat_lt (length old.inbox) 1024) h s (pushes_framed (nat_lt (length old.inbox) 1024) m old new answer said)
@@ -94,9 +94,9 @@ module _ {J : Type 0} (messages : List (Message J)) (items : List (Item J)) wher
       sends_on shared (framed old) (framed new) (item.Ended slot) answer h s (said.0, (said.1.0, (said.1.1.0, ap framed said.1.1.1)))
   sends_framed shared old new (item.Commit commit) answer h s said =
       sends_on shared (framed old) (framed new) (item.Commit commit) answer h s (commits_framed commit old new answer said)
-  sends_framed shared old new (item.Reply told) answer h s said =
+  sends_framed shared old new (item.Reply recorded) answer h s said =
       let same = said.1.1.1 in
-      sends_on shared (framed old) (framed new) (item.Reply told) answer h s (
+      sends_on shared (framed old) (framed new) (item.Reply recorded) answer h s (
         said.0,
         (
           said.1.0,
@@ -111,7 +111,7 @@ module _ {J : Type 0} (messages : List (Message J)) (items : List (Item J)) wher
 
   admits_framed : (session number : ℕ) (asked : Request) (desk : SessionDesk J) (old new : Parts J) → Admits session number asked desk old new → Admits session number asked desk (framed old) (framed new)
   admits_framed session number asked desk old new a = record {
-    journey = a.journey;
+    flow = a.flow;
     works = a.works;
     pass = a.pass;
     age = a.age;
@@ -124,8 +124,8 @@ module _ {J : Type 0} (messages : List (Message J)) (items : List (Item J)) wher
     pass_is = a.pass_is;
     works_are = a.works_are;
     catalog = a.catalog;
-    stations = a.stations;
-    inbox = ap (λ (ms : List (Message J)). messages ++ ms) a.inbox ∙ sym (append_assoc messages old.inbox (message.Start a.journey a.works ∷ []));
+    shards = a.shards;
+    inbox = ap (λ (ms : List (Message J)). messages ++ ms) a.inbox ∙ sym (append_assoc messages old.inbox (message.Start a.flow a.works ∷ []));
     outbox = ap (λ (is : List (Item J)). items ++ is) a.outbox;
     log = a.log;
     admitted = a.admitted;
@@ -139,7 +139,7 @@ module _ {J : Type 0} (messages : List (Message J)) (items : List (Item J)) wher
   into_submitted true session number asked desk old new answer said =
       ⊎_elim (λ refused. inl (refused.0, ap framed refused.1)) (λ admitted. inr (admitted.0, admits_framed session number asked desk old new admitted.1)) said
 
-  unless_submitted : (room : Bool) (shared : Shared) (old new : Parts J) (h : IsSoundWith shared nothing (framed old)) (session number : ℕ) (asked : Request) (desk : SessionDesk J) (answer : EventAnswer)
+  unless_submitted : (room : Bool) (shared : SharedTables) (old new : Parts J) (h : IsSoundWith shared nothing (framed old)) (session number : ℕ) (asked : Request) (desk : SessionDesk J) (answer : EventAnswer)
       → slice_get old.desk.sessions.items session ≡ Some desk → (why : Option Refusal) → refusal_at desk asked old ≡ why → SubmitsUnless room why session number asked desk old answer new
       → IsSoundWith shared nothing (framed new) × Advances (framed old) (step (Submit session number asked) answer ∷ []) (framed new)
   unless_submitted room shared old new h session number asked desk answer there (Some why) is said = (
@@ -150,7 +150,7 @@ module _ {J : Type 0} (messages : List (Message J)) (items : List (Item J)) wher
       submits_into shared (framed old) (framed new) h session number asked desk answer there is (can_admit room old)
       (into_submitted (can_admit room old) session number asked desk old new answer said)
 
-  pub submits_framed : (room : Bool) (shared : Shared) (old new : Parts J) (h : IsSoundWith shared nothing (framed old)) (session number : ℕ) (asked : Request) (answer : EventAnswer)
+  pub submits_framed : (room : Bool) (shared : SharedTables) (old new : Parts J) (h : IsSoundWith shared nothing (framed old)) (session number : ℕ) (asked : Request) (answer : EventAnswer)
       → (found : Option (SessionDesk J)) → slice_get old.desk.sessions.items session ≡ found → SubmitsAt room found session number asked old answer new
       → IsSoundWith shared nothing (framed new) × Advances (framed old) (step (Submit session number asked) answer ∷ []) (framed new)
   submits_framed room shared old new h session number asked answer None there said = (

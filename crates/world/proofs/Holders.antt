@@ -6,11 +6,11 @@ use Rattle.std.specs.Prelude.{All, Contains, replicate}
 use Rattle.std.specs.List.{slice_get, sum_by, filter}
 use Rattle.std.proofs.lemmas.List.Elements.{All-append, All-contains, All-head, All-nil, All-tail, Contains-append_cases, Contains-append_left, Contains-append_right}
 use Rattle.std.proofs.lemmas.List.Sums.{sum_by-append, sum_by-cons}
-use Rattle.partitions.specs.Parts.{Shared}
-use Rattle.tickets.specs.Claims.{Claiming, all_claims}
+use Rattle.partitions.specs.Parts.{SharedTables}
+use Rattle.tickets.specs.Claims.{ClaimView, all_claims}
 use Rattle.local_locks.specs.Asking.{held_by}
-use Rattle.local_locks.specs.Locking.{Holding}
-use Rattle.slices.specs.Sliced.{at_home, held_at}
+use Rattle.local_locks.specs.LockTableView.{HeldClaim}
+use Rattle.slices.specs.SliceView.{at_home, held_at}
 use Rattle.local_locks.proofs.Members.{contains_cases, contains_here, contains_none, contains_there}
 use Rattle.rendezvous.specs.Awaited.{awaited_from, reported}
 use Rattle.transactions.specs.declared.acting.Ran.{Ran}
@@ -20,25 +20,25 @@ use Rattle.transactions.specs.Acting.{claims_of_ran, AreUndoneBy, IsAged}
 use Rattle.transactions.proofs.Reached.{some_actions}
 use Rattle.world.specs.declared.desk.Active.{Active}
 use Rattle.world.specs.declared.desk.Active.TheVariants as active
-use Rattle.world.specs.declared.flight.Journey.{Journey}
+use Rattle.world.specs.declared.flight.Flow.{Flow}
 use Rattle.world.specs.declared.flight.Item.{Item}
 use Rattle.world.specs.declared.flight.Item.TheVariants as item
 use Rattle.world.specs.declared.flight.Message.{Message}
-use Rattle.world.specs.declared.flight.Message.TheVariants.{Start, Errand, Settle, Undo}
+use Rattle.world.specs.declared.flight.Message.TheVariants.{Start, Act, Settle, Undo}
 use Rattle.world.specs.declared.flight.Report.{Report}
 use Rattle.world.specs.declared.world.Parts.{Parts}
 use Rattle.world.specs.Flights.{InFlight, Token, Acting, Committing, Ending, acting_from, nothing, parts, part_carried, part_item, part_message, part_met}
-use Rattle.world.specs.Sound.{Courses, IsActiveAt, IsCarriedAt, IsSoundActive, IsSoundItem, IsSoundMessage, IsSoundPhase, IsSoundRan, IsSoundWith, UnderWay, awaited, awaited_by_all, flight, reported_to, reported_to_all}
+use Rattle.world.specs.Sound.{ActiveTransactions, IsActiveAt, IsCarriedAt, IsSoundActive, IsSoundItem, IsSoundMessage, IsSoundPhase, IsSoundRan, IsSoundWith, ActiveTransaction, awaited, awaited_by_all, flight, reported_to, reported_to_all}
 use Rattle.world.proofs.Asking.{as_many_from}
 use Rattle.world.proofs.OneSlot.{of_slot, sound_in, weigh_slots}
 use Rattle.world.proofs.Reported.{met_tokens}
-use Rattle.world.proofs.Tokens.{acting_under_way, acting_weighs, commit_under_way, ending_under_way, one_weighs, weigh_acting, weigh_committing, weigh_ending}
-use Rattle.history.specs.History.{Unanswered}
+use Rattle.world.proofs.Tokens.{acting_in_flight, acting_weighs, commit_in_flight, ending_in_flight, one_weighs, weigh_acting, weigh_committing, weigh_ending}
+use Rattle.history.specs.History.{UnansweredTransaction}
 
 -- ---- parts
 
 -- of what all have, one has it
-pub whose_claim : {X : Type 0} (f : X → InFlight) (xs : List X) (c : Claiming) → Contains (parts f xs).claims c → (x : X) × (Contains xs x × Contains (f x).claims c)
+pub whose_claim : {X : Type 0} (f : X → InFlight) (xs : List X) (c : ClaimView) → Contains (parts f xs).claims c → (x : X) × (Contains xs x × Contains (f x).claims c)
 whose_claim f [] c is = contains_none c is
 whose_claim f (x ∷ xs) c is =
     ⊎_elim
@@ -47,7 +47,7 @@ whose_claim f (x ∷ xs) c is =
     (Contains-append_cases (f x).claims (parts f xs).claims c is)
 
 -- what one of them has without an answer, all have
-pub in_parts : {X : Type 0} (f : X → InFlight) (xs : List X) (x : X) (u : Unanswered) → Contains xs x → Contains (f x).pending u → Contains (parts f xs).pending u
+pub in_parts : {X : Type 0} (f : X → InFlight) (xs : List X) (x : X) (u : UnansweredTransaction) → Contains xs x → Contains (f x).pending u → Contains (parts f xs).pending u
 in_parts f [] x u is has = contains_none x is
 in_parts f (y ∷ xs) x u is has =
     ⊎_elim
@@ -107,17 +107,17 @@ pub empty_of : {X : Type 0} (xs : List X) → IsPermutation xs [] → xs ≡ []
 empty_of [] same = refl
 empty_of (x ∷ xs) same = absurd (omega (arith, length_permutation (x ∷ xs) [] same))
 
--- what a lock table has out is a claim that is under way
-pub claim_of : (w_id : ℕ) (claims : List Claiming) (holding : Holding) → Contains (held_at w_id claims) holding → (c : Claiming) × (Contains claims c × (held_by c ≡ holding))
+-- what a lock table has out is a claim that is in flight
+pub claim_of : (w_id : ℕ) (claims : List ClaimView) (holding : HeldClaim) → Contains (held_at w_id claims) holding → (c : ClaimView) × (Contains claims c × (held_by c ≡ holding))
 claim_of w_id [] holding is = contains_none holding is
 claim_of w_id (c ∷ claims) holding is =
-    let rest = filter (λ (claim : Claiming). at_home w_id claim.group) claims in
-    let later : Contains (held_at w_id claims) holding → (d : Claiming) × (Contains (c ∷ claims) d × (held_by d ≡ holding)) = λ more.
+    let rest = filter (λ (claim : ClaimView). at_home w_id claim.group) claims in
+    let later : Contains (held_at w_id claims) holding → (d : ClaimView) × (Contains (c ∷ claims) d × (held_by d ≡ holding)) = λ more.
     let r = claim_of w_id claims holding more in (r.0, (contains_there c claims r.0 r.1.0, r.1.1)) in
     either (at_home w_id c.group) rest later is
   where
-    either : (b : Bool) (rest : List Claiming) → (Contains (map held_by rest) holding → (d : Claiming) × (Contains (c ∷ claims) d × (held_by d ≡ holding)))
-        → Contains (map held_by (cond b (c ∷ rest) rest)) holding → (d : Claiming) × (Contains (c ∷ claims) d × (held_by d ≡ holding))
+    either : (b : Bool) (rest : List ClaimView) → (Contains (map held_by rest) holding → (d : ClaimView) × (Contains (c ∷ claims) d × (held_by d ≡ holding)))
+        → Contains (map held_by (cond b (c ∷ rest) rest)) holding → (d : ClaimView) × (Contains (c ∷ claims) d × (held_by d ≡ holding))
     either true rest later is =
         ⊎_elim
         (λ (same : held_by c ≡ holding). (c, (contains_here c claims, same)))
@@ -127,7 +127,7 @@ claim_of w_id (c ∷ claims) holding is =
 
 -- ---- claims of one transaction
 
-pub all_aged : (age : ℕ) (held : List (List Claiming)) → All (AreUndoneBy age) held → All (IsAged age) (all_claims held)
+pub all_aged : (age : ℕ) (held : List (List ClaimView)) → All (AreUndoneBy age) held → All (IsAged age) (all_claims held)
 all_aged age [] h = All-nil (IsAged age)
 all_aged age (claims ∷ held) h =
     All-append (IsAged age) claims (all_claims held) (All-head (AreUndoneBy age) claims held h).1 (all_aged age held (All-tail (AreUndoneBy age) claims held h))
@@ -143,12 +143,12 @@ ending_all slot zero = refl
 ending_all slot (suc left) = omega (arith, sum_by-cons (weigh_slots (of_slot slot)) (Ending slot) (replicate left (Ending slot)), one_weighs slot, ending_all slot left)
 
 module _ {J : Type 0} where
-  carried_aged : (slot : ℕ) (u : UnderWay) (number : ℕ) (o : Option (Journey J)) → IsCarriedAt slot u number o → All (AreUndoneBy u.age) u.held → All (IsAged u.age) (part_carried o).claims
+  carried_aged : (slot : ℕ) (u : ActiveTransaction) (number : ℕ) (o : Option (Flow J)) → IsCarriedAt slot u number o → All (AreUndoneBy u.age) u.held → All (IsAged u.age) (part_carried o).claims
   carried_aged slot u number None h undo = All-nil (IsAged u.age)
-  carried_aged slot u zero (Some journey) h undo = subst (λ (held : List (List Claiming)). All (IsAged u.age) (all_claims held)) (sym h.held) (all_aged u.age u.held undo)
-  carried_aged slot u (suc number) (Some journey) h undo = absurd h
+  carried_aged slot u zero (Some flow) h undo = subst (λ (held : List (List ClaimView)). All (IsAged u.age) (all_claims held)) (sym h.held) (all_aged u.age u.held undo)
+  carried_aged slot u (suc number) (Some flow) h undo = absurd h
 
-  ran_aged : (shared : Shared) (u : UnderWay) (number : ℕ) (one : Ran J) → IsSoundRan shared u number one → All (IsAged u.age) (claims_of_ran one)
+  ran_aged : (shared : SharedTables) (u : ActiveTransaction) (number : ℕ) (one : Ran J) → IsSoundRan shared u number one → All (IsAged u.age) (claims_of_ran one)
   ran_aged shared u number (ran.Done claims found) h = h.1.1.1.1
   ran_aged shared u number (ran.Died group holder) h = All-nil (IsAged u.age)
   ran_aged shared u number ran.NoMemory h = All-nil (IsAged u.age)
@@ -181,15 +181,15 @@ module _ {J : Type 0} where
 
   -- ---- a transaction that is active awaits something
 
-  pub active_awaits : (shared : Shared) (slot : ℕ) (u : UnderWay) (a : Active J) → IsSoundActive shared slot u (Some a) → 1 ≤ sum_by (weigh_slots (of_slot slot)) (awaited slot (Some a))
+  pub active_awaits : (shared : SharedTables) (slot : ℕ) (u : ActiveTransaction) (a : Active J) → IsSoundActive shared slot u (Some a) → 1 ≤ sum_by (weigh_slots (of_slot slot)) (awaited slot (Some a))
   active_awaits shared slot u (active.Acting first places) h = omega (arith, acting_all slot (awaited_from first places), as_many_from first places, h.awaits)
   active_awaits shared slot u active.Committing h = omega (arith, sum_by-cons (weigh_slots (of_slot slot)) (Committing slot) [], one_weighs slot)
   active_awaits shared slot u (active.Ending left) h = omega (arith, ending_all slot left, h.0)
 
   -- ---- whose a claim is
 
-  module _ (shared : Shared) (at : Courses) (slots : List (Option (Active J))) (c : Claiming) where
-    -- of tokens that are under way each is awaited
+  module _ (shared : SharedTables) (at : ActiveTransactions) (slots : List (Option (Active J))) (c : ClaimView) where
+    -- of tokens that are in flight each is awaited
     abbrev AreAwaited : List Token → Type 0
     AreAwaited tokens = (weight : Token → ℕ) → sum_by weight tokens ≤ sum_by weight (awaited_by_all 0 slots)
 
@@ -197,23 +197,23 @@ module _ {J : Type 0} where
       -- what the earlier phases hold, or what is carried
       held_active : (slot place : ℕ) → 1 ≤ sum_by (weigh_acting slot place) (awaited_by_all 0 slots) → Contains (all_claims (at slot).held) c → IsActiveAt at slots c.by.age
       held_active slot place some is =
-          let there = acting_under_way slot place slots some in
+          let there = acting_in_flight slot place slots some in
           let phase = sound slot (Some (active.Acting there.0 there.1.0)) there.1.1.0 in
           (slot, (active.Acting there.0 there.1.0, (there.1.1.0, All-contains (IsAged (at slot).age) (all_claims (at slot).held) c (all_aged (at slot).age (at slot).held phase.undo) is)))
 
-      carried_active : (slot number place : ℕ) (o : Option (Journey J)) → IsCarriedAt slot (at slot) number o → 1 ≤ sum_by (weigh_acting slot place) (awaited_by_all 0 slots) → Contains (part_carried o).claims c → IsActiveAt at slots c.by.age
+      carried_active : (slot number place : ℕ) (o : Option (Flow J)) → IsCarriedAt slot (at slot) number o → 1 ≤ sum_by (weigh_acting slot place) (awaited_by_all 0 slots) → Contains (part_carried o).claims c → IsActiveAt at slots c.by.age
       carried_active slot number place None h some is = contains_none c is
-      carried_active slot zero place (Some journey) h some is = held_active slot place some (subst (λ (held : List (List Claiming)). Contains (all_claims held) c) h.held is)
-      carried_active slot (suc number) place (Some journey) h some is = absurd h
+      carried_active slot zero place (Some flow) h some is = held_active slot place some (subst (λ (held : List (List ClaimView)). Contains (all_claims held) c) h.held is)
+      carried_active slot (suc number) place (Some flow) h some is = absurd h
 
       acting_active : (slot place : ℕ) → 1 ≤ sum_by (weigh_acting slot place) (awaited_by_all 0 slots) → c.by.age ≡ (at slot).age → IsActiveAt at slots c.by.age
       acting_active slot place some aged =
-          let there = acting_under_way slot place slots some in
+          let there = acting_in_flight slot place slots some in
           (slot, (active.Acting there.0 there.1.0, (there.1.1.0, aged)))
 
       ending_active : (slot : ℕ) → AreAwaited (Ending slot ∷ []) → c.by.age ≡ (at slot).age → IsActiveAt at slots c.by.age
       ending_active slot awaits aged =
-          let there = ending_under_way slot slots (omega (arith, awaits (weigh_ending slot), sum_by-cons (weigh_ending slot) (Ending slot) [], one_weighs slot)) in
+          let there = ending_in_flight slot slots (omega (arith, awaits (weigh_ending slot), sum_by-cons (weigh_ending slot) (Ending slot) [], one_weighs slot)) in
           (slot, (active.Ending there.0, (there.1.0, aged)))
 
       pub one_acting : (slot place : ℕ) → AreAwaited (Acting slot place ∷ []) → 1 ≤ sum_by (weigh_acting slot place) (awaited_by_all 0 slots)
@@ -225,36 +225,36 @@ module _ {J : Type 0} where
           omega (arith, awaits (weigh_acting slot place), sum_by-cons (weigh_acting slot place) (Acting slot place) (acting_from slot (place + 1) works), acting_weighs slot place)
 
       message_active : (m : Message J) → IsSoundMessage shared at m → AreAwaited (part_message m).tokens → Contains (part_message m).claims c → IsActiveAt at slots c.by.age
-      message_active (Start journey works) h awaits is =
-          let slot = journey.transaction.slot in
+      message_active (Start flow works) h awaits is =
+          let slot = flow.transaction.slot in
           let some : 1 ≤ length works.items = omega (arith, ap (λ (ws : List Work). length ws) h.works_are, some_actions (at slot).progress) in
-          held_active slot (length journey.transaction.held) (first_acting slot (length journey.transaction.held) works.items some awaits) (subst (λ (held : List (List Claiming)). Contains (all_claims held) c) h.journey_is.held is)
-      message_active (Errand errand) h awaits is = carried_active errand.slot h.number errand.place errand.journey h.journey (one_acting errand.slot errand.place awaits) is
+          held_active slot (length flow.transaction.held) (first_acting slot (length flow.transaction.held) works.items some awaits) (subst (λ (held : List (List ClaimView)). Contains (all_claims held) c) h.flow_is.held is)
+      message_active (Act act) h awaits is = carried_active act.slot h.number act.place act.flow h.flow (one_acting act.slot act.place awaits) is
       message_active (Settle slot claims) h awaits is = ending_active slot awaits (All-contains (IsAged (at slot).age) claims c h.1 is)
       message_active (Undo slot claims) h awaits is = ending_active slot awaits (All-contains (IsAged (at slot).age) claims c h.1 is)
 
-      reported_active : (slot place number : ℕ) (r : Report J) → 1 ≤ sum_by (weigh_acting slot place) (awaited_by_all 0 slots) → IsCarriedAt slot (at slot) number r.journey → IsSoundRan shared (at slot) number r.ran
-          → Contains ((part_carried r.journey).claims ++ claims_of_ran r.ran) c → IsActiveAt at slots c.by.age
+      reported_active : (slot place number : ℕ) (r : Report J) → 1 ≤ sum_by (weigh_acting slot place) (awaited_by_all 0 slots) → IsCarriedAt slot (at slot) number r.flow → IsSoundRan shared (at slot) number r.ran
+          → Contains ((part_carried r.flow).claims ++ claims_of_ran r.ran) c → IsActiveAt at slots c.by.age
       reported_active slot place number r some carried ran is =
           ⊎_elim
-          (λ (own : Contains (part_carried r.journey).claims c). carried_active slot number place r.journey carried some own)
+          (λ (own : Contains (part_carried r.flow).claims c). carried_active slot number place r.flow carried some own)
           (λ (done : Contains (claims_of_ran r.ran) c). acting_active slot place some (All-contains (IsAged (at slot).age) (claims_of_ran r.ran) c (ran_aged shared (at slot) number r.ran ran) done))
-          (Contains-append_cases (part_carried r.journey).claims (claims_of_ran r.ran) c is)
+          (Contains-append_cases (part_carried r.flow).claims (claims_of_ran r.ran) c is)
 
       item_active : (i : Item J) → IsSoundItem shared at i → AreAwaited (part_item i).tokens → Contains (part_item i).claims c → IsActiveAt at slots c.by.age
       item_active (item.Push m) h awaits is = message_active m h awaits is
-      item_active (item.Report r) h awaits is = reported_active r.slot r.place h.number r (one_acting r.slot r.place awaits) h.journey h.ran is
+      item_active (item.Report r) h awaits is = reported_active r.slot r.place h.number r (one_acting r.slot r.place awaits) h.flow h.ran is
       item_active (item.Ended slot) h awaits is = contains_none c is
       item_active (item.Commit commit) h awaits is =
           let slot = commit.transaction.slot in
-          let there = commit_under_way slot slots (omega (arith, awaits (weigh_committing slot), sum_by-cons (weigh_committing slot) (Committing slot) [], one_weighs slot)) in
+          let there = commit_in_flight slot slots (omega (arith, awaits (weigh_committing slot), sum_by-cons (weigh_committing slot) (Committing slot) [], one_weighs slot)) in
           (slot, (active.Committing, (there, All-contains (IsAged (at slot).age) (all_claims commit.transaction.held) c (all_aged (at slot).age commit.transaction.held h.undo) is)))
-      item_active (item.Reply told) h awaits is = contains_none c is
+      item_active (item.Reply recorded) h awaits is = contains_none c is
 
   -- a claim that is out is a transaction's that is active
-  pub holder_active : (shared : Shared) (w : Parts J) (h : IsSoundWith shared nothing w) (c : Claiming) → Contains (flight w).claims c → IsActiveAt h.under_way w.desk.active c.by.age
+  pub holder_active : (shared : SharedTables) (w : Parts J) (h : IsSoundWith shared nothing w) (c : ClaimView) → Contains (flight w).claims c → IsActiveAt h.in_flight w.desk.active c.by.age
   holder_active shared w h c is =
-      let at = h.under_way in
+      let at = h.in_flight in
       let slots = w.desk.active in
       let in_inbox = parts part_message w.inbox in
       let in_outbox = parts part_item w.outbox in
@@ -284,8 +284,8 @@ module _ {J : Type 0} where
       (Contains-append_cases in_outbox.claims in_meeting.claims c others))
       (Contains-append_cases in_inbox.claims (in_outbox.claims ++ in_meeting.claims) c is)
     where
-      of_met : (shared : Shared) (at : Courses) (slots : List (Option (Active J))) → ((slot : ℕ) (a : Option (Active J)) → slice_get slots slot ≡ Some a → IsSoundActive shared slot (at slot) a)
-          → (c : Claiming) → Contains (parts part_met (reported_to_all slots)).claims c → IsActiveAt at slots c.by.age
+      of_met : (shared : SharedTables) (at : ActiveTransactions) (slots : List (Option (Active J))) → ((slot : ℕ) (a : Option (Active J)) → slice_get slots slot ≡ Some a → IsSoundActive shared slot (at slot) a)
+          → (c : ClaimView) → Contains (parts part_met (reported_to_all slots)).claims c → IsActiveAt at slots c.by.age
       of_met shared at slots sound c own =
           let one = whose_claim part_met (reported_to_all slots) c own in
           let r = one.0 in
@@ -297,7 +297,7 @@ module _ {J : Type 0} where
           let fine = (phase.reports place.0 r place.1).1.1 in
           let aged : c.by.age ≡ u.age =
           ⊎_elim
-          (λ (carried : Contains (part_carried r.journey).claims c). All-contains (IsAged u.age) (part_carried r.journey).claims c (carried_aged r.slot u fine.number r.journey fine.journey phase.undo) carried)
+          (λ (carried : Contains (part_carried r.flow).claims c). All-contains (IsAged u.age) (part_carried r.flow).claims c (carried_aged r.slot u fine.number r.flow fine.flow phase.undo) carried)
           (λ (done : Contains (claims_of_ran r.ran) c). All-contains (IsAged u.age) (claims_of_ran r.ran) c (ran_aged shared u fine.number r.ran fine.ran) done)
-          (Contains-append_cases (part_carried r.journey).claims (claims_of_ran r.ran) c one.1.1) in
+          (Contains-append_cases (part_carried r.flow).claims (claims_of_ran r.ran) c one.1.1) in
           (slot, (active.Acting there.1.0 there.1.1.0, (there.1.1.1.0, aged)))

@@ -1,7 +1,7 @@
 -- An item is sent.
 use Rattle.std.proofs.Common.{◌≡◌, ℕ, Bool, true, false, List, [], ◌∷◌, ◌++◌, length, Option, Some, None, refl, sym, subst, nat_lt, ◌+◌, ◌-◌, ◌≤◌, arith, ◌∙◌, ap, inl, inr}
 use Rattle.std.specs.List.{slice_get}
-use Rattle.partitions.specs.Parts.{Shared}
+use Rattle.partitions.specs.Parts.{SharedTables}
 use Rattle.schema.specs.Database.{Database}
 use Rattle.history.specs.declared.event.Event.TheVariants.{Send}
 use Rattle.history.specs.declared.event.EventAnswer.{EventAnswer}
@@ -19,10 +19,10 @@ use Rattle.world.specs.Parted.{joined_in}
 use Rattle.world.specs.declared.flight.Report.{Report}
 use Rattle.world.specs.Flights.{Acting, InFlight, nothing, join, part_message, part_item}
 use Rattle.world.specs.Sound.{IsSoundWith, IsSoundMessage, IsSoundCommit, IsSoundItem, IsSoundPhase, awaited_by_all, flight}
-use Rattle.world.specs.Events.{Pushes, Commits, SendsItem, told_of}
+use Rattle.world.specs.Events.{Pushes, Commits, SendsItem, recorded_of}
 use Rattle.world.specs.Worlds.{FitsPart, Fits}
 use Rattle.world.proofs.Fitting.{fits_quiet}
-use Rattle.world.proofs.Tokens.{is_awaited, acting_weighs, weigh_acting, acting_under_way}
+use Rattle.world.proofs.Tokens.{is_awaited, acting_weighs, weigh_acting, acting_in_flight}
 use Rattle.world.proofs.OneSlot.{sound_in}
 use Rattle.world.proofs.Puts.{GoesOn}
 use Rattle.world.proofs.Reporting.{pushes_sound, pushes_fits, put_back_sound, put_back_fits}
@@ -34,13 +34,13 @@ use Rattle.world.specs.Following.{entry_of, release, releasing}
 
 module _ {J : Type 0} where
   -- the next world is sound, and what fitted fits with the Send and its answer at its end
-  pub record SendsOn (shared : Shared) (hand : InFlight) (old : Parts J) (answer : EventAnswer) (new : Parts J) : Type 0 where
+  pub record SendsOn (shared : SharedTables) (hand : InFlight) (old : Parts J) (answer : EventAnswer) (new : Parts J) : Type 0 where
     pub sound : IsSoundWith shared nothing new
     pub fits : (opening : Database) (history : List Step) (executor : ℕ) → FitsPart opening history old.log (joined_in old) old.desk.admitted (join hand (flight old))
         → Fits opening (history ++ step (Send executor) answer ∷ []) new
 
   -- an event that tells nothing of a transaction
-  quietly : (shared : Shared) (hand : InFlight) (old next new : Parts J) (answer : EventAnswer) → GoesOn shared hand old next → answer ≡ Sent → new ≡ next → SendsOn shared hand old answer new
+  quietly : (shared : SharedTables) (hand : InFlight) (old next new : Parts J) (answer : EventAnswer) → GoesOn shared hand old next → answer ≡ Sent → new ≡ next → SendsOn shared hand old answer new
   quietly shared hand old next new answer goes said is = record {
     sound = subst (λ w. IsSoundWith shared nothing w) (sym is) goes.sound;
     fits = λ opening history executor f.
@@ -49,7 +49,7 @@ module _ {J : Type 0} where
         (fits_quiet opening history next.log (joined_in next) next.desk.admitted (flight next) (Send executor) Sent tt (goes.fits opening history f)));
   }
 
-  pub sends_push : (shared : Shared) (w new : Parts J) (message : Message J) (answer : EventAnswer) (room : Bool) → (h : IsSoundWith shared (part_message message) w) → IsSoundMessage shared h.under_way message
+  pub sends_push : (shared : SharedTables) (w new : Parts J) (message : Message J) (answer : EventAnswer) (room : Bool) → (h : IsSoundWith shared (part_message message) w) → IsSoundMessage shared h.in_flight message
       → Pushes room message w answer new → SendsOn shared (part_message message) w answer new
   sends_push shared w new message answer true h s said =
       quietly shared (part_message message) w (record w { inbox = w.inbox ++ message ∷ [] }) new answer
@@ -64,7 +64,7 @@ module _ {J : Type 0} where
             (fits_quiet opening history next.log (joined_in next) next.desk.admitted (flight next) (Send executor) Full tt (put_back_fits opening history w (item.Push message) f)));
       }
 
-  sends_commit : (shared : Shared) (w new : Parts J) (commit : Commit J) (answer : EventAnswer) (h : IsSoundWith shared (part_item (item.Commit commit)) w) (s : IsSoundCommit shared (h.under_way commit.transaction.slot) commit)
+  sends_commit : (shared : SharedTables) (w new : Parts J) (commit : Commit J) (answer : EventAnswer) (h : IsSoundWith shared (part_item (item.Commit commit)) w) (s : IsSoundCommit shared (h.in_flight commit.transaction.slot) commit)
       → Commits commit w answer new → SendsOn shared (part_item (item.Commit commit)) w answer new
   sends_commit shared w new commit answer h s said = by said.logs
     where
@@ -76,36 +76,36 @@ module _ {J : Type 0} where
           let both = logging_goes_on shared w commit h s in
           let next = logging commit w in
           let is : new ≡ next = said.over ∙ (λ i. releasing (logs.2 i).is_settled (release commit.transaction (logs.2 i).pass (logs.2 i).answer (logs.4 i)) (record w { log = logs.3 i })) in
-          let told : answer ≡ Logged (length w.log) = said.answered ∙ ap (λ (l : AnyLogged J). told_of l.answer) logs.2 in
+          let recorded : answer ≡ Logged (length w.log) = said.answered ∙ ap (λ (l : AnyLogged J). recorded_of l.answer) logs.2 in
           record {
             sound = subst (λ v. IsSoundWith shared nothing v) (sym is) both.0;
             fits = λ opening history executor f.
                 subst (λ v. Fits opening (history ++ step (Send executor) answer ∷ []) v) (sym is)
-                (subst (λ a. Fits opening (history ++ step (Send executor) a ∷ []) next) (sym told) (both.1 opening history executor f));
+                (subst (λ a. Fits opening (history ++ step (Send executor) a ∷ []) next) (sym recorded) (both.1 opening history executor f));
           }
       by (inr refused) =
           let why = refused.0 in
-          quietly shared hand w (refusing commit why w) new answer (refusing_goes_on shared w commit h s why) (said.answered ∙ ap (λ (l : AnyLogged J). told_of l.answer) refused.2)
+          quietly shared hand w (refusing commit why w) new answer (refusing_goes_on shared w commit h s why) (said.answered ∙ ap (λ (l : AnyLogged J). recorded_of l.answer) refused.2)
           (said.over ∙ (λ i. releasing (refused.2 i).is_settled (release commit.transaction (refused.2 i).pass (refused.2 i).answer (refused.4 i)) (record w { log = refused.3 i })))
 
-  -- the phase that is under way where a report comes
-  pub phase_at : (shared : Shared) (w : Parts J) (r : Report J) (h : IsSoundWith shared (part_item (item.Report r)) w) (first : ℕ) (slots : List (Option (Report J)))
+  -- the phase that is in flight where a report comes
+  pub phase_at : (shared : SharedTables) (w : Parts J) (r : Report J) (h : IsSoundWith shared (part_item (item.Report r)) w) (first : ℕ) (slots : List (Option (Report J)))
       → slice_get w.desk.active r.slot ≡ Some (Some (active.Acting first slots))
-      → IsSoundPhase shared r.slot (h.under_way r.slot) first slots × ((first ≤ r.place) × (slice_get slots (r.place - first) ≡ Some None))
+      → IsSoundPhase shared r.slot (h.in_flight r.slot) first slots × ((first ≤ r.place) × (slice_get slots (r.place - first) ≡ Some None))
   phase_at shared w r h first slots is =
-      let at = acting_under_way r.slot r.place w.desk.active
+      let at = acting_in_flight r.slot r.place w.desk.active
       (is_awaited (weigh_acting r.slot r.place) (Acting r.slot r.place) (flight w).tokens (awaited_by_all 0 w.desk.active) (acting_weighs r.slot r.place) h.balance.tokens) in
       let found = at.1.1.0 in
       let same : at.0 ≡ first = cc in
       let alike : at.1.0 ≡ slots = cc in (
-        sound_in shared h.under_way r.slot w.desk.active (Some (active.Acting first slots)) h.active is,
+        sound_in shared h.in_flight r.slot w.desk.active (Some (active.Acting first slots)) h.active is,
         (
           subst (λ n. n ≤ r.place) same at.1.1.1.0,
           subst (λ (l : List (Option (Report J))). slice_get l (r.place - first) ≡ Some None) alike (subst (λ n. slice_get at.1.0 (r.place - n) ≡ Some None) same at.1.1.1.1),
         ),
       )
 
-  pub sends_on : (shared : Shared) (w new : Parts J) (i : Item J) (answer : EventAnswer) (h : IsSoundWith shared (part_item i) w) → IsSoundItem shared h.under_way i
+  pub sends_on : (shared : SharedTables) (w new : Parts J) (i : Item J) (answer : EventAnswer) (h : IsSoundWith shared (part_item i) w) → IsSoundItem shared h.in_flight i
       → SendsItem i w answer new → SendsOn shared (part_item i) w answer new
   sends_on shared w new (item.Push message) answer h s said = sends_push shared w new message answer (nat_lt (length w.inbox) 1024) h s said
   sends_on shared w new (item.Report r) answer h s said =
@@ -117,9 +117,9 @@ module _ {J : Type 0} where
   sends_on shared w new (item.Ended slot) answer h s said =
       quietly shared (part_item {J = J} (item.Ended slot)) w _ new answer (ended_goes_on shared slot w h said.1.0 said.1.1.0) said.0 said.1.1.1
   sends_on shared w new (item.Commit commit) answer h s said = sends_commit shared w new commit answer h s said
-  sends_on shared w new (item.Reply told) answer h s said = record {
-    sound = replies_sound shared w told h s said.1.0 said.1.1.0 new said.1.1.1;
+  sends_on shared w new (item.Reply recorded) answer h s said = record {
+    sound = replies_sound shared w recorded h s said.1.0 said.1.1.0 new said.1.1.1;
     fits = λ opening history executor f.
         subst (λ a. Fits opening (history ++ step (Send executor) a ∷ []) new) (sym said.0)
-        (replies_fits shared w told h s said.1.0 said.1.1.0 new said.1.1.1 opening history executor f);
+        (replies_fits shared w recorded h s said.1.0 said.1.1.0 new said.1.1.1 opening history executor f);
   }

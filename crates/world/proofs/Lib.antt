@@ -5,7 +5,7 @@ pub mod Fitting
 pub mod Tokens
 pub mod FreeSlots
 pub mod OneSlot
-pub mod Courses
+pub mod ActiveTransactions
 pub mod Ages
 pub mod Puts
 pub mod Releases
@@ -28,7 +28,7 @@ pub mod Framed
 pub mod Owned
 pub mod Works
 pub mod Parted
-pub mod Stationed
+pub mod ShardView
 pub mod Taking
 pub mod Passes
 pub mod Posting

@@ -4,25 +4,25 @@ use Rattle.std.specs.Prelude.{All, map}
 use Rattle.std.specs.List.{slice_get}
 use Rattle.std.proofs.lemmas.List.{length-map, map-append}
 use Rattle.std.proofs.lemmas.List.Elements.{All-cons, All-nil, All-head, All-tail, All-append}
-use Rattle.partitions.specs.Parts.{Shared}
+use Rattle.partitions.specs.Parts.{SharedTables}
 use Rattle.schema.specs.Database.{Database}
 use Rattle.requests.specs.declared.reply.Reply.{Reply}
 use Rattle.requests.specs.declared.reply.Reply.TheVariants as reply
 use Rattle.requests.specs.declared.group.Group.{Group}
 use Rattle.groups.specs.Footprint.{footprint, groups_of}
-use Rattle.tickets.specs.Claims.{Claiming, all_claims, settled}
+use Rattle.tickets.specs.Claims.{ClaimView, all_claims, settled}
 use Rattle.tickets.specs.Committed.{all_settled}
 use Rattle.commit_log.specs.declared.entry.Entry.{Entry}
 use Rattle.commit_log.specs.declared.log_book.AppendFault.{AppendFault}
 use Rattle.commit_log.specs.declared.log_book.AppendFault.TheVariants as fault
 use Rattle.commit_log.specs.Claimed.{claims_logged}
 use Rattle.commit_log.specs.Items.{item as item_of}
-use Rattle.commit_log.specs.Passing.{Passing, after_item, after_refusal}
+use Rattle.commit_log.specs.PassView.{PassView, after_item, after_refusal}
 use Rattle.history.specs.declared.event.Event.TheVariants.{Send}
 use Rattle.history.specs.declared.event.EventAnswer.TheVariants.{Logged}
-use Rattle.history.specs.History.{Step, step, Unanswered}
+use Rattle.history.specs.History.{Step, step, UnansweredTransaction}
 use Rattle.history.specs.Laws.{with_place}
-use Rattle.slices.specs.Sliced.{AreAllHeld}
+use Rattle.slices.specs.SliceView.{AreAllHeld}
 use Rattle.transactions.specs.declared.laws.TheConstants.{MOST_ACTIONS}
 use Rattle.transactions.specs.Logged.{is_settled, why_refused, Logs}
 use Rattle.transactions.proofs.Settling.{all_logged_given}
@@ -39,7 +39,7 @@ use Rattle.world.specs.Following.{entry_of, release, releasing}
 use Rattle.world.specs.Worlds.{FitsPart, Fits, IsAcceptedIn, IsClaimOf}
 use Rattle.world.proofs.Fitting.{fits_entry, fits_same, logged_held, All-behind, all_accepted, all_claimed}
 use Rattle.world.proofs.Joins.{IsSame, same-refl, same-join}
-use Rattle.world.proofs.Tokens.{is_awaited, weigh_committing, commit_under_way, one_weighs}
+use Rattle.world.proofs.Tokens.{is_awaited, weigh_committing, commit_in_flight, one_weighs}
 use Rattle.world.proofs.Balances.{held_same}
 use Rattle.world.proofs.OneSlot.{lots, flight_apart}
 use Rattle.world.proofs.Puts.{AreServed, GoesOn, Rests, rests_of}
@@ -50,12 +50,12 @@ use Rattle.tickets.proofs.Committed.{All-front}
 -- ---- the claims of what is logged
 
 -- they are still on a group of the same request
-all_settled_claimed : (history : List Step) (cs : List Claiming) → All (IsClaimOf history) cs → All (IsClaimOf history) (all_settled cs)
+all_settled_claimed : (history : List Step) (cs : List ClaimView) → All (IsClaimOf history) cs → All (IsClaimOf history) (all_settled cs)
 all_settled_claimed history [] h = All-nil (IsClaimOf history)
 all_settled_claimed history (c ∷ cs) h =
     All-cons (IsClaimOf history) (settled c) (all_settled cs) (All-head (IsClaimOf history) c cs h) (all_settled_claimed history cs (All-tail (IsClaimOf history) c cs h))
 
-logged_claimed : (history : List Step) (shown : Reply) (cs : List Claiming) → All (IsClaimOf history) cs → All (IsClaimOf history) (claims_logged shown cs)
+logged_claimed : (history : List Step) (shown : Reply) (cs : List ClaimView) → All (IsClaimOf history) cs → All (IsClaimOf history) (claims_logged shown cs)
 logged_claimed history (reply.Done shown) cs h = all_settled_claimed history cs h
 logged_claimed history (reply.RolledBack fault) cs h = h
 
@@ -64,21 +64,21 @@ logged_none : (shown : Reply) → claims_logged shown [] ≡ []
 logged_none (reply.Done shown) = refl
 logged_none (reply.RolledBack fault) = refl
 
-logged_both : (shown : Reply) (cs ds : List Claiming) → claims_logged shown (cs ++ ds) ≡ claims_logged shown cs ++ claims_logged shown ds
+logged_both : (shown : Reply) (cs ds : List ClaimView) → claims_logged shown (cs ++ ds) ≡ claims_logged shown cs ++ claims_logged shown ds
 logged_both (reply.Done shown) cs ds = map-append settled cs ds
 logged_both (reply.RolledBack fault) cs ds = refl
 
-logged_claims : (shown : Reply) (held : List (List Claiming)) → all_claims (map (claims_logged shown) held) ≡ claims_logged shown (all_claims held)
+logged_claims : (shown : Reply) (held : List (List ClaimView)) → all_claims (map (claims_logged shown) held) ≡ claims_logged shown (all_claims held)
 logged_claims shown [] = sym (logged_none shown)
 logged_claims shown (cs ∷ held) = ap (λ ds. claims_logged shown cs ++ ds) (logged_claims shown held) ∙ sym (logged_both shown cs (all_claims held))
 
 -- the log refuses nobody for a death
-tells_no_death : (groups : List Group) (age : ℕ) (why : AppendFault) → NamesOlder groups age (why_refused why)
-tells_no_death groups age fault.NoMemory = tt
-tells_no_death groups age fault.LogFull = tt
+records_no_death : (groups : List Group) (age : ℕ) (why : AppendFault) → NamesOlder groups age (why_refused why)
+records_no_death groups age fault.NoMemory = tt
+records_no_death groups age fault.LogFull = tt
 
 -- a refusal leaves a pass of the same session, which asks the same
-refused_pass : (why : AppendFault) (entries : ℕ) (pass : Passing) → ((after_refusal why entries pass).session ≡ pass.session) × ((after_refusal why entries pass).asks ≡ pass.asks)
+refused_pass : (why : AppendFault) (entries : ℕ) (pass : PassView) → ((after_refusal why entries pass).session ≡ pass.session) × ((after_refusal why entries pass).asks ≡ pass.asks)
 refused_pass fault.NoMemory entries pass = (refl, refl)
 refused_pass fault.LogFull entries pass = (refl, refl)
 
@@ -99,19 +99,19 @@ module _ {J : Type 0} where
       releasing false (release t (after_refusal why (length w.log) t.pass) (Err (why_refused why)) t.held) w
 
   -- as many actions hold claims as before
-  pub as_many_hold : (entry : Entry) (pass : Passing) (old new : List Entry) (held after : List (List Claiming)) (logged : AnyLogged J) → Logs entry pass old held logged new after → length after ≡ length held
-  as_many_hold entry pass old new held after logged (inl logs) = ap (λ (hs : List (List Claiming)). length hs) logs.4 ∙ length-map held (claims_logged entry.reply)
-  as_many_hold entry pass old new held after logged (inr refused) = ap (λ (hs : List (List Claiming)). length hs) refused.4
+  pub as_many_hold : (entry : Entry) (pass : PassView) (old new : List Entry) (held after : List (List ClaimView)) (logged : AnyLogged J) → Logs entry pass old held logged new after → length after ≡ length held
+  as_many_hold entry pass old new held after logged (inl logs) = ap (λ (hs : List (List ClaimView)). length hs) logs.4 ∙ length-map held (claims_logged entry.reply)
+  as_many_hold entry pass old new held after logged (inr refused) = ap (λ (hs : List (List ClaimView)). length hs) refused.4
 
-  module _ (shared : Shared) (w : Parts J) (commit : Commit J) (h : IsSoundWith shared (part_item (item.Commit commit)) w) (s : IsSoundCommit shared (h.under_way commit.transaction.slot) commit) where
+  module _ (shared : SharedTables) (w : Parts J) (commit : Commit J) (h : IsSoundWith shared (part_item (item.Commit commit)) w) (s : IsSoundCommit shared (h.in_flight commit.transaction.slot) commit) where
     abbrev slot : ℕ
     slot = commit.transaction.slot
 
     committing : slice_get w.desk.active slot ≡ Some (Some active.Committing)
-    committing = commit_under_way slot w.desk.active
+    committing = commit_in_flight slot w.desk.active
         (is_awaited (weigh_committing slot) (Committing slot) (flight w).tokens (awaited_by_all 0 w.desk.active) (one_weighs slot) h.balance.tokens)
 
-    rests : Rests shared h.under_way slot w
+    rests : Rests shared h.in_flight slot w
     rests = rests_of shared (part_item (item.Commit commit)) w h slot (Some active.Committing) committing (λ weight. refl)
 
     below : slot < length w.desk.active
@@ -149,8 +149,8 @@ module _ {J : Type 0} where
         let hand = part_item (item.Commit commit) in
         let pending : hand.pending ≡ unanswered_release r ∷ [] = ap (λ u. u ∷ []) (sym is) in
         record {
-          sound = releases_sound shared h.under_way w hand false r rests (active.Committing, committing)
-              (subst (λ n. n < 64) (sym same.0) s.asked.session) (ap (λ asks. asks.number) same.1 ∙ s.asked.number) (tells_no_death (groups_of (footprint r.pass.asks.request)) r.age why)
+          sound = releases_sound shared h.in_flight w hand false r rests (active.Committing, committing)
+              (subst (λ n. n < 64) (sym same.0) s.asked.session) (ap (λ asks. asks.number) same.1 ∙ s.asked.number) (records_no_death (groups_of (footprint r.pass.asks.request)) r.age why)
               s.undo s.few refl held_by_lots pending served;
           fits = λ opening history f. releases_fits opening history w hand false r below refl pending (fits_by_lots opening history f);
         }
@@ -168,13 +168,13 @@ module _ {J : Type 0} where
         let pass = after_item t.pass (item_of place t.number t.request shown) in
         let held = map (claims_logged shown) t.held in
         let r : Release J = release t pass (Ok place) held in
-        let u : Unanswered = with_place place (unanswered_transaction t) in
+        let u : UnansweredTransaction = with_place place (unanswered_transaction t) in
         let claims = claims_logged shown (all_claims t.held) in
         let hand : InFlight = part claims (u ∷ []) [] in
         let settle = is_settled shown in
         let others = lots slot w in
         let few : length held ≤ MOST_ACTIONS = subst (λ n. n ≤ MOST_ACTIONS) (sym (length-map t.held (claims_logged shown))) s.few in
-        let rests_logged : Rests shared h.under_way slot logged_w = record {
+        let rests_logged : Rests shared h.in_flight slot logged_w = record {
           shared_is = rests.shared_is;
           slices = rests.slices;
           inbox = rests.inbox;
@@ -187,7 +187,7 @@ module _ {J : Type 0} where
           sessions = rests.sessions;
           tokens = rests.tokens;
         } in (
-          releases_sound shared h.under_way logged_w hand settle r rests_logged (active.Committing, committing) s.asked.session s.asked.number tt (all_logged_given shown (h.under_way slot).age t.held s.undo) few
+          releases_sound shared h.in_flight logged_w hand settle r rests_logged (active.Committing, committing) s.asked.session s.asked.number tt (all_logged_given shown (h.in_flight slot).age t.held s.undo) few
               (sym (logged_claims shown t.held)) (logged_held shown (joined_in w).holdings (all_claims t.held) others.claims held_by_lots) refl
               (record { alone = served.alone; many = served.many }),
           λ opening history executor f.
@@ -198,7 +198,7 @@ module _ {J : Type 0} where
               let accepted = all_accepted history logged (unanswered_transaction t ∷ others.pending) first.accepted in
               let claimed = all_claimed history logged (own ++ others.claims) first.claimed in
               let after = fits_entry opening history w.log (joined_in w) w.desk.admitted (all_claims t.held) others.claims (unanswered_transaction t) others.pending executor entry
-              refl (sym s.asked.number) (sym s.asked.request) refl (s.carried_out opening ((λ i. record { scale = sym f.scale i; items = sym f.items i }) ∙ h.shared_is)) first.told first.committed in
+              refl (sym s.asked.number) (sym s.asked.request) refl (s.carried_out opening ((λ i. record { scale = sym f.scale i; items = sym f.items i }) ∙ h.shared_is)) first.recorded first.committed in
               releases_fits opening (history ++ step (Send executor) (Logged place) ∷ []) logged_w hand settle r below (sym (logged_claims shown t.held)) refl
-              (record { told = after.0; committed = after.1; held = logged_held shown (joined_in w).holdings (all_claims t.held) others.claims first.held; accepted = All-cons (IsAcceptedIn steps) u others.pending (All-head (IsAcceptedIn steps) (unanswered_transaction t) others.pending accepted) (All-tail (IsAcceptedIn steps) (unanswered_transaction t) others.pending accepted); claimed = All-append (IsClaimOf steps) claims others.claims (logged_claimed steps shown own (All-front (IsClaimOf steps) own others.claims claimed)) (All-behind (IsClaimOf steps) own others.claims claimed); scale = first.scale; items = first.items }),
+              (record { recorded = after.0; committed = after.1; held = logged_held shown (joined_in w).holdings (all_claims t.held) others.claims first.held; accepted = All-cons (IsAcceptedIn steps) u others.pending (All-head (IsAcceptedIn steps) (unanswered_transaction t) others.pending accepted) (All-tail (IsAcceptedIn steps) (unanswered_transaction t) others.pending accepted); claimed = All-append (IsClaimOf steps) claims others.claims (logged_claimed steps shown own (All-front (IsClaimOf steps) own others.claims claimed)) (All-behind (IsClaimOf steps) own others.claims claimed); scale = first.scale; items = first.items }),
         )

@@ -8,14 +8,14 @@ use Rattle.std.proofs.lemmas.List.FromFn.{length-range_with_len}
 use Rattle.std.proofs.lemmas.List.Elements.{All-nil, All-cons, All-append}
 use Rattle.std.proofs.lemmas.List.Sorted.{IsPermutation-refl, IsPermutation-sym, IsPermutation-map, sum_by-IsPermutation}
 use Rattle.std.proofs.lemmas.List.Sums.{sum_by-cons}
-use Rattle.partitions.specs.Parts.{Shared, shared_of}
+use Rattle.partitions.specs.Parts.{SharedTables, shared_of}
 use Rattle.schema.specs.Database.{Database}
 use Rattle.requests.specs.Check.{IsAccepted}
 use Rattle.requests.specs.declared.reply.Reply.{Reply}
 use Rattle.requests.specs.declared.refusal.Refusal.{Refusal}
 use Rattle.requests.specs.declared.refusal.Refusal.TheVariants as refusal
 use Rattle.groups.specs.Footprint.{footprint, groups_of}
-use Rattle.tickets.specs.Claims.{Claiming, all_claims}
+use Rattle.tickets.specs.Claims.{ClaimView, all_claims}
 use Rattle.commit_log.specs.Claimed.{IsCarriedOut}
 use Rattle.history.specs.History.{Step}
 use Rattle.transactions.specs.Works.{HaveAllDone}
@@ -31,23 +31,23 @@ use Rattle.rendezvous.proofs.Awaiting.{all_awaited, report_takes_one_number, non
 use Rattle.world.specs.declared.desk.Active.{Active}
 use Rattle.world.specs.declared.desk.Active.TheVariants as active
 use Rattle.world.specs.declared.flight.Transaction.{Transaction}
-use Rattle.world.specs.declared.flight.Journey.{Journey}
+use Rattle.world.specs.declared.flight.Flow.{Flow}
 use Rattle.world.specs.declared.flight.Report.{Report}
 use Rattle.world.specs.declared.flight.Item.{Item}
 use Rattle.world.specs.declared.flight.Item.TheVariants as item
 use Rattle.world.specs.declared.world.Parts.{Parts}
 use Rattle.world.specs.Parted.{joined_in}
-use Rattle.slices.specs.Sliced.{AreAllHeld}
+use Rattle.slices.specs.SliceView.{AreAllHeld}
 use Rattle.world.proofs.Balances.{held_same}
 use Rattle.world.specs.Flights.{Acting, InFlight, part, join, parts, acting_from, part_met, part_report, part_transaction, unanswered_transaction}
-use Rattle.world.specs.Following.{errands_of, committing, found_in, held_in, holding, refusal_of, refused, releasing, with_active, IfCarried, rans_of}
-use Rattle.world.specs.Sound.{Courses, NamesOlder, UnderWay, IsSoundWith, IsSoundItem, IsSoundReport, IsSoundPhase, IsSoundJourney, IsSoundStart, IsSoundCommit, IsAskedBy, WeighAlike, flight}
+use Rattle.world.specs.Following.{acts_of, committing, found_in, held_in, holding, refusal_of, refused, releasing, with_active, IfCarried, rans_of}
+use Rattle.world.specs.Sound.{ActiveTransactions, NamesOlder, ActiveTransaction, IsSoundWith, IsSoundItem, IsSoundReport, IsSoundPhase, IsSoundFlow, IsSoundStart, IsSoundCommit, IsAskedBy, WeighAlike, flight}
 use Rattle.world.specs.Events.{MeetsAs, MeetsUnless, ReportsInto, goes_on}
 use Rattle.world.specs.Worlds.{FitsPart}
 use Rattle.world.proofs.Joins.{IsSame, same-refl, same-trans, same-join, join-assoc}
 use Rattle.world.proofs.Fitting.{fits_same}
 use Rattle.world.proofs.Asking.{all_acting}
-use Rattle.world.proofs.Courses.{course_on, course_here}
+use Rattle.world.proofs.ActiveTransactions.{transaction_on, transaction_here}
 use Rattle.world.proofs.OneSlot.{lots, flight_apart}
 use Rattle.world.proofs.Puts.{AreServed, GoesOn, Rests, joins_on, puts_fits, puts_sound, rests_of, rests_with}
 use Rattle.world.proofs.Releases.{releases_fits, releases_sound}
@@ -56,7 +56,7 @@ use Rattle.transactions.proofs.OnGroups.{of_footprint}
 use Rattle.transactions.specs.Acting.{AreUndoneBy}
 use Rattle.transactions.proofs.SortedOut.{refused_by_all}
 use Rattle.world.proofs.Reported.{HaveReported, all_done, all_fair, all_undo, few_hold, is_carried, met_one_more, met_tokens, parts_all, phase_reported, put_at, reported-map}
-use Rattle.world.proofs.Works.{errands_fine, part_errands}
+use Rattle.world.proofs.Works.{acts_fine, part_acts}
 
 -- nothing has been reported of a phase that begins
 none_reported : {R : Type 0} (n : ℕ) → reported {R = R} (replicate n None) ≡ []
@@ -104,11 +104,11 @@ module _ {J : Type 0} where
 
   -- ---- a report is kept, since another is awaited
 
-  module _ (shared : Shared) (w : Parts J) (r : Report J) (h : IsSoundWith shared (part_report r) w) (s : IsSoundReport shared (h.under_way r.slot) r)
+  module _ (shared : SharedTables) (w : Parts J) (r : Report J) (h : IsSoundWith shared (part_report r) w) (s : IsSoundReport shared (h.in_flight r.slot) r)
       (first k : ℕ) (here : r.place ≡ first + k) (slots : List (Option (Report J))) (is : slice_get w.desk.active r.slot ≡ Some (Some (active.Acting first slots)))
-      (at : IsSoundPhase shared r.slot (h.under_way r.slot) first slots) (waits : slice_get slots k ≡ Some None) where
-    abbrev u : UnderWay
-    u = h.under_way r.slot
+      (at : IsSoundPhase shared r.slot (h.in_flight r.slot) first slots) (waits : slice_get slots k ≡ Some None) where
+    abbrev u : ActiveTransaction
+    u = h.in_flight r.slot
 
     abbrev filled : List (Option (Report J))
     filled = slice_set slots k (Some r)
@@ -158,7 +158,7 @@ module _ {J : Type 0} where
       none_left = ap (λ (l : List (Option (Report J))). awaited_from first l) (sym all) ∙ none_awaited first reports
 
       -- nothing else of the transaction is awaited
-      rests_there : Rests shared h.under_way r.slot w
+      rests_there : Rests shared h.in_flight r.slot w
       rests_there =
           rests_of shared (part_report r) w h r.slot (Some (active.Acting first slots)) is
           (λ weight.
@@ -169,27 +169,27 @@ module _ {J : Type 0} where
           ))
 
       -- with the transaction that is carried
-      module _ (journey : Journey J) (sound_journey : IsSoundJourney r.slot u journey)
-          (together : parts part_met reports ≡ part (all_claims (journey.transaction.held ++ held_in reports)) (unanswered_transaction journey.transaction ∷ []) []) where
+      module _ (flow : Flow J) (sound_flow : IsSoundFlow r.slot u flow)
+          (together : parts part_met reports ≡ part (all_claims (flow.transaction.held ++ held_in reports)) (unanswered_transaction flow.transaction ∷ []) []) where
         abbrev t : Transaction J
-        t = holding journey.transaction (held_in reports)
+        t = holding flow.transaction (held_in reports)
 
         abbrev hand : InFlight
         hand = part_transaction t (Acting r.slot r.place ∷ [])
 
-        rests : Rests shared h.under_way t.slot w
-        rests = subst (λ n. Rests shared h.under_way n w) (sym sound_journey.slot_is) rests_there
+        rests : Rests shared h.in_flight t.slot w
+        rests = subst (λ n. Rests shared h.in_flight n w) (sym sound_flow.slot_is) rests_there
 
         -- it was active
         was : (x : Active J) × (slice_get w.desk.active t.slot ≡ Some (Some x))
-        was = (active.Acting first slots, subst (λ n. slice_get w.desk.active n ≡ Some (Some (active.Acting first slots))) (sym sound_journey.slot_is) is)
+        was = (active.Acting first slots, subst (λ n. slice_get w.desk.active n ≡ Some (Some (active.Acting first slots))) (sym sound_flow.slot_is) is)
 
         below : t.slot < length w.desk.active
         below = subst (λ n. t.slot < n) (sym rests.slots) rests.below
 
         in_hand : IsSame (join (part_report r) (flight w)) (join hand (lots t.slot w))
         in_hand =
-            subst (λ n. IsSame (join (part_report r) (flight w)) (join hand (lots n w))) (sym sound_journey.slot_is)
+            subst (λ n. IsSame (join (part_report r) (flight w)) (join hand (lots n w))) (sym sound_flow.slot_is)
             (subst (λ (q : InFlight). IsSame (join (part_report r) (flight w)) (join (part q.claims q.pending (Acting r.slot r.place ∷ [])) (lots r.slot w))) together (all_together w first slots k r reports is waits all))
 
         served : AreServed w.desk (unanswered_transaction t ∷ (lots t.slot w).pending)
@@ -204,33 +204,33 @@ module _ {J : Type 0} where
         fits_in_hand opening history f = fits_same opening history w.log (joined_in w) w.desk.admitted (join (part_report r) (flight w)) (join hand (lots t.slot w)) in_hand f
 
         held_is : t.held ≡ u.held ++ held_in reports
-        held_is = ap (λ (hs : List (List Claiming)). hs ++ held_in reports) sound_journey.held
+        held_is = ap (λ (hs : List (List ClaimView)). hs ++ held_in reports) sound_flow.held
 
         undo : All (AreUndoneBy u.age) t.held
         undo = subst (λ hs. All (AreUndoneBy u.age) hs) (sym held_is) (All-append (AreUndoneBy u.age) u.held (held_in reports) at.undo (all_undo shared r.slot u 0 (works_of u.progress) reports have))
 
-        undo_of : (slot : ℕ) → slot ≡ r.slot → All (AreUndoneBy (h.under_way slot).age) t.held
-        undo_of slot is = subst (λ n. All (AreUndoneBy (h.under_way n).age) t.held) (sym is) undo
+        undo_of : (slot : ℕ) → slot ≡ r.slot → All (AreUndoneBy (h.in_flight slot).age) t.held
+        undo_of slot is = subst (λ n. All (AreUndoneBy (h.in_flight n).age) t.held) (sym is) undo
 
         few : length t.held ≤ MOST_ACTIONS
         few = omega (
           arith,
-          ap (λ (hs : List (List Claiming)). length hs) held_is,
+          ap (λ (hs : List (List ClaimView)). length hs) held_is,
           length-append u.held (held_in reports),
           few_hold shared r.slot u 0 (works_of u.progress) reports have,
           few_actions shared u.request u.progress u.held at.reached,
         )
 
         asked : IsAskedBy t
-        asked = record { session = sound_journey.asked.session; slot = sound_journey.asked.slot; number = sound_journey.asked.number; request = sound_journey.asked.request }
+        asked = record { session = sound_flow.asked.session; slot = sound_flow.asked.slot; number = sound_flow.asked.number; request = sound_flow.asked.request }
 
         -- ---- it is refused
 
         pub refuses : (why : Refusal) → NamesOlder (groups_of (footprint u.request)) u.age why → GoesOn shared (part_report r) w (releasing false (refused t why) w)
         refuses why fair = record {
-          sound = releases_sound shared h.under_way w hand false (refused t why) rests was asked.session asked.number
-              (subst (λ q. NamesOlder (groups_of (footprint q)) t.age why) (sym (asked.request ∙ sound_journey.request))
-              (subst (λ n. NamesOlder (groups_of (footprint u.request)) n why) (sym sound_journey.age) fair)) (undo_of t.slot sound_journey.slot_is) few refl held_out refl served;
+          sound = releases_sound shared h.in_flight w hand false (refused t why) rests was asked.session asked.number
+              (subst (λ q. NamesOlder (groups_of (footprint q)) t.age why) (sym (asked.request ∙ sound_flow.request))
+              (subst (λ n. NamesOlder (groups_of (footprint u.request)) n why) (sym sound_flow.age) fair)) (undo_of t.slot sound_flow.slot_is) few refl held_out refl served;
           fits = λ opening history f. releases_fits opening history w hand false (refused t why) below refl refl (fits_in_hand opening history f);
         }
 
@@ -241,16 +241,16 @@ module _ {J : Type 0} where
             let one : Item J = item.Commit (record { transaction = t; reply = shown }) in
             let sound : IsSoundCommit shared u (record { transaction = t; reply = shown }) = record {
               asked = asked;
-              accepted = subst (λ q. IsAccepted shared.scale q) (sym sound_journey.request) (accepted shared u.request u.progress u.held at.reached);
-              carried_out = λ opening same. subst (λ q. IsCarriedOut opening q (all_claims t.held) shown) (sym sound_journey.request) (carried opening same);
+              accepted = subst (λ q. IsAccepted shared.scale q) (sym sound_flow.request) (accepted shared u.request u.progress u.held at.reached);
+              carried_out = λ opening same. subst (λ q. IsCarriedOut opening q (all_claims t.held) shown) (sym sound_flow.request) (carried opening same);
               undo = undo;
               few = few;
             } in
-            let sound_there : IsSoundCommit shared (h.under_way t.slot) (record { transaction = t; reply = shown }) =
-            subst (λ n. IsSoundCommit shared (h.under_way n) (record { transaction = t; reply = shown })) (sym sound_journey.slot_is) sound in
+            let sound_there : IsSoundCommit shared (h.in_flight t.slot) (record { transaction = t; reply = shown }) =
+            subst (λ n. IsSoundCommit shared (h.in_flight n) (record { transaction = t; reply = shown })) (sym sound_flow.slot_is) sound in
             record {
-              sound = puts_sound shared h.under_way t.slot w hand (one ∷ []) (Some active.Committing) rests was refl
-                  (All-cons (IsSoundItem shared h.under_way) one [] sound_there (All-nil (IsSoundItem shared h.under_way))) tt
+              sound = puts_sound shared h.in_flight t.slot w hand (one ∷ []) (Some active.Committing) rests was refl
+                  (All-cons (IsSoundItem shared h.in_flight) one [] sound_there (All-nil (IsSoundItem shared h.in_flight))) tt
                   (IsPermutation-refl (unanswered_transaction t ∷ [])) served
                   (subst (λ cs. IsPermutation (all_claims t.held) cs) (sym (append-nil (all_claims t.held))) (IsPermutation-refl (all_claims t.held))) held_out (λ weight. refl);
               fits = λ opening history f.
@@ -262,19 +262,19 @@ module _ {J : Type 0} where
         next : (progress : Progress) → IsReached shared u.request progress t.held → GoesOn shared (part_report r) w (goes_on t (Next progress) w)
         next progress reached =
             let works = works_of progress in
-            let journey_now : Journey J = record { transaction = t; progress = progress } in
-            let v : UnderWay = record { request = u.request; progress = progress; held = t.held; age = u.age } in
-            let bt : Courses = course_on h.under_way t.slot v in
-            let now : bt t.slot ≡ v = course_here h.under_way t.slot v in
+            let flow_now : Flow J = record { transaction = t; progress = progress } in
+            let v : ActiveTransaction = record { request = u.request; progress = progress; held = t.held; age = u.age } in
+            let bt : ActiveTransactions = transaction_on h.in_flight t.slot v in
+            let now : bt t.slot ≡ v = transaction_here h.in_flight t.slot v in
             let begun : Option (Active J) = Some (active.Acting (length t.held) (replicate (length works) None)) in
             let some : 1 ≤ length works = some_actions progress in
-            let start : IsSoundStart shared v journey_now works = record {
-              journey_is = record { asked = asked; slot_is = refl; request = sound_journey.request; held = refl; progress = refl; age = sound_journey.age };
+            let start : IsSoundStart shared v flow_now works = record {
+              flow_is = record { asked = asked; slot_is = refl; request = sound_flow.request; held = refl; progress = refl; age = sound_flow.age };
               works_are = refl;
               can = can_all shared u.request progress t.held reached;
               few = omega (arith, few_actions shared u.request progress t.held reached);
             } in
-            let errands = part_errands journey_now works some in
+            let acts = part_acts flow_now works some in
             let awaits : map (Acting t.slot) (awaited_from (length t.held) (replicate (length works) None)) ≡ acting_from t.slot (length t.held) works = all_acting (Report J) t.slot (length t.held) works in
             let phase : IsSoundPhase shared t.slot v (length t.held) (replicate (length works) None) = record {
               first_is = refl;
@@ -285,27 +285,27 @@ module _ {J : Type 0} where
               awaits = omega (arith, some, ap (λ (ns : List ℕ). length ns) (all_awaited (Report J) 0 (length works)), length-range_with_len 0 (length works));
             } in
             record {
-              sound = puts_sound shared bt t.slot w hand (errands_of journey_now works) begun (rests_with shared h.under_way t.slot w v (λ x there. ap (λ n. (h.under_way n).age) (sym sound_journey.slot_is)) rests) was (none_reported (length works))
-                  (errands_fine shared bt journey_now works (subst (λ x. IsSoundStart shared x journey_now works) (sym now) start))
+              sound = puts_sound shared bt t.slot w hand (acts_of flow_now works) begun (rests_with shared h.in_flight t.slot w v (λ x there. ap (λ n. (h.in_flight n).age) (sym sound_flow.slot_is)) rests) was (none_reported (length works))
+                  (acts_fine shared bt flow_now works (subst (λ x. IsSoundStart shared x flow_now works) (sym now) start))
                   (subst (λ x. IsSoundPhase {J = J} shared t.slot x (length t.held) (replicate (length works) None)) (sym now) phase)
-                  (subst (λ (q : InFlight). IsPermutation (unanswered_transaction t ∷ []) q.pending) (sym errands) (IsPermutation-refl (unanswered_transaction t ∷ []))) served
-                  (subst (λ (q : InFlight). IsPermutation (all_claims t.held) q.claims) (sym errands) (IsPermutation-refl (all_claims t.held))) held_out
-                  (λ weight. ap (λ (q : InFlight). sum_by weight q.tokens) errands ∙ sym (ap (λ ts. sum_by weight ts) awaits));
+                  (subst (λ (q : InFlight). IsPermutation (unanswered_transaction t ∷ []) q.pending) (sym acts) (IsPermutation-refl (unanswered_transaction t ∷ []))) served
+                  (subst (λ (q : InFlight). IsPermutation (all_claims t.held) q.claims) (sym acts) (IsPermutation-refl (all_claims t.held))) held_out
+                  (λ weight. ap (λ (q : InFlight). sum_by weight q.tokens) acts ∙ sym (ap (λ ts. sum_by weight ts) awaits));
               fits = λ opening history f.
-                  puts_fits opening history w hand (errands_of journey_now works) t.slot begun (none_reported (length works)) below
-                  (subst (λ (q : InFlight). IsPermutation (all_claims t.held) q.claims) (sym errands) (IsPermutation-refl (all_claims t.held)))
-                  (subst (λ (q : InFlight). IsPermutation (unanswered_transaction t ∷ []) q.pending) (sym errands) (IsPermutation-refl (unanswered_transaction t ∷ [])))
+                  puts_fits opening history w hand (acts_of flow_now works) t.slot begun (none_reported (length works)) below
+                  (subst (λ (q : InFlight). IsPermutation (all_claims t.held) q.claims) (sym acts) (IsPermutation-refl (all_claims t.held)))
+                  (subst (λ (q : InFlight). IsPermutation (unanswered_transaction t ∷ []) q.pending) (sym acts) (IsPermutation-refl (unanswered_transaction t ∷ [])))
                   (fits_in_hand opening history f);
             }
 
-        follows : (g : Gathered) → refusal_of None reports ≡ None → FollowsFrom journey.progress (found_in reports) g → GoesOn shared (part_report r) w (goes_on t g w)
+        follows : (g : Gathered) → refusal_of None reports ≡ None → FollowsFrom flow.progress (found_in reports) g → GoesOn shared (part_report r) w (goes_on t g w)
         follows g none leads = by g (subst (λ hs. Follows shared u.request hs g) (sym held_is) (leads shared u.request u.held (held_in reports) reached done))
           where
-            reached : IsReached shared u.request journey.progress u.held
-            reached = subst (λ p. IsReached shared u.request p u.held) (sym sound_journey.progress) at.reached
+            reached : IsReached shared u.request flow.progress u.held
+            reached = subst (λ p. IsReached shared u.request p u.held) (sym sound_flow.progress) at.reached
 
-            done : HaveAllDone shared (works_of journey.progress) (found_in reports) (held_in reports)
-            done = subst (λ p. HaveAllDone shared (works_of p) (found_in reports) (held_in reports)) (sym sound_journey.progress) (all_done shared r.slot u 0 (works_of u.progress) reports have none)
+            done : HaveAllDone shared (works_of flow.progress) (found_in reports) (held_in reports)
+            done = subst (λ p. HaveAllDone shared (works_of p) (found_in reports) (held_in reports)) (sym sound_flow.progress) (all_done shared r.slot u 0 (works_of u.progress) reports have none)
 
             by : (g : Gathered) → Follows shared u.request t.held g → GoesOn shared (part_report r) w (goes_on t g w)
             by (Next progress) is = next progress is
@@ -314,7 +314,7 @@ module _ {J : Type 0} where
         goes_by : {new next_w : Parts J} → new ≡ next_w → GoesOn shared (part_report r) w next_w → GoesOn shared (part_report r) w new
         goes_by is goes = subst (λ v. GoesOn shared (part_report r) w v) (sym is) goes
 
-        pub meets_unless : (why : Option Refusal) (new : Parts J) → refusal_of None reports ≡ why → MeetsUnless why reports journey w new → GoesOn shared (part_report r) w new
+        pub meets_unless : (why : Option Refusal) (new : Parts J) → refusal_of None reports ≡ why → MeetsUnless why reports flow w new → GoesOn shared (part_report r) w new
         meets_unless (Some why) new refused_by_one said =
             let P : Refusal → Type 0 = NamesOlder (groups_of (footprint u.request)) u.age in
             let died = all_fair shared r.slot u (footprint u.request) 0 (works_of u.progress) reports have
@@ -333,10 +333,10 @@ module _ {J : Type 0} where
         by : (works : List Work) → HaveReported shared r.slot u 0 works (q ∷ reports) → GoesOn shared (part_report r) w new
         by [] some = absurd some
         by (work ∷ works) some =
-            let carried = is_carried shared r.slot u q.journey some.0.0 in
-            let journey = carried.0 in
-            let of_journey : MeetsUnless (refusal_of None (q ∷ reports)) (q ∷ reports) journey w new = subst (λ (o : Option (Journey J)). IfCarried o (λ f. MeetsUnless (refusal_of None (q ∷ reports)) (q ∷ reports) f w new)) carried.1.0 said in
-            meets_unless (q ∷ reports) all journey carried.1.1 (parts_all shared r.slot u (work ∷ works) q reports journey some carried.1.0) (refusal_of None (q ∷ reports)) new refl of_journey
+            let carried = is_carried shared r.slot u q.flow some.0.0 in
+            let flow = carried.0 in
+            let of_flow : MeetsUnless (refusal_of None (q ∷ reports)) (q ∷ reports) flow w new = subst (λ (o : Option (Flow J)). IfCarried o (λ f. MeetsUnless (refusal_of None (q ∷ reports)) (q ∷ reports) f w new)) carried.1.0 said in
+            meets_unless (q ∷ reports) all flow carried.1.1 (parts_all shared r.slot u (work ∷ works) q reports flow some carried.1.0) (refusal_of None (q ∷ reports)) new refl of_flow
 
     pub reports_go_on : (new : Parts J) → ReportsInto r.slot first filled w new → GoesOn shared (part_report r) w new
     reports_go_on new said =

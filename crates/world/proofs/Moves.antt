@@ -8,7 +8,7 @@ use Rattle.std.proofs.lemmas.Map.Views.{exact_unsigned_eq}
 use Rattle.std.proofs.lemmas.List.{map-append}
 use Rattle.std.proofs.lemmas.List.Elements.{All-append, All-cons, All-nil}
 use Rattle.std.proofs.lemmas.List.Sums.{sum_by-cons}
-use Rattle.partitions.specs.Parts.{Shared}
+use Rattle.partitions.specs.Parts.{SharedTables}
 use Rattle.history.specs.declared.event.Event.{Event}
 use Rattle.history.specs.declared.event.Event.TheVariants.{Order, Take, Send}
 use Rattle.history.specs.declared.event.EventAnswer.{EventAnswer}
@@ -17,43 +17,43 @@ use Rattle.history.specs.Laws.{IsQuiet}
 use Rattle.range_moves.specs.declared.order.MoveOrder.{MoveOrder}
 use Rattle.range_moves.specs.declared.order.Moving.{Moving}
 use Rattle.range_moves.specs.declared.order.Moving.TheVariants as moving
-use Rattle.range_moves.specs.declared.house.House.{House}
-use Rattle.range_moves.specs.Housing.{Housing, IsHouseOf, IsWarehouse, comes_to, fetched_from, house_installed, house_moved, house_of, house_taken, is_at, is_away, place_of, route_of, with_house}
+use Rattle.range_moves.specs.declared.placement.Placement.{Placement}
+use Rattle.range_moves.specs.Placements.{PlacementsView, IsPlacementOf, IsWarehouse, comes_to, fetched_from, placement_installed, placement_moved, placement_of, placement_taken, is_at, is_away, place_of, route_of, with_placement}
 use Rattle.range_moves.specs.Orders.{size_of}
-use Rattle.range_moves.specs.Traffic.{ComesTo, Dispatch, Going, IsHousedWith, Knows, KnowsOf}
-use Rattle.range_moves.proofs.Housed as housed
-use Rattle.range_moves.proofs.Knowing.{house_same, houses_same, is_itself, place_other}
+use Rattle.range_moves.specs.Traffic.{ComesTo, Dispatch, MessageToSlice, IsLocatedWith, Knows, KnowsOf}
+use Rattle.range_moves.proofs.Located as located
+use Rattle.range_moves.proofs.Knowing.{placement_same, placements_same, is_itself, place_other}
 use Rattle.world.specs.declared.flight.Item.{Item}
 use Rattle.world.specs.declared.flight.Item.TheVariants as item
-use Rattle.world.specs.declared.flight.Letter.{Letter}
+use Rattle.world.specs.declared.flight.Envelope.{Envelope}
 use Rattle.world.specs.declared.flight.Load.TheVariants.{Work, Move}
 use Rattle.world.specs.declared.flight.Message.{Message}
 use Rattle.world.specs.declared.flight.Message.TheVariants as message
-use Rattle.world.specs.declared.flight.Posted.{Posted}
-use Rattle.world.specs.declared.flight.Posted.TheVariants as posted
+use Rattle.world.specs.declared.flight.Outgoing.{Outgoing}
+use Rattle.world.specs.declared.flight.Outgoing.TheVariants as outgoing
 use Rattle.world.specs.declared.world.Core.{Core}
 use Rattle.world.specs.declared.world.Parts.{Parts}
-use Rattle.world.specs.Happening.{CanOrder, answer_arrived, houses_begun, moves, ordering, posted_for, posting, posts_begun}
-use Rattle.world.specs.Letters.{IsPosted, arrived_of, going_in, going_of, goes, home_of_message, is_at_home, items_in, letter, letters_out, messages_in, parked_else, parked_for, sent_in, sent_of, to_itself}
+use Rattle.world.specs.Happening.{CanOrder, answer_arrived, placements_begun, moves, ordering, outgoing_for, posting, posts_begun}
+use Rattle.world.specs.Envelopes.{IsOutgoing, arrived_of, going_in, going_of, goes, home_of_message, is_at_home, items_in, envelope, envelopes_out, messages_in, parked_else, parked_for, sent_in, sent_of, to_itself}
 use Rattle.world.specs.Queues.{all_of, queue_of}
-use Rattle.world.specs.Stations.{waiting_in}
-use Rattle.world.specs.Together.{IsSound, arrived_in, letters_of_all, together}
-use Rattle.world.proofs.Executing.{GoesOnWith, quietly, rehoused}
+use Rattle.world.specs.Shards.{waiting_in}
+use Rattle.world.specs.Together.{IsSound, arrived_in, envelopes_of_all, together}
+use Rattle.world.proofs.Executing.{GoesOnWith, quietly, relocated}
 use Rattle.world.proofs.Passes.{Passes, passes-is, passes-trans, passes_on, passes_shuffled}
-use Rattle.world.proofs.Posting.{Keeps, delivers_keep, delivers_pass, holding, left_out, posts_keep, posts_pass, sends_passes, takes_letter, takes_passes, takes_posted, there_in}
+use Rattle.world.proofs.Posting.{Keeps, delivers_keep, delivers_pass, holding, left_out, posts_keep, posts_pass, sends_passes, takes_envelope, takes_passes, takes_outgoing, there_in}
 use Rattle.world.proofs.Reordered.{queued}
 use Rattle.world.proofs.Shuffles.{Shuffle, same, swap, then, shuffle-cons, shuffle-front, shuffle-map, shuffle-middle, shuffle-order, shuffle-sym}
 
 -- ---- what begins to move
 
-pub begun_executors : (n w_id to : ℕ) (h : Housing) → (houses_begun n w_id to h).executors ≡ h.executors
+pub begun_executors : (n w_id to : ℕ) (h : PlacementsView) → (placements_begun n w_id to h).executors ≡ h.executors
 begun_executors zero w_id to h = refl
-begun_executors (suc n) w_id to h = begun_executors n (w_id + 1) to (with_house h w_id (house_moved (house_of h w_id) to))
+begun_executors (suc n) w_id to h = begun_executors n (w_id + 1) to (with_placement h w_id (placement_moved (placement_of h w_id) to))
 
-begun_houses : (n w_id to : ℕ) (h : Housing) → length (houses_begun n w_id to h).houses ≡ length h.houses
-begun_houses zero w_id to h = refl
-begun_houses (suc n) w_id to h =
-    begun_houses n (w_id + 1) to (with_house h w_id (house_moved (house_of h w_id) to)) ∙ houses_same h w_id (house_moved (house_of h w_id) to)
+begun_placements : (n w_id to : ℕ) (h : PlacementsView) → length (placements_begun n w_id to h).placements ≡ length h.placements
+begun_placements zero w_id to h = refl
+begun_placements (suc n) w_id to h =
+    begun_placements n (w_id + 1) to (with_placement h w_id (placement_moved (placement_of h w_id) to)) ∙ placements_same h w_id (placement_moved (placement_of h w_id) to)
 
 -- those that go from an executor, by what they find
 goes_from : (there : Bool) (from other : ℕ) → cond there None (Some other) ≡ Some from → from ≡ other
@@ -61,95 +61,95 @@ goes_from true from other is = absurd (cc)
 goes_from false from other is = cc
 
 -- after one warehouse has begun, the others rest yet
-rests_next : (h : Housing) (w_id to : ℕ) → 1 ≤ w_id → ((v : ℕ) → w_id ≤ v → is_away (place_of h v) ≡ false)
-    → (v : ℕ) → w_id + 1 ≤ v → is_away (place_of (with_house h w_id (house_moved (house_of h w_id) to)) v) ≡ false
+rests_next : (h : PlacementsView) (w_id to : ℕ) → 1 ≤ w_id → ((v : ℕ) → w_id ≤ v → is_away (place_of h v) ≡ false)
+    → (v : ℕ) → w_id + 1 ≤ v → is_away (place_of (with_placement h w_id (placement_moved (placement_of h w_id) to)) v) ≡ false
 rests_next h w_id to first rests v above =
     let other : v ≢ w_id = λ e. absurd (omega (arith, e, above)) in
-    ap (λ p. is_away p) (place_other h w_id (house_moved (house_of h w_id) to) v first other) ∙ rests v (omega (arith, above))
+    ap (λ p. is_away p) (place_other h w_id (placement_moved (placement_of h w_id) to) v first other) ∙ rests v (omega (arith, above))
 
 -- nothing of these is on its way any more
-none_going : (h : Housing) (gs going : List Going) (sent : List Dispatch) (arrived : ℕ) (parked : List ℕ) → IsHousedWith 0 h (gs ++ going) sent arrived parked → IsHousedWith 0 h going sent arrived parked
+none_going : (h : PlacementsView) (gs going : List MessageToSlice) (sent : List Dispatch) (arrived : ℕ) (parked : List ℕ) → IsLocatedWith 0 h (gs ++ going) sent arrived parked → IsLocatedWith 0 h going sent arrived parked
 none_going h [] going sent arrived parked kept = kept
-none_going h (g ∷ gs) going sent arrived parked kept = none_going h gs going sent arrived parked (housed.going_less 0 h (gs ++ going) sent arrived parked g kept)
+none_going h (g ∷ gs) going sent arrived parked kept = none_going h gs going sent arrived parked (located.going_less 0 h (gs ++ going) sent arrived parked g kept)
 
 arrived_quiet : (executor more : ℕ) → IsQuiet (Send executor) (answer_arrived more)
 arrived_quiet executor zero = tt
 arrived_quiet executor (suc more) = tt
 
 module _ (J : Type 0) where
-  going_more : (from : Option ℕ) (w_id to : ℕ) (more : List (Posted J)) → going_in (letters_out more) ≡ [] → going_in (letters_out (posted_for from w_id to ∷ more)) ≡ []
+  going_more : (from : Option ℕ) (w_id to : ℕ) (more : List (Outgoing J)) → going_in (envelopes_out more) ≡ [] → going_in (envelopes_out (outgoing_for from w_id to ∷ more)) ≡ []
   going_more None w_id to more is = is
   going_more (Some from) w_id to more is = is
 
-  begun_going : (n w_id to : ℕ) (h : Housing) → going_in {J = J} (letters_out (posts_begun n w_id to h)) ≡ []
+  begun_going : (n w_id to : ℕ) (h : PlacementsView) → going_in {J = J} (envelopes_out (posts_begun n w_id to h)) ≡ []
   begun_going zero w_id to h = refl
   begun_going (suc n) w_id to h =
-      let next : Housing = with_house h w_id (house_moved (house_of h w_id) to) in
+      let next : PlacementsView = with_placement h w_id (placement_moved (placement_of h w_id) to) in
       going_more (fetched_from (place_of h w_id) to) w_id to (posts_begun n (w_id + 1) to next) (begun_going n (w_id + 1) to next)
 
-  begun_posts : (n w_id to : ℕ) (h : Housing) → length (posts_begun {J = J} n w_id to h) ≡ n
+  begun_posts : (n w_id to : ℕ) (h : PlacementsView) → length (posts_begun {J = J} n w_id to h) ≡ n
   begun_posts zero w_id to h = refl
-  begun_posts (suc n) w_id to h = omega (arith, begun_posts n (w_id + 1) to (with_house h w_id (house_moved (house_of h w_id) to)))
+  begun_posts (suc n) w_id to h = omega (arith, begun_posts n (w_id + 1) to (with_placement h w_id (placement_moved (placement_of h w_id) to)))
 
   -- one more warehouse has begun, and is as the others
-  keep_more : (from : Option ℕ) (w_id to : ℕ) (posts : List (Posted J)) (h : Housing) (going : List Going) (sent : List Dispatch) (arrived : ℕ) (parked : List ℕ)
-      → ((from ≡ None) → IsHousedWith 0 h going (sent_in (letters_out posts) ++ sent) (sum_by arrived_of posts + suc arrived) parked)
-      → ((other : ℕ) → from ≡ Some other → IsHousedWith 0 h going (sent_in (letters_out posts) ++ record { to = other; what = moving.Fetch w_id to } ∷ sent) (sum_by arrived_of posts + arrived) parked)
-      → IsHousedWith 0 h going (sent_in (letters_out (posted_for from w_id to ∷ posts)) ++ sent) (sum_by arrived_of (posted_for from w_id to ∷ posts) + arrived) parked
+  keep_more : (from : Option ℕ) (w_id to : ℕ) (posts : List (Outgoing J)) (h : PlacementsView) (going : List MessageToSlice) (sent : List Dispatch) (arrived : ℕ) (parked : List ℕ)
+      → ((from ≡ None) → IsLocatedWith 0 h going (sent_in (envelopes_out posts) ++ sent) (sum_by arrived_of posts + suc arrived) parked)
+      → ((other : ℕ) → from ≡ Some other → IsLocatedWith 0 h going (sent_in (envelopes_out posts) ++ record { to = other; what = moving.Fetch w_id to } ∷ sent) (sum_by arrived_of posts + arrived) parked)
+      → IsLocatedWith 0 h going (sent_in (envelopes_out (outgoing_for from w_id to ∷ posts)) ++ sent) (sum_by arrived_of (outgoing_for from w_id to ∷ posts) + arrived) parked
   keep_more None w_id to posts h going sent arrived parked there fetched =
-      let p : Posted J = posted.Arrived in
-      subst (λ n. IsHousedWith 0 h going (sent_in (letters_out posts) ++ sent) n parked) (omega (arith, sum_by-cons arrived_of p posts)) (there refl)
+      let p : Outgoing J = outgoing.Arrived in
+      subst (λ n. IsLocatedWith 0 h going (sent_in (envelopes_out posts) ++ sent) n parked) (omega (arith, sum_by-cons arrived_of p posts)) (there refl)
   keep_more (Some from) w_id to posts h going sent arrived parked there fetched =
       let d : Dispatch = record { to = from; what = moving.Fetch w_id to } in
-      let p : Posted J = posted.Letter (letter from (Move (moving.Fetch w_id to))) in
-      let S = sent_in (letters_out posts) in
-      housed.housed_same 0 h going going (S ++ d ∷ sent) (d ∷ (S ++ sent)) (sum_by arrived_of (p ∷ posts) + arrived) parked parked
+      let p : Outgoing J = outgoing.Envelope (envelope from (Move (moving.Fetch w_id to))) in
+      let S = sent_in (envelopes_out posts) in
+      located.located_same 0 h going going (S ++ d ∷ sent) (d ∷ (S ++ sent)) (sum_by arrived_of (p ∷ posts) + arrived) parked parked
       (shuffle-order going going (same going)) (shuffle-order (S ++ d ∷ sent) (d ∷ (S ++ sent)) (shuffle-middle S (d ∷ []) sent)) (shuffle-order parked parked (same parked))
-      (subst (λ m. IsHousedWith 0 h going (S ++ d ∷ sent) m parked) (omega (arith, sum_by-cons arrived_of p posts)) (fetched from refl))
+      (subst (λ m. IsLocatedWith 0 h going (S ++ d ∷ sent) m parked) (omega (arith, sum_by-cons arrived_of p posts)) (fetched from refl))
 
   -- each step keeps what is kept
-  begun_keep : (n w_id to : ℕ) (h : Housing) (going : List Going) (sent : List Dispatch) (arrived : ℕ) (parked : List ℕ) → 1 ≤ w_id → w_id + n ≤ length h.houses + 1
-      → ((v : ℕ) → w_id ≤ v → is_away (place_of h v) ≡ false) → IsHousedWith n h going sent arrived parked
-      → IsHousedWith 0 (houses_begun n w_id to h) going (sent_in {J = J} (letters_out (posts_begun n w_id to h)) ++ sent) (sum_by arrived_of (posts_begun {J = J} n w_id to h) + arrived) parked
-  begun_keep zero w_id to h going sent arrived parked first last rests kept = subst (λ n. IsHousedWith 0 h going sent n parked) (omega arith) kept
+  begun_keep : (n w_id to : ℕ) (h : PlacementsView) (going : List MessageToSlice) (sent : List Dispatch) (arrived : ℕ) (parked : List ℕ) → 1 ≤ w_id → w_id + n ≤ length h.placements + 1
+      → ((v : ℕ) → w_id ≤ v → is_away (place_of h v) ≡ false) → IsLocatedWith n h going sent arrived parked
+      → IsLocatedWith 0 (placements_begun n w_id to h) going (sent_in {J = J} (envelopes_out (posts_begun n w_id to h)) ++ sent) (sum_by arrived_of (posts_begun {J = J} n w_id to h) + arrived) parked
+  begun_keep zero w_id to h going sent arrived parked first last rests kept = subst (λ n. IsLocatedWith 0 h going sent n parked) (omega arith) kept
   begun_keep (suc n) w_id to h going sent arrived parked first last rests kept =
-      let next : Housing = with_house h w_id (house_moved (house_of h w_id) to) in
+      let next : PlacementsView = with_placement h w_id (placement_moved (placement_of h w_id) to) in
       let there : IsWarehouse h w_id = (first, omega (arith, last)) in
-      let then_last : w_id + 1 + n ≤ length next.houses + 1 = omega (arith, last, houses_same h w_id (house_moved (house_of h w_id) to)) in
+      let then_last : w_id + 1 + n ≤ length next.placements + 1 = omega (arith, last, placements_same h w_id (placement_moved (placement_of h w_id) to)) in
       let then_rests = rests_next h w_id to first rests in
       let away = rests w_id (omega arith) in
-      keep_more (fetched_from (place_of h w_id) to) w_id to (posts_begun n (w_id + 1) to next) (houses_begun n (w_id + 1) to next) going sent arrived parked
+      keep_more (fetched_from (place_of h w_id) to) w_id to (posts_begun n (w_id + 1) to next) (placements_begun n (w_id + 1) to next) going sent arrived parked
       (λ is. begun_keep n (w_id + 1) to next going sent (suc arrived) parked (omega arith) then_last then_rests
-      (housed.moved_there n h going sent arrived parked w_id to away there kept is))
+      (located.moved_there n h going sent arrived parked w_id to away there kept is))
       (λ from is. begun_keep n (w_id + 1) to next going (record { to = from; what = moving.Fetch w_id to } ∷ sent) arrived parked (omega arith) then_last then_rests
-      (housed.moved_from n h going sent arrived parked w_id to away there kept from is))
+      (located.moved_from n h going sent arrived parked w_id to away there kept from is))
 
 module _ {J : Type 0} where
   -- what is posted for a warehouse is of no transaction
-  no_items : (from : Option ℕ) (w_id to : ℕ) (more : List (Posted J)) → items_in more ≡ [] → items_in (posted_for from w_id to ∷ more) ≡ []
+  no_items : (from : Option ℕ) (w_id to : ℕ) (more : List (Outgoing J)) → items_in more ≡ [] → items_in (outgoing_for from w_id to ∷ more) ≡ []
   no_items None w_id to more is = is
   no_items (Some from) w_id to more is = is
 
-  pub begun_items : (n w_id to : ℕ) (h : Housing) → items_in {J = J} (posts_begun n w_id to h) ≡ []
+  pub begun_items : (n w_id to : ℕ) (h : PlacementsView) → items_in {J = J} (posts_begun n w_id to h) ≡ []
   begun_items zero w_id to h = refl
   begun_items (suc n) w_id to h =
-      let next : Housing = with_house h w_id (house_moved (house_of h w_id) to) in
+      let next : PlacementsView = with_placement h w_id (placement_moved (placement_of h w_id) to) in
       no_items (fetched_from (place_of h w_id) to) w_id to (posts_begun n (w_id + 1) to next) (begun_items n (w_id + 1) to next)
 
-  posted_more : (executors : ℕ) (from : Option ℕ) (w_id to : ℕ) (more : List (Posted J)) → ((other : ℕ) → from ≡ Some other → other < executors)
-      → All (IsPosted executors) more → All (IsPosted executors) (posted_for from w_id to ∷ more)
-  posted_more executors None w_id to more below rest = All-cons (IsPosted executors) _ more tt rest
-  posted_more executors (Some from) w_id to more below rest = All-cons (IsPosted executors) _ more (below from refl) rest
+  outgoing_more : (executors : ℕ) (from : Option ℕ) (w_id to : ℕ) (more : List (Outgoing J)) → ((other : ℕ) → from ≡ Some other → other < executors)
+      → All (IsOutgoing executors) more → All (IsOutgoing executors) (outgoing_for from w_id to ∷ more)
+  outgoing_more executors None w_id to more below rest = All-cons (IsOutgoing executors) _ more tt rest
+  outgoing_more executors (Some from) w_id to more below rest = All-cons (IsOutgoing executors) _ more (below from refl) rest
 
-  begun_posted : (executors n w_id to : ℕ) (h : Housing) → 1 ≤ w_id → ((v : ℕ) → w_id ≤ v → route_of h v < executors) → All (IsPosted {J = J} executors) (posts_begun n w_id to h)
-  begun_posted executors zero w_id to h first below = All-nil (IsPosted executors)
-  begun_posted executors (suc n) w_id to h first below =
-      let next : Housing = with_house h w_id (house_moved (house_of h w_id) to) in
-      let rest : All (IsPosted {J = J} executors) (posts_begun n (w_id + 1) to next) =
-      begun_posted executors n (w_id + 1) to next (omega arith)
+  begun_outgoing : (executors n w_id to : ℕ) (h : PlacementsView) → 1 ≤ w_id → ((v : ℕ) → w_id ≤ v → route_of h v < executors) → All (IsOutgoing {J = J} executors) (posts_begun n w_id to h)
+  begun_outgoing executors zero w_id to h first below = All-nil (IsOutgoing executors)
+  begun_outgoing executors (suc n) w_id to h first below =
+      let next : PlacementsView = with_placement h w_id (placement_moved (placement_of h w_id) to) in
+      let rest : All (IsOutgoing {J = J} executors) (posts_begun n (w_id + 1) to next) =
+      begun_outgoing executors n (w_id + 1) to next (omega arith)
       (λ v above. let other : v ≢ w_id = λ e. absurd (omega (arith, e, above)) in
-      subst (λ p. comes_to p < executors) (sym (place_other h w_id (house_moved (house_of h w_id) to) v first other)) (below v (omega (arith, above)))) in
-      posted_more executors (fetched_from (place_of h w_id) to) w_id to (posts_begun n (w_id + 1) to next)
+      subst (λ p. comes_to p < executors) (sym (place_other h w_id (placement_moved (placement_of h w_id) to) v first other)) (below v (omega (arith, above)))) in
+      outgoing_more executors (fetched_from (place_of h w_id) to) w_id to (posts_begun n (w_id + 1) to next)
       (λ from is. subst (λ n. n < executors) (sym (goes_from (is_at (place_of h w_id) to) from (comes_to (place_of h w_id)) is)) (below w_id (omega arith))) rest
 
   -- ---- those that were parked
@@ -184,20 +184,20 @@ module _ {J : Type 0} where
   homes_else w_id (m ∷ ms) = homes_else_more w_id (is_at_home w_id m) m (parked_else w_id ms) refl (homes_else w_id ms)
 
   -- they go to one who knows of the slice
-  module _ (h : Housing) (executor w_id : ℕ) (knows : Knows h executor w_id) where
+  module _ (h : PlacementsView) (executor w_id : ℕ) (knows : Knows h executor w_id) where
     one_knows : (m : Message J) → home_of_message m ≡ w_id → All (KnowsOf h) (goes executor m)
-    one_knows (message.Start journey works) is = All-nil (KnowsOf h)
-    one_knows (message.Errand errand) is = All-cons (KnowsOf h) _ [] (subst (Knows h executor) (sym is) knows) (All-nil (KnowsOf h))
+    one_knows (message.Start flow works) is = All-nil (KnowsOf h)
+    one_knows (message.Act act) is = All-cons (KnowsOf h) _ [] (subst (Knows h executor) (sym is) knows) (All-nil (KnowsOf h))
     one_knows (message.Settle slot claims) is = All-cons (KnowsOf h) _ [] (subst (Knows h executor) (sym is) knows) (All-nil (KnowsOf h))
     one_knows (message.Undo slot claims) is = All-cons (KnowsOf h) _ [] (subst (Knows h executor) (sym is) knows) (All-nil (KnowsOf h))
 
-    more_know : (b : Bool) (m : Message J) (here : List (Message J)) → is_at_home w_id m ≡ b → All (KnowsOf h) (going_in (letters_out (to_itself executor here)))
-        → All (KnowsOf h) (going_in (letters_out (to_itself executor (cond b (m ∷ here) here))))
+    more_know : (b : Bool) (m : Message J) (here : List (Message J)) → is_at_home w_id m ≡ b → All (KnowsOf h) (going_in (envelopes_out (to_itself executor here)))
+        → All (KnowsOf h) (going_in (envelopes_out (to_itself executor (cond b (m ∷ here) here))))
     more_know true m here is rest =
-        All-append (KnowsOf h) (goes executor m) (going_in (letters_out (to_itself executor here))) (one_knows m (exact_unsigned_eq (home_of_message m) w_id is)) rest
+        All-append (KnowsOf h) (goes executor m) (going_in (envelopes_out (to_itself executor here))) (one_knows m (exact_unsigned_eq (home_of_message m) w_id is)) rest
     more_know false m here is rest = rest
 
-    itself_knows : (ms : List (Message J)) → All (KnowsOf h) (going_in (letters_out (to_itself executor (parked_for w_id ms))))
+    itself_knows : (ms : List (Message J)) → All (KnowsOf h) (going_in (envelopes_out (to_itself executor (parked_for w_id ms))))
     itself_knows [] = All-nil (KnowsOf h)
     itself_knows (m ∷ ms) = more_know (is_at_home w_id m) m (parked_for w_id ms) refl (itself_knows ms)
 
@@ -205,20 +205,20 @@ module _ {J : Type 0} where
   itself_items executor [] = refl
   itself_items executor (m ∷ ms) = ap (λ (is : List (Item J)). item.Push m ∷ is) (itself_items executor ms)
 
-  itself_sent : (executor : ℕ) (ms : List (Message J)) → sent_in (letters_out (to_itself executor ms)) ≡ []
+  itself_sent : (executor : ℕ) (ms : List (Message J)) → sent_in (envelopes_out (to_itself executor ms)) ≡ []
   itself_sent executor [] = refl
   itself_sent executor (m ∷ ms) = itself_sent executor ms
 
   itself_arrived : (executor : ℕ) (ms : List (Message J)) → sum_by arrived_of (to_itself executor ms) ≡ 0
   itself_arrived executor [] = refl
-  itself_arrived executor (m ∷ ms) = omega (arith, sum_by-cons arrived_of (posted.Letter (letter executor (Work m))) (to_itself executor ms), itself_arrived executor ms)
+  itself_arrived executor (m ∷ ms) = omega (arith, sum_by-cons arrived_of (outgoing.Envelope (envelope executor (Work m))) (to_itself executor ms), itself_arrived executor ms)
 
-  itself_posted : (executors executor : ℕ) (ms : List (Message J)) → executor < executors → All (IsPosted executors) (to_itself executor ms)
-  itself_posted executors executor [] below = All-nil (IsPosted executors)
-  itself_posted executors executor (m ∷ ms) below = All-cons (IsPosted executors) _ _ below (itself_posted executors executor ms below)
+  itself_outgoing : (executors executor : ℕ) (ms : List (Message J)) → executor < executors → All (IsOutgoing executors) (to_itself executor ms)
+  itself_outgoing executors executor [] below = All-nil (IsOutgoing executors)
+  itself_outgoing executors executor (m ∷ ms) below = All-cons (IsOutgoing executors) _ _ below (itself_outgoing executors executor ms below)
 
   -- messages that have come are to be pushed, one after another
-  all_on : (shared : Shared) (w : Parts J) (ks ms : List (Message J)) (is : List (Item J)) → Passes shared (queued w (ks ++ ms) is) (queued w ms (is ++ map item.Push ks))
+  all_on : (shared : SharedTables) (w : Parts J) (ks ms : List (Message J)) (is : List (Item J)) → Passes shared (queued w (ks ++ ms) is) (queued w ms (is ++ map item.Push ks))
   all_on shared w [] ms is = passes-is shared (queued w ms is) (queued w ms (is ++ [])) (ap (λ (q : List (Item J)). queued w ms q) (sym (append-nil is)))
   all_on shared w (k ∷ ks) ms is =
       let first = queued w (k ∷ (ks ++ ms)) is in
@@ -232,56 +232,56 @@ module _ {J : Type 0} where
   -- ---- the events
 
   -- a sound world has nothing in hand
-  pub sound_kept : (shared : Shared) (w : Core J) → IsSound shared w → Keeps shared [] [] [] 0 w
+  pub sound_kept : (shared : SharedTables) (w : Core J) → IsSound shared w → Keeps shared [] [] [] 0 w
   sound_kept shared w h = record {
     all = h.all;
-    stations = h.stations;
+    shards = h.shards;
     wait = h.wait;
     warehouses = h.warehouses;
     inboxes = h.inboxes;
     outboxes = h.outboxes;
     own = h.own;
-    posted = h.posted;
-    housed = subst (λ n. IsHousedWith 0 w.houses (going_in (letters_of_all w)) (sent_in (letters_of_all w)) n (map home_of_message w.parked)) (omega arith) h.housed;
+    outgoing = h.outgoing;
+    located = subst (λ n. IsLocatedWith 0 w.placements (going_in (envelopes_of_all w)) (sent_in (envelopes_of_all w)) n (map home_of_message w.parked)) (omega arith) h.located;
     no_inbox = h.no_inbox;
     no_outbox = h.no_outbox;
   }
 
   -- an event that changes nothing, and tells nothing
-  pub stays_quiet : (shared : Shared) (w : Core J) (h : IsSound shared w) (event : Event) (answer : EventAnswer) → IsQuiet event answer → GoesOnWith shared w event answer w
+  pub stays_quiet : (shared : SharedTables) (w : Core J) (h : IsSound shared w) (event : Event) (answer : EventAnswer) → IsQuiet event answer → GoesOnWith shared w event answer w
   stays_quiet shared w h event answer quiet = quietly shared w w event answer quiet (sound_kept shared w h) (record { sound = h.all; fits = λ opening history f. f })
 
   -- a move is ordered
-  pub orders : (shared : Shared) (w : Core J) (h : IsSound shared w) (order : MoveOrder) (new : Core J) → CanOrder order w → new ≡ ordering order w → GoesOnWith shared w (Order order) Ordered new
+  pub orders : (shared : SharedTables) (w : Core J) (h : IsSound shared w) (order : MoveOrder) (new : Core J) → CanOrder order w → new ≡ ordering order w → GoesOnWith shared w (Order order) Ordered new
   orders shared w h order new can is =
-      let l : Letter J = letter order.to (Move (moving.Order order)) in
-      let houses : Housing = record w.houses { awaited = size_of order } in
-      let mid : Core J = record w { houses = houses } in
+      let l : Envelope J = envelope order.to (Move (moving.Order order)) in
+      let placements : PlacementsView = record w.placements { awaited = size_of order } in
+      let mid : Core J = record w { placements = placements } in
       let there : order.to < length w.inboxes = omega (arith, can.within.there, h.inboxes) in
-      let L = letters_of_all w in
-      let begun = housed.ordered w.houses (going_in L) (sent_in L) (arrived_in w) (map home_of_message w.parked) order can.none can.within h.housed in
+      let L = envelopes_of_all w in
+      let begun = located.ordered w.placements (going_in L) (sent_in L) (arrived_in w) (map home_of_message w.parked) order can.none can.within h.located in
       let ready : Keeps shared [] [] (l ∷ []) 0 mid =
-      rehoused shared w [] [] [] 0 (sound_kept shared w h) houses w.parked refl refl [] [] (l ∷ []) 0 h.all (subst (λ n. IsHousedWith 0 houses (going_in L) (sent_in (l ∷ L)) n (map home_of_message w.parked)) (omega arith) begun) in
+      relocated shared w [] [] [] 0 (sound_kept shared w h) placements w.parked refl refl [] [] (l ∷ []) 0 h.all (subst (λ n. IsLocatedWith 0 placements (going_in L) (sent_in (l ∷ L)) n (map home_of_message w.parked)) (omega arith) begun) in
       let keeps = delivers_keep shared mid l there ready in
       subst (λ (v : Core J). GoesOnWith shared w (Order order) Ordered v) (sym is) (quietly shared w (ordering order w) (Order order) Ordered tt keeps (delivers_pass shared mid l there h.all))
 
-  module _ (shared : Shared) (w : Core J) (h : IsSound shared w) (below : (w_id : ℕ) → route_of w.houses w_id < w.houses.executors) (executor : ℕ) (rest : List (Letter J)) where
+  module _ (shared : SharedTables) (w : Core J) (h : IsSound shared w) (below : (w_id : ℕ) → route_of w.placements w_id < w.placements.executors) (executor : ℕ) (rest : List (Envelope J)) where
     abbrev left : Core J
     left = record w { inboxes = slice_set w.inboxes executor rest }
 
-    abbrev L : List (Letter J)
-    L = letters_of_all left
+    abbrev L : List (Envelope J)
+    L = envelopes_of_all left
 
     abbrev homes : List ℕ
     homes = map home_of_message w.parked
 
-    -- with a letter of a move in hand
-    module _ (m : Moving) (first : queue_of executor w.inboxes ≡ letter executor (Move m) ∷ rest) where
-      abbrev l : Letter J
-      l = letter executor (Move m)
+    -- with an envelope of a move in hand
+    module _ (m : Moving) (first : queue_of executor w.inboxes ≡ envelope executor (Move m) ∷ rest) where
+      abbrev l : Envelope J
+      l = envelope executor (Move m)
 
       hand : Keeps shared [] [] (l ∷ []) 0 left
-      hand = takes_letter shared w h executor l rest first
+      hand = takes_envelope shared w h executor l rest first
 
       in_hand : Passes shared (together w) (together left)
       in_hand = takes_passes shared w h executor l rest first
@@ -289,90 +289,90 @@ module _ {J : Type 0} where
       there : executor < length w.outboxes
       there = let inbox = there_in shared w h executor l rest first in omega (arith, inbox, h.inboxes, h.outboxes)
 
-      executor_is : executor < w.houses.executors
+      executor_is : executor < w.placements.executors
       executor_is = omega (arith, there, h.outboxes)
 
       -- what the move has put is posted
-      module _ (houses : Housing) (parked : List (Message J)) (posts : List (Posted J)) (executors : houses.executors ≡ w.houses.executors) (many : length houses.houses ≡ length w.houses.houses) where
+      module _ (placements : PlacementsView) (parked : List (Message J)) (posts : List (Outgoing J)) (executors : placements.executors ≡ w.placements.executors) (many : length placements.placements ≡ length w.placements.placements) where
         abbrev mid : Core J
-        mid = record left { houses = houses; parked = parked }
+        mid = record left { placements = placements; parked = parked }
 
         posts_on : (new : Core J) → new ≡ posting executor posts mid → Passes shared (together left) (holding [] (items_in posts) mid)
-            → IsHousedWith 0 houses (going_in (letters_out posts) ++ going_in L) (sent_in (letters_out posts) ++ sent_in L) (sum_by arrived_of posts + arrived_in left) (map home_of_message parked)
-            → All (IsPosted houses.executors) posts → GoesOnWith shared w (Take executor) Took new
+            → IsLocatedWith 0 placements (going_in (envelopes_out posts) ++ going_in L) (sent_in (envelopes_out posts) ++ sent_in L) (sum_by arrived_of posts + arrived_in left) (map home_of_message parked)
+            → All (IsOutgoing placements.executors) posts → GoesOnWith shared w (Take executor) Took new
         posts_on new is passes kept fine =
-            let more = letters_out posts in
-            let going : going_in (more ++ L) ≡ going_in more ++ going_in L = flat_map-append (λ (l : Letter J). going_of l.to l.load) more L in
-            let sent : sent_in (more ++ L) ≡ sent_in more ++ sent_in L = flat_map-append (λ (l : Letter J). sent_of l.to l.load) more L in
+            let more = envelopes_out posts in
+            let going : going_in (more ++ L) ≡ going_in more ++ going_in L = flat_map-append (λ (l : Envelope J). going_of l.to l.load) more L in
+            let sent : sent_in (more ++ L) ≡ sent_in more ++ sent_in L = flat_map-append (λ (l : Envelope J). sent_of l.to l.load) more L in
             let all : Passes shared (together w) (holding [] (items_in posts) mid) = passes-trans shared (together w) (together left) (holding [] (items_in posts) mid) in_hand passes in
             let ready : Keeps shared [] (items_in posts) more (sum_by arrived_of posts) mid =
-            rehoused shared left [] [] (l ∷ []) 0 hand houses parked executors many [] (items_in posts) more (sum_by arrived_of posts) (all h.all).sound
-            (subst (λ (gs : List Going). IsHousedWith 0 houses gs (sent_in (more ++ L)) (sum_by arrived_of posts + arrived_in left) (map home_of_message parked)) (sym going)
-            (subst (λ (ds : List Dispatch). IsHousedWith 0 houses (going_in more ++ going_in L) ds (sum_by arrived_of posts + arrived_in left) (map home_of_message parked)) (sym sent) kept)) in
+            relocated shared left [] [] (l ∷ []) 0 hand placements parked executors many [] (items_in posts) more (sum_by arrived_of posts) (all h.all).sound
+            (subst (λ (gs : List MessageToSlice). IsLocatedWith 0 placements gs (sent_in (more ++ L)) (sum_by arrived_of posts + arrived_in left) (map home_of_message parked)) (sym going)
+            (subst (λ (ds : List Dispatch). IsLocatedWith 0 placements (going_in more ++ going_in L) ds (sum_by arrived_of posts + arrived_in left) (map home_of_message parked)) (sym sent) kept)) in
             let keeps = posts_keep shared mid executor posts [] there ready fine in
             let next : Core J = posting executor posts mid in
             subst (λ (v : Core J). GoesOnWith shared w (Take executor) Took v) (sym is)
             (quietly shared w next (Take executor) Took tt keeps (passes-trans shared (together w) (holding [] (items_in posts) mid) (together next) all (posts_pass shared mid executor posts [] there) h.all))
 
     -- a move begins
-    pub begins_move : (order : MoveOrder) → queue_of executor w.inboxes ≡ letter executor (Move (moving.Order order)) ∷ rest → (new : Core J) → new ≡ moves executor (moving.Order order) left → GoesOnWith shared w (Take executor) Took new
+    pub begins_move : (order : MoveOrder) → queue_of executor w.inboxes ≡ envelope executor (Move (moving.Order order)) ∷ rest → (new : Core J) → new ≡ moves executor (moving.Order order) left → GoesOnWith shared w (Take executor) Took new
     begins_move order first new is =
         let m : Moving = moving.Order order in
-        let kept = (hand m first).housed in
-        let begun = housed.begun w.houses (going_in L) (sent_in L) (0 + arrived_in left) homes executor order kept in
+        let kept = (hand m first).located in
+        let begun = located.begun w.placements (going_in L) (sent_in L) (0 + arrived_in left) homes executor order kept in
         let n = size_of order in
-        let posts : List (Posted J) = posts_begun n order.lo order.to w.houses in
-        let houses = houses_begun n order.lo order.to w.houses in
+        let posts : List (Outgoing J) = posts_begun n order.lo order.to w.placements in
+        let placements = placements_begun n order.lo order.to w.placements in
         let within = begun.1 in
-        let items : items_in posts ≡ [] = begun_items n order.lo order.to w.houses in
-        let going : going_in (letters_out posts) ≡ [] = begun_going J n order.lo order.to w.houses in
-        let after = begun_keep J n order.lo order.to w.houses (going_in L) (sent_in L) (0 + arrived_in left) homes within.first (omega (arith, within.first, within.some, within.last)) (λ v above. begun.5 v) begun.4 in
-        posts_on m first houses w.parked posts (begun_executors n order.lo order.to w.houses) (begun_houses n order.lo order.to w.houses) new is
-        (passes-is shared (together left) (holding [] (items_in posts) (record left { houses = houses })) (ap (λ (is : List (Item J)). queued w.parts (together left).inbox (is ++ (together left).outbox)) (sym items)))
-        (subst (λ (gs : List Going). IsHousedWith 0 houses (gs ++ going_in L) (sent_in (letters_out posts) ++ sent_in L) (sum_by arrived_of posts + arrived_in left) homes) (sym going)
-        (subst (λ k. IsHousedWith 0 houses (going_in L) (sent_in (letters_out posts) ++ sent_in L) k homes) (omega arith) after))
-        (subst (λ k. All (IsPosted k) posts) (sym (begun_executors n order.lo order.to w.houses)) (begun_posted w.houses.executors n order.lo order.to w.houses within.first (λ v above. below v)))
+        let items : items_in posts ≡ [] = begun_items n order.lo order.to w.placements in
+        let going : going_in (envelopes_out posts) ≡ [] = begun_going J n order.lo order.to w.placements in
+        let after = begun_keep J n order.lo order.to w.placements (going_in L) (sent_in L) (0 + arrived_in left) homes within.first (omega (arith, within.first, within.some, within.last)) (λ v above. begun.5 v) begun.4 in
+        posts_on m first placements w.parked posts (begun_executors n order.lo order.to w.placements) (begun_placements n order.lo order.to w.placements) new is
+        (passes-is shared (together left) (holding [] (items_in posts) (record left { placements = placements })) (ap (λ (is : List (Item J)). queued w.parts (together left).inbox (is ++ (together left).outbox)) (sym items)))
+        (subst (λ (gs : List MessageToSlice). IsLocatedWith 0 placements (gs ++ going_in L) (sent_in (envelopes_out posts) ++ sent_in L) (sum_by arrived_of posts + arrived_in left) homes) (sym going)
+        (subst (λ k. IsLocatedWith 0 placements (going_in L) (sent_in (envelopes_out posts) ++ sent_in L) k homes) (omega arith) after))
+        (subst (λ k. All (IsOutgoing k) posts) (sym (begun_executors n order.lo order.to w.placements)) (begun_outgoing w.placements.executors n order.lo order.to w.placements within.first (λ v above. below v)))
 
     -- a slice is taken out
-    pub takes_out : All (IsHouseOf w.houses.executors) w.houses.houses → w.houses.executors ≤ 16 → (w_id to : ℕ) → queue_of executor w.inboxes ≡ letter executor (Move (moving.Fetch w_id to)) ∷ rest → (new : Core J)
+    pub takes_out : All (IsPlacementOf w.placements.executors) w.placements.placements → w.placements.executors ≤ 16 → (w_id to : ℕ) → queue_of executor w.inboxes ≡ envelope executor (Move (moving.Fetch w_id to)) ∷ rest → (new : Core J)
         → new ≡ moves executor (moving.Fetch w_id to) left → GoesOnWith shared w (Take executor) Took new
-    takes_out houses_kept few w_id to first new is =
+    takes_out placements_kept few w_id to first new is =
         let m : Moving = moving.Fetch w_id to in
-        let kept = (hand m first).housed in
+        let kept = (hand m first).located in
         let own = executor_is m first in
-        let found = housed.fetch_found 0 w.houses (going_in L) (sent_in L) (0 + arrived_in left) homes w_id executor to kept in
-        let p : Posted J = posted.Letter (letter to (Move (moving.Parcel w_id))) in
-        let house = house_taken (house_of w.houses w_id) executor to in
-        let houses = with_house w.houses w_id house in
-        let taken = housed.taken_out 0 w.houses (going_in L) (sent_in L) (0 + arrived_in left) homes w_id executor to houses_kept (omega (arith, own, few)) kept in
-        let below_to : to < w.houses.executors = subst (λ n. n < w.houses.executors) (sym found.2) (below w_id) in
-        posts_on m first houses w.parked (p ∷ []) refl (houses_same w.houses w_id house) new is (λ sound. record { sound = sound; fits = λ opening history f. f })
-        (subst (λ k. IsHousedWith 0 houses (going_in L) (record { to = to; what = moving.Parcel w_id } ∷ sent_in L) k homes) (omega (arith, sum_by-cons {X = Posted J} arrived_of p [])) taken)
-        (All-cons (IsPosted w.houses.executors) p [] below_to (All-nil (IsPosted w.houses.executors)))
+        let found = located.fetch_found 0 w.placements (going_in L) (sent_in L) (0 + arrived_in left) homes w_id executor to kept in
+        let p : Outgoing J = outgoing.Envelope (envelope to (Move (moving.Parcel w_id))) in
+        let placement = placement_taken (placement_of w.placements w_id) executor to in
+        let placements = with_placement w.placements w_id placement in
+        let taken = located.taken_out 0 w.placements (going_in L) (sent_in L) (0 + arrived_in left) homes w_id executor to placements_kept (omega (arith, own, few)) kept in
+        let below_to : to < w.placements.executors = subst (λ n. n < w.placements.executors) (sym found.2) (below w_id) in
+        posts_on m first placements w.parked (p ∷ []) refl (placements_same w.placements w_id placement) new is (λ sound. record { sound = sound; fits = λ opening history f. f })
+        (subst (λ k. IsLocatedWith 0 placements (going_in L) (record { to = to; what = moving.Parcel w_id } ∷ sent_in L) k homes) (omega (arith, sum_by-cons {X = Outgoing J} arrived_of p [])) taken)
+        (All-cons (IsOutgoing w.placements.executors) p [] below_to (All-nil (IsOutgoing w.placements.executors)))
 
     -- a slice is installed
-    pub installs : (w_id : ℕ) → queue_of executor w.inboxes ≡ letter executor (Move (moving.Parcel w_id)) ∷ rest → (new : Core J) → new ≡ moves executor (moving.Parcel w_id) left → GoesOnWith shared w (Take executor) Took new
+    pub installs : (w_id : ℕ) → queue_of executor w.inboxes ≡ envelope executor (Move (moving.Parcel w_id)) ∷ rest → (new : Core J) → new ≡ moves executor (moving.Parcel w_id) left → GoesOnWith shared w (Take executor) Took new
     installs w_id first new is =
         let m : Moving = moving.Parcel w_id in
-        let kept = (hand m first).housed in
+        let kept = (hand m first).located in
         let here = parked_for w_id w.parked in
         let else = parked_else w_id w.parked in
-        let house = house_installed (house_of w.houses w_id) executor in
-        let houses = with_house w.houses w_id house in
-        let g : Going = record { to = executor; w_id = w_id } in
-        let found = housed.parcel_found 0 w.houses (going_in L) (sent_in L) (0 + arrived_in left) homes w_id executor kept in
+        let placement = placement_installed (placement_of w.placements w_id) executor in
+        let placements = with_placement w.placements w_id placement in
+        let g : MessageToSlice = record { to = executor; w_id = w_id } in
+        let found = located.parcel_found 0 w.placements (going_in L) (sent_in L) (0 + arrived_in left) homes w_id executor kept in
         let parts : Shuffle homes (replicate (length here) w_id ++ map home_of_message else) =
         subst (λ (q : List ℕ). Shuffle homes (q ++ map home_of_message else)) (homes_here w_id w.parked)
         (subst (λ (q : List ℕ). Shuffle homes q) (map-append home_of_message here else) (shuffle-map home_of_message w.parked (here ++ else) (by_home w_id w.parked))) in
-        let installed = housed.installed 0 w.houses (going_in L) (sent_in L) (0 + arrived_in left) homes w_id executor (length here) (map home_of_message else) (homes_else w_id w.parked)
+        let installed = located.installed 0 w.placements (going_in L) (sent_in L) (0 + arrived_in left) homes w_id executor (length here) (map home_of_message else) (homes_else w_id w.parked)
         (shuffle-order homes (replicate (length here) w_id ++ map home_of_message else) parts) kept in
-        let less = none_going houses (replicate (length here) g) (going_in L) (sent_in L) (suc (0 + arrived_in left)) (map home_of_message else) installed in
-        let knows : Knows houses executor w_id =
-        subst (λ (p : House). IsTrue (is_at p.place executor) ⊎ (ComesTo p.place executor ⊎ ((to : ℕ) × (slice_index_or p.notes executor None ≡ Some to)))) (sym (house_same w.houses w_id house found.0)) (inl (is_itself executor executor refl)) in
-        let back : List (Posted J) = to_itself executor here in
-        let posts : List (Posted J) = posted.Arrived ∷ back in
-        let goings = going_in (letters_out back) in
-        let more = housed.going_more 0 houses (going_in L) (sent_in L) (suc (0 + arrived_in left)) (map home_of_message else) goings (itself_knows houses executor w_id knows w.parked) less in
+        let less = none_going placements (replicate (length here) g) (going_in L) (sent_in L) (suc (0 + arrived_in left)) (map home_of_message else) installed in
+        let knows : Knows placements executor w_id =
+        subst (λ (p : Placement). IsTrue (is_at p.place executor) ⊎ (ComesTo p.place executor ⊎ ((to : ℕ) × (slice_index_or p.notes executor None ≡ Some to)))) (sym (placement_same w.placements w_id placement found.0)) (inl (is_itself executor executor refl)) in
+        let back : List (Outgoing J) = to_itself executor here in
+        let posts : List (Outgoing J) = outgoing.Arrived ∷ back in
+        let goings = going_in (envelopes_out back) in
+        let more = located.going_more 0 placements (going_in L) (sent_in L) (suc (0 + arrived_in left)) (map home_of_message else) goings (itself_knows placements executor w_id knows w.parked) less in
         let waiting = waiting_in w.parts in
         let come = messages_in (all_of left.inboxes) in
         let items = (together left).outbox in
@@ -381,7 +381,7 @@ module _ {J : Type 0} where
         (shuffle-front waiting (come ++ w.parked) (come ++ (here ++ else)) (shuffle-front come w.parked (here ++ else) (by_home w_id w.parked)))
         (then (waiting ++ (come ++ (here ++ else))) (waiting ++ (here ++ (come ++ else))) (here ++ (waiting ++ (come ++ else)))
         (shuffle-front waiting (come ++ (here ++ else)) (here ++ (come ++ else)) (shuffle-middle come here else)) (shuffle-middle waiting here (come ++ else))) in
-        let last : Parts J = holding [] (items_in posts) (record left { houses = houses; parked = else }) in
+        let last : Parts J = holding [] (items_in posts) (record left { placements = placements; parked = else }) in
         let pushed : Parts J = queued w.parts (waiting ++ (come ++ else)) (items ++ map item.Push here) in
         let passes : Passes shared (together left) last =
         passes-trans shared (together left) (queued w.parts (here ++ (waiting ++ (come ++ else))) items) last (passes_shuffled shared w.parts (waiting ++ (come ++ w.parked)) (here ++ (waiting ++ (come ++ else))) items items out (same items))
@@ -389,30 +389,30 @@ module _ {J : Type 0} where
         (passes_shuffled shared w.parts (waiting ++ (come ++ else)) (waiting ++ (come ++ else)) (items ++ map item.Push here) (items_in posts ++ items) (same (waiting ++ (come ++ else)))
         (subst (λ (q : List (Item J)). Shuffle (items ++ map item.Push here) (q ++ items)) (sym (itself_items executor here)) (swap items (map item.Push here))))) in
         let own = executor_is m first in
-        posts_on m first houses else posts refl (houses_same w.houses w_id house) new is passes
-        (subst (λ (ds : List Dispatch). IsHousedWith 0 houses (goings ++ going_in L) (ds ++ sent_in L) (sum_by arrived_of posts + arrived_in left) (map home_of_message else)) (sym (itself_sent executor here))
-        (subst (λ k. IsHousedWith 0 houses (goings ++ going_in L) (sent_in L) k (map home_of_message else)) (omega (arith, sum_by-cons arrived_of posted.Arrived back, itself_arrived executor here)) more))
-        (All-cons (IsPosted w.houses.executors) posted.Arrived back tt (itself_posted w.houses.executors executor here own))
+        posts_on m first placements else posts refl (placements_same w.placements w_id placement) new is passes
+        (subst (λ (ds : List Dispatch). IsLocatedWith 0 placements (goings ++ going_in L) (ds ++ sent_in L) (sum_by arrived_of posts + arrived_in left) (map home_of_message else)) (sym (itself_sent executor here))
+        (subst (λ k. IsLocatedWith 0 placements (goings ++ going_in L) (sent_in L) k (map home_of_message else)) (omega (arith, sum_by-cons arrived_of outgoing.Arrived back, itself_arrived executor here)) more))
+        (All-cons (IsOutgoing w.placements.executors) outgoing.Arrived back tt (itself_outgoing w.placements.executors executor here own))
 
   -- ---- a slice has arrived
 
-  pub arrives : (shared : Shared) (w : Core J) (h : IsSound shared w) (executor : ℕ) (rest : List (Posted J)) → queue_of executor w.outboxes ≡ posted.Arrived ∷ rest → (answer : EventAnswer) (new : Core J)
-      → answer ≡ answer_arrived (w.houses.awaited - 1) → new ≡ record w { outboxes = slice_set w.outboxes executor rest; houses = record w.houses { awaited = w.houses.awaited - 1 } }
-      → (1 ≤ w.houses.awaited) × GoesOnWith shared w (Send executor) answer new
-  arrives shared w h executor rest first answer new told is =
-      let p : Posted J = posted.Arrived in
-      let hand = takes_posted shared w h executor p rest first in
+  pub arrives : (shared : SharedTables) (w : Core J) (h : IsSound shared w) (executor : ℕ) (rest : List (Outgoing J)) → queue_of executor w.outboxes ≡ outgoing.Arrived ∷ rest → (answer : EventAnswer) (new : Core J)
+      → answer ≡ answer_arrived (w.placements.awaited - 1) → new ≡ record w { outboxes = slice_set w.outboxes executor rest; placements = record w.placements { awaited = w.placements.awaited - 1 } }
+      → (1 ≤ w.placements.awaited) × GoesOnWith shared w (Send executor) answer new
+  arrives shared w h executor rest first answer new recorded is =
+      let p : Outgoing J = outgoing.Arrived in
+      let hand = takes_outgoing shared w h executor p rest first in
       let left = left_out shared w h executor p rest first in
-      let L = letters_of_all left in
+      let L = envelopes_of_all left in
       let homes = map home_of_message w.parked in
-      let kept : IsHousedWith 0 w.houses (going_in L) (sent_in L) (suc (arrived_in left)) homes = subst (λ n. IsHousedWith 0 w.houses (going_in L) (sent_in L) n homes) (omega arith) hand.housed in
-      let reported = housed.reported w.houses (going_in L) (sent_in L) (arrived_in left) homes kept in
-      let houses : Housing = record w.houses { awaited = w.houses.awaited - 1 } in
-      let next : Core J = record left { houses = houses } in
+      let kept : IsLocatedWith 0 w.placements (going_in L) (sent_in L) (suc (arrived_in left)) homes = subst (λ n. IsLocatedWith 0 w.placements (going_in L) (sent_in L) n homes) (omega arith) hand.located in
+      let reported = located.reported w.placements (going_in L) (sent_in L) (arrived_in left) homes kept in
+      let placements : PlacementsView = record w.placements { awaited = w.placements.awaited - 1 } in
+      let next : Core J = record left { placements = placements } in
       let passes = sends_passes shared w h executor p rest first in
       let keeps : Keeps shared [] [] [] 0 next =
-      rehoused shared left [] [] [] 1 hand houses w.parked refl refl [] [] [] 0 (passes h.all).sound (subst (λ n. IsHousedWith 0 houses (going_in L) (sent_in L) n homes) (omega arith) reported.1) in (
+      relocated shared left [] [] [] 1 hand placements w.parked refl refl [] [] [] 0 (passes h.all).sound (subst (λ n. IsLocatedWith 0 placements (going_in L) (sent_in L) n homes) (omega arith) reported.1) in (
         reported.0,
         subst (λ (v : Core J). GoesOnWith shared w (Send executor) answer v) (sym is)
-            (subst (λ a. GoesOnWith shared w (Send executor) a next) (sym told) (quietly shared w next (Send executor) (answer_arrived (w.houses.awaited - 1)) (arrived_quiet executor (w.houses.awaited - 1)) keeps (passes h.all))),
+            (subst (λ a. GoesOnWith shared w (Send executor) a next) (sym recorded) (quietly shared w next (Send executor) (answer_arrived (w.placements.awaited - 1)) (arrived_quiet executor (w.placements.awaited - 1)) keeps (passes h.all))),
       )

@@ -7,15 +7,15 @@ use Rattle.std.proofs.lemmas.List.Elements.{All-contains}
 use Rattle.std.proofs.lemmas.List.Sorted.{Contains-permutation}
 use Rattle.std.proofs.lemmas.List.Sums.{sum_by-append, sum_by-cons}
 use Rattle.std.proofs.lemmas.Map.Views.{exact_unsigned_eq}
-use Rattle.partitions.specs.Parts.{Shared}
-use Rattle.tickets.specs.Claims.{Claiming}
+use Rattle.partitions.specs.Parts.{SharedTables}
+use Rattle.tickets.specs.Claims.{ClaimView}
 use Rattle.local_locks.specs.Asking.{StillWaits}
 use Rattle.local_locks.specs.Laws.{Path}
-use Rattle.local_locks.specs.Locking.{Holding, Waiting}
+use Rattle.local_locks.specs.LockTableView.{HeldClaim, WaitingAction}
 use Rattle.local_locks.proofs.Members.{contains_here, joined_contains}
-use Rattle.slices.specs.Sliced.{held_at}
-use Rattle.transactions.specs.declared.station.Parked.{Parked}
-use Rattle.transactions.specs.Stations.{Stationed, waiting_of}
+use Rattle.slices.specs.SliceView.{held_at}
+use Rattle.transactions.specs.declared.shard.Parked.{Parked}
+use Rattle.transactions.specs.Shards.{ShardView, waiting_of}
 use Rattle.world.specs.declared.flight.Carried.{Carried}
 use Rattle.world.specs.declared.flight.Item.{Item}
 use Rattle.world.specs.declared.flight.Message.{Message}
@@ -23,20 +23,20 @@ use Rattle.world.specs.declared.world.Core.{Core}
 use Rattle.world.specs.declared.world.Parts.{Parts}
 use Rattle.world.specs.Flights.{Token, Acting, parts, part_item, part_message, part_met}
 use Rattle.world.specs.Parted.{joined_in}
-use Rattle.world.specs.Letters.{arrived_of, going_in, home_of_message, items_in, letters_out, messages_in, sent_in}
-use Rattle.range_moves.specs.Traffic.{IsHousedWith}
-use Rattle.range_moves.proofs.Housed.{at_rest as housed_at_rest}
-use Rattle.world.specs.declared.flight.Letter.{Letter}
-use Rattle.world.specs.declared.flight.Posted.{Posted}
-use Rattle.world.specs.Sound.{Courses, IsSoundErrand, IsSoundMessage, awaited_by_all, flight, reported_to_all}
-use Rattle.world.specs.Stations.{HaveToWait, IsStationOf, errand_of, message_of, waiting_at, waiting_in}
-use Rattle.world.specs.Together.{IsSound, arrived_in, letters_of_all, together}
+use Rattle.world.specs.Envelopes.{arrived_of, going_in, home_of_message, items_in, envelopes_out, messages_in, sent_in}
+use Rattle.range_moves.specs.Traffic.{IsLocatedWith}
+use Rattle.range_moves.proofs.Located.{at_rest as located_at_rest}
+use Rattle.world.specs.declared.flight.Envelope.{Envelope}
+use Rattle.world.specs.declared.flight.Outgoing.{Outgoing}
+use Rattle.world.specs.Sound.{ActiveTransactions, IsSoundAct, IsSoundMessage, awaited_by_all, flight, reported_to_all}
+use Rattle.world.specs.Shards.{HaveToWait, IsShardOf, act_of, message_of, waiting_at, waiting_in}
+use Rattle.world.specs.Together.{IsSound, arrived_in, envelopes_of_all, together}
 use Rattle.world.specs.Queues.{all_of}
 use Rattle.range_moves.proofs.Parcels.{owned}
 use Rattle.world.specs.Worlds.{IsAtRest, IsIdleAt, IsNeverStuck, IsOwned, WaitsFor, count_busy}
 use Rattle.world.proofs.OneSlot.{awaited_of, of_slot, sound_in, weigh_slots}
 use Rattle.world.proofs.Quiet.{quiet_rests}
-use Rattle.world.proofs.Stationed.{stands_among}
+use Rattle.world.proofs.ShardView.{stands_among}
 use Rattle.world.proofs.Tokens.{by_bool}
 use Rattle.world.proofs.Holders.{active_awaits, claim_of, contains_mapped, counted_in, empty_of, holder_active, mapped_contains, whose_token}
 use Rattle.world.proofs.Reported.{met_tokens}
@@ -44,10 +44,10 @@ use Rattle.world.proofs.Reported.{met_tokens}
 -- ---- who waits is older than whom it waits for
 
 module _ {J : Type 0} where
-  pub older : (w : Parts J) → All HaveToWait w.stations.items → (t u : ℕ) → WaitsFor w t u → t < u
+  pub older : (w : Parts J) → All HaveToWait w.shards.items → (t u : ℕ) → WaitsFor w t u → t < u
   older w wait t u waits =
-      let have : HaveToWait waits.station = All-contains HaveToWait w.stations.items waits.station wait waits.there in
-      let must = All-contains (StillWaits waits.station.slice.holdings) waits.station.slice.waiters waits.waiting have waits.waits in
+      let have : HaveToWait waits.shard = All-contains HaveToWait w.shards.items waits.shard wait waits.there in
+      let must = All-contains (StillWaits waits.shard.slice.holdings) waits.shard.slice.waiters waits.waiting have waits.waits in
       omega (arith, must.younger waits.holding waits.blocks, waits.age, waits.holder)
 
 -- ages rise along a path
@@ -58,19 +58,19 @@ path_rises waits rises t (next ∷ ages) u path = omega (arith, rises t next pat
 module _ {J : Type 0} where
   -- ---- where nothing can be taken or sent
 
-  -- somebody of this age waits at a station
+  -- somebody of this age waits at a shard
   abbrev Waits : Parts J → ℕ → Type 0
-  Waits w n = (s : Stationed (Carried J)) × (Contains w.stations.items s × ((p : Parked (Carried J)) × (Contains s.parked p × (p.by.age ≡ n))))
+  Waits w n = (s : ShardView (Carried J)) × (Contains w.shards.items s × ((p : Parked (Carried J)) × (Contains s.parked p × (p.by.age ≡ n))))
 
   -- who stands in front of all messages waits
-  who_waits : (w : Parts J) (m : Message J) → Contains (waiting_in w) m → (s : Stationed (Carried J)) × (Contains w.stations.items s × ((p : Parked (Carried J)) × (Contains s.parked p × (message_of p ≡ m))))
+  who_waits : (w : Parts J) (m : Message J) → Contains (waiting_in w) m → (s : ShardView (Carried J)) × (Contains w.shards.items s × ((p : Parked (Carried J)) × (Contains s.parked p × (message_of p ≡ m))))
   who_waits w m is =
-      let in_lists = joined_contains (λ queue. queue) (map waiting_at w.stations.items) m is in
-      let station = mapped_contains waiting_at w.stations.items in_lists.0 in_lists.1 in
-      let action = mapped_contains message_of station.0.parked m (subst (λ (q : List (Message J)). Contains q m) (sym station.1.1) in_lists.2) in
-      (station.0, (station.1.0, (action.0, (action.1.0, action.1.1))))
+      let in_lists = joined_contains (λ queue. queue) (map waiting_at w.shards.items) m is in
+      let shard = mapped_contains waiting_at w.shards.items in_lists.0 in_lists.1 in
+      let action = mapped_contains message_of shard.0.parked m (subst (λ (q : List (Message J)). Contains q m) (sym shard.1.1) in_lists.2) in
+      (shard.0, (shard.1.0, (action.0, (action.1.0, action.1.1))))
 
-  module _ (shared : Shared) (w : Core J) (h : IsSound shared w) (rest : IsAtRest w) where
+  module _ (shared : SharedTables) (w : Core J) (h : IsSound shared w) (rest : IsAtRest w) where
     abbrev all : Parts J
     all = together w
 
@@ -78,12 +78,12 @@ module _ {J : Type 0} where
     waiting = waiting_in w.parts
 
     -- no move is outstanding, and nothing is parked
-    unmoved : (w.houses.awaited ≡ 0) × (map home_of_message w.parked ≡ [])
+    unmoved : (w.placements.awaited ≡ 0) × (map home_of_message w.parked ≡ [])
     unmoved =
-        let letters : letters_of_all w ≡ [] = ap (λ (ls : List (Letter J)). ls ++ letters_out (all_of w.outboxes)) rest.0 ∙ ap (λ (ps : List (Posted J)). letters_out ps) rest.1 in
-        housed_at_rest w.houses (map home_of_message w.parked)
-        (subst (λ (ls : List (Letter J)). IsHousedWith 0 w.houses (going_in ls) (sent_in ls) 0 (map home_of_message w.parked)) letters
-        (subst (λ (ps : List (Posted J)). IsHousedWith 0 w.houses (going_in (letters_of_all w)) (sent_in (letters_of_all w)) (sum_by arrived_of ps) (map home_of_message w.parked)) rest.1 h.housed))
+        let envelopes : envelopes_of_all w ≡ [] = ap (λ (ls : List (Envelope J)). ls ++ envelopes_out (all_of w.outboxes)) rest.0 ∙ ap (λ (ps : List (Outgoing J)). envelopes_out ps) rest.1 in
+        located_at_rest w.placements (map home_of_message w.parked)
+        (subst (λ (ls : List (Envelope J)). IsLocatedWith 0 w.placements (going_in ls) (sent_in ls) 0 (map home_of_message w.parked)) envelopes
+        (subst (λ (ps : List (Outgoing J)). IsLocatedWith 0 w.placements (going_in (envelopes_of_all w)) (sent_in (envelopes_of_all w)) (sum_by arrived_of ps) (map home_of_message w.parked)) rest.1 h.located))
 
     none_parked : w.parked ≡ []
     none_parked = by w.parked unmoved.1
@@ -93,15 +93,15 @@ module _ {J : Type 0} where
         by (m ∷ ms) is = absurd (cc)
 
     inbox_is : all.inbox ≡ waiting
-    inbox_is = ap (λ (ls : List (Letter J)). waiting ++ (messages_in ls ++ w.parked)) rest.0 ∙ ap (λ (q : List (Message J)). waiting ++ q) none_parked ∙ append-nil waiting
+    inbox_is = ap (λ (ls : List (Envelope J)). waiting ++ (messages_in ls ++ w.parked)) rest.0 ∙ ap (λ (q : List (Message J)). waiting ++ q) none_parked ∙ append-nil waiting
 
     outbox_is : all.outbox ≡ []
-    outbox_is = ap (λ (ps : List (Posted J)). items_in ps) rest.1
+    outbox_is = ap (λ (ps : List (Outgoing J)). items_in ps) rest.1
 
-    abbrev at : Courses
-    at = h.all.under_way
+    abbrev at : ActiveTransactions
+    at = h.all.in_flight
 
-    -- what is under way is with who waits, or has met
+    -- what is in flight is with who waits, or has met
     tokens_are : (weight : Token → ℕ) → sum_by weight (parts part_message waiting).tokens ≡ sum_by weight (awaited_by_all 0 all.desk.active)
     tokens_are weight =
         let met = parts part_met (reported_to_all all.desk.active) in
@@ -126,7 +126,7 @@ module _ {J : Type 0} where
         let who = who_waits w.parts one.0 one.1.0 in
         let p = who.1.1.0 in
         let weighs : 1 ≤ sum_by (weigh_slots (of_slot slot)) (part_message (message_of p)).tokens = subst (λ (m : Message J). 1 ≤ sum_by (weigh_slots (of_slot slot)) (part_message m).tokens) (sym who.1.1.1.1) one.1.1 in
-        let fine : IsSoundErrand shared (at p.carried.slot) (errand_of p) = subst (λ (m : Message J). IsSoundMessage shared at m) (sym who.1.1.1.1) (sound_waiting one.0 one.1.0) in
+        let fine : IsSoundAct shared (at p.carried.slot) (act_of p) = subst (λ (m : Message J). IsSoundMessage shared at m) (sym who.1.1.1.1) (sound_waiting one.0 one.1.0) in
         let same : slot ≡ p.carried.slot =
         by_bool (slot == p.carried.slot)
         (λ is. exact_unsigned_eq slot p.carried.slot is)
@@ -134,7 +134,7 @@ module _ {J : Type 0} where
         (who.0, (who.1.0, (p, (who.1.1.1.0, fine.age ∙ ap (λ n. (at n).age) (sym same)))))
 
     -- who has a claim that is out waits too
-    holder_waits : (c : Claiming) → Contains (flight all).claims c → Waits w.parts c.by.age
+    holder_waits : (c : ClaimView) → Contains (flight all).claims c → Waits w.parts c.by.age
     holder_waits c is =
         let holder = holder_active shared all h.all c is in
         let slot = holder.0 in
@@ -147,17 +147,17 @@ module _ {J : Type 0} where
     younger_waits n waits =
         let s = waits.0 in
         let p = waits.1.1.0 in
-        let station = All-contains (IsStationOf shared.scale.warehouses) w.parts.stations.items s h.stations waits.1.0 in
-        let have : HaveToWait s = All-contains HaveToWait w.parts.stations.items s h.wait waits.1.0 in
+        let shard = All-contains (IsShardOf shared.scale.warehouses) w.parts.shards.items s h.shards waits.1.0 in
+        let have : HaveToWait s = All-contains HaveToWait w.parts.shards.items s h.wait waits.1.0 in
         let parked : Contains (map waiting_of s.parked) (waiting_of p) = contains_mapped waiting_of s.parked p waits.1.1.1.0 in
-        let must = All-contains (StillWaits s.slice.holdings) s.slice.waiters (waiting_of p) have (subst (λ (ws : List Waiting). Contains ws (waiting_of p)) (sym station.waiters) parked) in
+        let must = All-contains (StillWaits s.slice.holdings) s.slice.waiters (waiting_of p) have (subst (λ (ws : List WaitingAction). Contains ws (waiting_of p)) (sym shard.waiters) parked) in
         let holding = must.some.0 in
         let w_id = s.slice.home in
         let held : Contains ((joined_in w.parts).holdings w_id) holding =
-        subst (λ (hs : List Holding). Contains hs holding) (sym (stands_among w.parts h.all.slices s waits.1.0)) must.some.1.0 in
+        subst (λ (hs : List HeldClaim). Contains hs holding) (sym (stands_among w.parts h.all.slices s waits.1.0)) must.some.1.0 in
         let out = Contains-permutation ((joined_in w.parts).holdings w_id) (held_at w_id (flight all).claims) holding (h.all.held w_id) held in
         let claim = claim_of w_id (flight all).claims holding out in
-        (claim.0.by.age, (omega (arith, must.younger holding must.some.1, waits.1.1.1.1, ap (λ (x : Holding). x.by.age) claim.1.1), holder_waits claim.0 claim.1.0))
+        (claim.0.by.age, (omega (arith, must.younger holding must.some.1, waits.1.1.1.1, ap (λ (x : HeldClaim). x.by.age) claim.1.1), holder_waits claim.0 claim.1.0))
 
     -- so whoever waits, some wait who are as young as one likes
     as_young : (bound n : ℕ) → Waits w.parts n → (m : ℕ) × ((bound ≤ m) × Waits w.parts m)
@@ -169,7 +169,7 @@ module _ {J : Type 0} where
 
     none_waits : (n : ℕ) → Waits w.parts n → ⊥
     none_waits n waits =
-        let bound = sum_by (λ (s : Stationed (Carried J)). sum_by (λ (p : Parked (Carried J)). p.by.age) s.parked) w.parts.stations.items in
+        let bound = sum_by (λ (s : ShardView (Carried J)). sum_by (λ (p : Parked (Carried J)). p.by.age) s.parked) w.parts.shards.items in
         let one = as_young (suc bound) n waits in
         let who = one.1.1 in
         omega (
@@ -177,7 +177,7 @@ module _ {J : Type 0} where
           one.1.0,
           who.1.1.1.1,
           counted_in (λ (p : Parked (Carried J)). p.by.age) who.0.parked who.1.1.0 who.1.1.1.0,
-          counted_in (λ (s : Stationed (Carried J)). sum_by (λ (p : Parked (Carried J)). p.by.age) s.parked) w.parts.stations.items who.0 who.1.0,
+          counted_in (λ (s : ShardView (Carried J)). sum_by (λ (p : Parked (Carried J)). p.by.age) s.parked) w.parts.shards.items who.0 who.1.0,
         )
 
     nobody_waits : waiting ≡ []
@@ -196,12 +196,12 @@ module _ {J : Type 0} where
           active = both.0;
           claims = both.1;
           waiting = nobody_waits;
-          holdings = λ w_id. empty_of ((joined_in w.parts).holdings w_id) (subst (λ (cs : List Claiming). IsPermutation ((joined_in w.parts).holdings w_id) (held_at w_id cs)) both.1 (h.all.held w_id));
+          holdings = λ w_id. empty_of ((joined_in w.parts).holdings w_id) (subst (λ (cs : List ClaimView). IsPermutation ((joined_in w.parts).holdings w_id) (held_at w_id cs)) both.1 (h.all.held w_id));
           awaited = unmoved.0;
           parked = none_parked;
         }
 
-  pub never_stuck : (shared : Shared) (w : Core J) → IsSound shared w → IsNeverStuck w
+  pub never_stuck : (shared : SharedTables) (w : Core J) → IsSound shared w → IsNeverStuck w
   never_stuck shared w h = record {
     rises = older w.parts h.wait;
     no_circle = λ t ages path. let up = path_rises (WaitsFor w.parts) (older w.parts h.wait) t ages t path in omega (arith, up);
@@ -209,16 +209,16 @@ module _ {J : Type 0} where
   }
 
   -- it is so of how the world is seen
-  pub never_stuck_seen : (shared : Shared) (w seen : Core J) → w ≡ seen → IsSound shared w → IsNeverStuck seen
+  pub never_stuck_seen : (shared : SharedTables) (w seen : Core J) → w ≡ seen → IsSound shared w → IsNeverStuck seen
   never_stuck_seen shared w seen same h = subst IsNeverStuck same (never_stuck shared w h)
 
-  pub rests_idle : (shared : Shared) (w seen : Core J) → w ≡ seen → IsSound shared w → IsAtRest seen → count_busy seen ≡ 0
+  pub rests_idle : (shared : SharedTables) (w seen : Core J) → w ≡ seen → IsSound shared w → IsAtRest seen → count_busy seen ≡ 0
   rests_idle shared w seen same h rest =
       let idle = (never_stuck_seen shared w seen same h).idle rest in
       omega (arith, idle.active, idle.awaited)
 
   -- each slice stands somewhere
-  pub is_owned : (shared : Shared) (w : Core J) → IsSound shared w → IsOwned w
+  pub is_owned : (shared : SharedTables) (w : Core J) → IsSound shared w → IsOwned w
   is_owned shared w h =
-      let letters = letters_of_all w in
-      owned 0 w.houses (going_in letters) (sent_in letters) (arrived_in w) (map home_of_message w.parked) h.housed
+      let envelopes = envelopes_of_all w in
+      owned 0 w.placements (going_in envelopes) (sent_in envelopes) (arrived_in w) (map home_of_message w.parked) h.located

@@ -6,45 +6,45 @@ use Rattle.std.proofs.lemmas.List.Elements.{All-contains, Contains-append_cases,
 use Rattle.std.proofs.lemmas.List.Sorted.{Contains-permutation}
 use Rattle.std.proofs.lemmas.List.Sums.{sum_by-append, sum_by-cons}
 use Rattle.std.proofs.lemmas.Map.Views.{exact_unsigned_eq}
-use Rattle.partitions.specs.Parts.{Shared, shared_of}
+use Rattle.partitions.specs.Parts.{SharedTables, shared_of}
 use Rattle.requests.specs.declared.group.Group.{Group}
 use Rattle.groups.specs.Footprint.{groups_of, footprint}
-use Rattle.tickets.specs.Claims.{Claiming, all_claims}
+use Rattle.tickets.specs.Claims.{ClaimView, all_claims}
 use Rattle.local_locks.specs.Conflicts.{MustDie}
-use Rattle.local_locks.specs.Locking.{Holding}
+use Rattle.local_locks.specs.LockTableView.{HeldClaim}
 use Rattle.local_locks.proofs.Members.{contains_none, contains_here}
 use Rattle.rendezvous.specs.Awaited.{awaited_from, reported}
-use Rattle.slices.specs.Sliced.{held_at, Sliced}
+use Rattle.slices.specs.SliceView.{held_at, SliceView}
 use Rattle.transactions.specs.declared.acting.Ran.{Ran}
 use Rattle.transactions.specs.declared.acting.Ran.TheVariants as ran
 use Rattle.transactions.specs.declared.work.Work.{Work}
 use Rattle.transactions.specs.Acting.{claims_of_ran, IsBy, IsRan, IsAged}
 use Rattle.transactions.specs.Laws.{TransactionsClaimEachGroupOnce}
 use Rattle.transactions.specs.Progresses.{works_of}
-use Rattle.transactions.specs.Works.{wants_of, wishes_of, all_wishes}
+use Rattle.transactions.specs.Works.{wants_of, group_wants_of, all_group_wants}
 use Rattle.transactions.proofs.Reached.{some_actions, within}
-use Rattle.transactions.proofs.Wished.{works_have_a_claim_for_each_wish}
+use Rattle.transactions.proofs.GroupWanted.{works_have_a_claim_for_each_group_want}
 use Rattle.world.specs.declared.desk.Active.{Active}
 use Rattle.world.specs.declared.desk.Active.TheVariants as active
-use Rattle.world.specs.declared.flight.Errand.{Errand as AnyErrand}
-use Rattle.world.specs.declared.flight.Journey.{Journey}
+use Rattle.world.specs.declared.flight.Act.{Act as AnyAct}
+use Rattle.world.specs.declared.flight.Flow.{Flow}
 use Rattle.world.specs.declared.flight.Item.{Item}
 use Rattle.world.specs.declared.flight.Item.TheVariants as item
 use Rattle.world.specs.declared.flight.Message.{Message}
-use Rattle.world.specs.declared.flight.Message.TheVariants.{Start, Errand, Settle, Undo}
+use Rattle.world.specs.declared.flight.Message.TheVariants.{Start, Act, Settle, Undo}
 use Rattle.world.specs.declared.flight.Report.{Report}
 use Rattle.world.specs.declared.world.Parts.{Parts}
 use Rattle.world.specs.Flights.{Token, Acting, Committing, Ending, claims_reported, nothing, parts, part_carried, part_item, part_message, part_met, acting_from, unanswered_transaction}
 use Rattle.world.specs.Parted.{joined_in}
-use Rattle.world.specs.Sound.{Courses, IsCarriedAt, IsSoundErrand, IsSoundActive, IsSoundItem, IsSoundMessage, IsSoundPhase, IsSoundRan, IsSoundReport, IsSoundWith, IsWorkAt, UnderWay, awaited_by_all, flight, reported_to_all, IsActiveAt, IsSoundJourney, reported_to}
+use Rattle.world.specs.Sound.{ActiveTransactions, IsCarriedAt, IsSoundAct, IsSoundActive, IsSoundItem, IsSoundMessage, IsSoundPhase, IsSoundRan, IsSoundReport, IsSoundWith, IsWorkAt, ActiveTransaction, awaited_by_all, flight, reported_to_all, IsActiveAt, IsSoundFlow, reported_to}
 use Rattle.world.proofs.Holders.{all_aged, claim_of, contains_mapped, first_acting, met_at, one_acting, one_of_all, reported_at, whose_claim, holder_active, whose_token, in_parts}
 use Rattle.transactions.proofs.OnGroups.{claim_counts, claimed_once, dies_on, group_counts, one_of_works, two_of_works, counted_there, of_footprint}
 use Rattle.world.proofs.OneSlot.{awaited_of, none_of_slot, of_slot, sound_in, weigh_slots, without}
 use Rattle.world.proofs.Reported.{met_tokens}
-use Rattle.world.proofs.Tokens.{IsFalse, acting_under_way, acting_weighs, by_bool, commit_under_way, ending_under_way, is_itself, is_other, one_weighs, waiting_slot, weigh_acting, weigh_committing, weigh_ending}
+use Rattle.world.proofs.Tokens.{IsFalse, acting_in_flight, acting_weighs, by_bool, commit_in_flight, ending_in_flight, is_itself, is_other, one_weighs, waiting_slot, weigh_acting, weigh_committing, weigh_ending}
 use Rattle.schema.specs.Database.{Database}
 use Rattle.wait_die.specs.declared.deciding.Holder.{Holder}
-use Rattle.history.specs.History.{Step, Unanswered}
+use Rattle.history.specs.History.{Step, UnansweredTransaction}
 use Rattle.world.specs.Events.{holder_of}
 use Rattle.world.specs.Worlds.{DiesOf, Fits, IsAcceptedIn, IsClaimOf, WasAccepted}
 
@@ -121,9 +121,9 @@ reported_among zero (a ∷ slots) first places r is among =
     Contains-append_left (reported_to a) (reported_to_all slots) r (subst (λ o. Contains (reported_to o) r) (sym same) among)
 reported_among (suc slot) (a ∷ slots) first places r is among = Contains-append_right (reported_to a) (reported_to_all slots) r (reported_among slot slots first places r is among)
 
-module _ {J : Type 0} (shared : Shared) (w : Parts J) (h : IsSoundWith shared nothing w) where
-  abbrev at : Courses
-  at = h.under_way
+module _ {J : Type 0} (shared : SharedTables) (w : Parts J) (h : IsSoundWith shared nothing w) where
+  abbrev at : ActiveTransactions
+  at = h.in_flight
 
   abbrev slots : List (Option (Active J))
   slots = w.desk.active
@@ -131,7 +131,7 @@ module _ {J : Type 0} (shared : Shared) (w : Parts J) (h : IsSoundWith shared no
   sound : (slot : ℕ) (a : Option (Active J)) → slice_get slots slot ≡ Some a → IsSoundActive shared slot (at slot) a
   sound slot a there = sound_in shared at slot slots a h.active there
 
-  -- what is under way is what is awaited
+  -- what is in flight is what is awaited
   tokens : (weight : Token → ℕ) → sum_by weight (parts part_message w.inbox).tokens + sum_by weight (parts part_item w.outbox).tokens ≡ sum_by weight (awaited_by_all 0 slots)
   tokens weight =
       let in_inbox = parts part_message w.inbox in
@@ -147,7 +147,7 @@ module _ {J : Type 0} (shared : Shared) (w : Parts J) (h : IsSoundWith shared no
 
   -- ---- whose a claim is
 
-  -- a phase is under way of the transaction in this slot
+  -- a phase is in flight of the transaction in this slot
   abbrev pub IsActing : ℕ → Type 0
   IsActing slot = (first : ℕ) × ((places : List (Option (Report J))) × (slice_get slots slot ≡ Some (Some (active.Acting first places))))
 
@@ -155,45 +155,45 @@ module _ {J : Type 0} (shared : Shared) (w : Parts J) (h : IsSoundWith shared no
   abbrev IsOver : ℕ → Type 0
   IsOver slot = (slice_get slots slot ≡ Some (Some active.Committing)) ⊎ ((left : ℕ) × (slice_get slots slot ≡ Some (Some (active.Ending left))))
 
-  -- an action of its phase wished for the claim's group, and is not to run any more
-  abbrev HasRun : ℕ → Claiming → Type 0
+  -- an action of its phase wanted for the claim's group, and is not to run any more
+  abbrev HasRun : ℕ → ClaimView → Type 0
   HasRun slot c =
       (number : ℕ) × ((work : Work) × (IsWorkAt (at slot) number work
-      × (Contains (groups_of (wishes_of work)) c.group × (sum_by (weigh_acting slot (length (at slot).held + number)) (parts part_message w.inbox).tokens ≡ 0))))
+      × (Contains (groups_of (group_wants_of work)) c.group × (sum_by (weigh_acting slot (length (at slot).held + number)) (parts part_message w.inbox).tokens ≡ 0))))
 
   -- how the transaction in this slot comes by the claim
-  abbrev Has : ℕ → Claiming → Type 0
+  abbrev Has : ℕ → ClaimView → Type 0
   Has slot c = (IsActing slot × (Contains (all_claims (at slot).held) c ⊎ HasRun slot c)) ⊎ IsOver slot
 
   -- the slot of the transaction that has it
-  abbrev Whose : Claiming → Type 0
+  abbrev Whose : ClaimView → Type 0
   Whose c = (slot : ℕ) × ((c.by.age ≡ (at slot).age) × Has slot c)
 
   acting_at : (slot place : ℕ) → 1 ≤ sum_by (weigh_acting slot place) (awaited_by_all 0 slots) → IsActing slot
-  acting_at slot place some = let there = acting_under_way slot place slots some in (there.0, (there.1.0, there.1.1.0))
+  acting_at slot place some = let there = acting_in_flight slot place slots some in (there.0, (there.1.0, there.1.1.0))
 
-  active_of : (slot : ℕ) (c : Claiming) → Has slot c → (a : Active J) × (slice_get slots slot ≡ Some (Some a))
+  active_of : (slot : ℕ) (c : ClaimView) → Has slot c → (a : Active J) × (slice_get slots slot ≡ Some (Some a))
   active_of slot c (inl has) = (active.Acting has.0.0 has.0.1.0, has.0.1.1)
   active_of slot c (inr (inl is)) = (active.Committing, is)
   active_of slot c (inr (inr is)) = (active.Ending is.0, is.1)
 
-  module _ (c : Claiming) where
+  module _ (c : ClaimView) where
     of_held : (slot : ℕ) → IsActing slot → Contains (all_claims (at slot).held) c → Whose c
     of_held slot acting is =
         let phase : IsSoundPhase shared slot (at slot) acting.0 acting.1.0 = sound slot (Some (active.Acting acting.0 acting.1.0)) acting.1.1 in
         (slot, (All-contains (IsAged (at slot).age) (all_claims (at slot).held) c (all_aged (at slot).age (at slot).held phase.undo) is, inl (acting, inl is)))
 
-    of_carried : (slot number : ℕ) (o : Option (Journey J)) → IsCarriedAt slot (at slot) number o → IsActing slot → Contains (part_carried o).claims c → Whose c
+    of_carried : (slot number : ℕ) (o : Option (Flow J)) → IsCarriedAt slot (at slot) number o → IsActing slot → Contains (part_carried o).claims c → Whose c
     of_carried slot number None k acting is = contains_none c is
-    of_carried slot zero (Some journey) k acting is = of_held slot acting (subst (λ (held : List (List Claiming)). Contains (all_claims held) c) k.held is)
-    of_carried slot (suc number) (Some journey) k acting is = absurd k
+    of_carried slot zero (Some flow) k acting is = of_held slot acting (subst (λ (held : List (List ClaimView)). Contains (all_claims held) c) k.held is)
+    of_carried slot (suc number) (Some flow) k acting is = absurd k
 
     of_ran : (slot number : ℕ) (one : Ran J) → IsSoundRan shared (at slot) number one → IsActing slot
         → sum_by (weigh_acting slot (length (at slot).held + number)) (parts part_message w.inbox).tokens ≡ 0 → Contains (claims_of_ran one) c → Whose c
     of_ran slot number (ran.Done claims found) k acting over is =
-        let on = works_have_a_claim_for_each_wish shared k.0 found claims k.1.1.0 in
-        let wished : Contains (groups_of (wishes_of k.0)) c.group = subst (λ (gs : List Group). Contains gs c.group) on (contains_mapped (λ (claim : Claiming). claim.group) claims c is) in
-        (slot, (All-contains (IsAged (at slot).age) claims c k.1.1.1.1 is, inl (acting, inr (number, (k.0, (k.1.0, (wished, over)))))))
+        let on = works_have_a_claim_for_each_group_want shared k.0 found claims k.1.1.0 in
+        let group_wanted : Contains (groups_of (group_wants_of k.0)) c.group = subst (λ (gs : List Group). Contains gs c.group) on (contains_mapped (λ (claim : ClaimView). claim.group) claims c is) in
+        (slot, (All-contains (IsAged (at slot).age) claims c k.1.1.1.1 is, inl (acting, inr (number, (k.0, (k.1.0, (group_wanted, over)))))))
     of_ran slot number (ran.Died group holder) k acting over is = contains_none c is
     of_ran slot number ran.NoMemory k acting over is = contains_none c is
 
@@ -201,23 +201,23 @@ module _ {J : Type 0} (shared : Shared) (w : Parts J) (h : IsSoundWith shared no
         → sum_by (weigh_acting r.slot (length (at r.slot).held + k.number)) (parts part_message w.inbox).tokens ≡ 0 → Contains (claims_reported r) c → Whose c
     of_report r k acting over is =
         ⊎_elim
-        (λ (own : Contains (part_carried r.journey).claims c). of_carried r.slot k.number r.journey k.journey acting own)
+        (λ (own : Contains (part_carried r.flow).claims c). of_carried r.slot k.number r.flow k.flow acting own)
         (λ (done : Contains (claims_of_ran r.ran) c). of_ran r.slot k.number r.ran k.ran acting over done)
-        (Contains-append_cases (part_carried r.journey).claims (claims_of_ran r.ran) c is)
+        (Contains-append_cases (part_carried r.flow).claims (claims_of_ran r.ran) c is)
 
     of_ending : (slot : ℕ) → ((weight : Token → ℕ) → sum_by weight (Ending slot ∷ []) ≤ sum_by weight (awaited_by_all 0 slots)) → c.by.age ≡ (at slot).age → Whose c
     of_ending slot awaits aged =
-        let there = ending_under_way slot slots (omega (arith, awaits (weigh_ending slot), sum_by-cons (weigh_ending slot) (Ending slot) [], one_weighs slot)) in
+        let there = ending_in_flight slot slots (omega (arith, awaits (weigh_ending slot), sum_by-cons (weigh_ending slot) (Ending slot) [], one_weighs slot)) in
         (slot, (aged, inr (inr (there.0, there.1.0))))
 
     of_message : (m : Message J) → IsSoundMessage shared at m → ((weight : Token → ℕ) → sum_by weight (part_message m).tokens ≤ sum_by weight (awaited_by_all 0 slots)) → Contains (part_message m).claims c → Whose c
-    of_message (Start journey works) k awaits is =
-        let slot = journey.transaction.slot in
-        let place = length journey.transaction.held in
+    of_message (Start flow works) k awaits is =
+        let slot = flow.transaction.slot in
+        let place = length flow.transaction.held in
         let some : 1 ≤ length works.items = omega (arith, ap (λ (ws : List Work). length ws) k.works_are, some_actions (at slot).progress) in
         of_held slot (acting_at slot place (first_acting shared at slots c sound slot place works.items some awaits))
-        (subst (λ (held : List (List Claiming)). Contains (all_claims held) c) k.journey_is.held is)
-    of_message (Errand errand) k awaits is = of_carried errand.slot k.number errand.journey k.journey (acting_at errand.slot errand.place (one_acting shared at slots c sound errand.slot errand.place awaits)) is
+        (subst (λ (held : List (List ClaimView)). Contains (all_claims held) c) k.flow_is.held is)
+    of_message (Act act) k awaits is = of_carried act.slot k.number act.flow k.flow (acting_at act.slot act.place (one_acting shared at slots c sound act.slot act.place awaits)) is
     of_message (Settle slot claims) k awaits is = of_ending slot awaits (All-contains (IsAged (at slot).age) claims c k.1 is)
     of_message (Undo slot claims) k awaits is = of_ending slot awaits (All-contains (IsAged (at slot).age) claims c k.1 is)
 
@@ -241,7 +241,7 @@ module _ {J : Type 0} (shared : Shared) (w : Parts J) (h : IsSoundWith shared no
     of_item (item.Commit commit) there is =
         let slot = commit.transaction.slot in
         let k = All-contains (IsSoundItem shared at) w.outbox (item.Commit commit) h.outbox there in
-        let stands = commit_under_way slot slots
+        let stands = commit_in_flight slot slots
         (omega (
           arith,
           tokens (weigh_committing slot),
@@ -250,7 +250,7 @@ module _ {J : Type 0} (shared : Shared) (w : Parts J) (h : IsSoundWith shared no
           one_weighs slot,
         )) in
         (slot, (All-contains (IsAged (at slot).age) (all_claims commit.transaction.held) c (all_aged (at slot).age commit.transaction.held k.undo) is, inr (inl stands)))
-    of_item (item.Reply told) there is = contains_none c is
+    of_item (item.Reply recorded) there is = contains_none c is
 
     -- a report that has met
     of_met : Contains (parts part_met (reported_to_all slots)).claims c → Whose c
@@ -280,14 +280,14 @@ module _ {J : Type 0} (shared : Shared) (w : Parts J) (h : IsSoundWith shared no
         phase : IsSoundPhase shared slot (at slot) first places
         phase = sound slot (Some (active.Acting first places)) there.1.1.1.0
 
-        told : (r.place ≡ first + place.0) × ((r.slot ≡ slot) × IsSoundReport shared (at slot) r)
-        told = phase.reports place.0 r place.1
+        recorded : (r.place ≡ first + place.0) × ((r.slot ≡ slot) × IsSoundReport shared (at slot) r)
+        recorded = phase.reports place.0 r place.1
 
         k : IsSoundReport shared (at r.slot) r
-        k = subst (λ n. IsSoundReport shared (at n) r) (sym told.1.0) told.1.1
+        k = subst (λ n. IsSoundReport shared (at n) r) (sym recorded.1.0) recorded.1.1
 
         stands : slice_get slots r.slot ≡ Some (Some (active.Acting first places))
-        stands = subst (λ n. slice_get slots n ≡ Some (Some (active.Acting first places))) (sym told.1.0) there.1.1.1.0
+        stands = subst (λ n. slice_get slots n ≡ Some (Some (active.Acting first places))) (sym recorded.1.0) there.1.1.1.0
 
         acting : IsActing r.slot
         acting = (first, (places, stands))
@@ -295,17 +295,17 @@ module _ {J : Type 0} (shared : Shared) (w : Parts J) (h : IsSoundWith shared no
         over : (some : ℕ) → sum_by (weigh_acting r.slot r.place) (awaited_by_all 0 slots) ≡ some → sum_by (weigh_acting r.slot r.place) (parts part_message w.inbox).tokens ≡ 0
         over zero none = omega (arith, none, tokens (weigh_acting r.slot r.place))
         over (suc n) some =
-            let under = acting_under_way r.slot r.place slots (omega (arith, some)) in
+            let under = acting_in_flight r.slot r.place slots (omega (arith, some)) in
             let same : Some (Some (active.Acting under.0 under.1.0)) ≡ Some (Some (active.Acting first places)) = sym under.1.1.0 ∙ stands in
             let firsts : under.0 ≡ first = cc in
             let alike : under.1.0 ≡ places = cc in
-            let number_is : r.place - under.0 ≡ place.0 = omega (arith, told.0, firsts) in
+            let number_is : r.place - under.0 ≡ place.0 = omega (arith, recorded.0, firsts) in
             let none : slice_get places place.0 ≡ Some None =
             subst (λ n. slice_get places n ≡ Some None) number_is (subst (λ (l : List (Option (Report J))). slice_get l (r.place - under.0) ≡ Some None) alike under.1.1.1.1) in
             let here = place.1 in
             absurd (cc)
 
-    -- all that is under way
+    -- all that is in flight
     whose_is : Contains (flight w).claims c → Whose c
     whose_is is =
         let in_inbox = parts part_message w.inbox in
@@ -323,39 +323,39 @@ module _ {J : Type 0} (shared : Shared) (w : Parts J) (h : IsSoundWith shared no
         (Contains-append_cases in_outbox.claims in_meeting.claims c others))
         (Contains-append_cases in_inbox.claims (in_outbox.claims ++ in_meeting.claims) c is)
 
-  -- ---- the transaction of a phase that is under way is under way itself
+  -- ---- the transaction of a phase that is in flight is in flight itself
 
   -- in a slot whose transaction has come so far
   abbrev pub Leads : ℕ → Type 0
-  Leads slot = (journey : Journey J) × (IsSoundJourney slot (at slot) journey × Contains (flight w).pending (unanswered_transaction journey.transaction))
+  Leads slot = (flow : Flow J) × (IsSoundFlow slot (at slot) flow × Contains (flight w).pending (unanswered_transaction flow.transaction))
 
-  in_first : (m : Message J) (x : Unanswered) → Contains w.inbox m → Contains (part_message m).pending x → Contains (flight w).pending x
+  in_first : (m : Message J) (x : UnansweredTransaction) → Contains w.inbox m → Contains (part_message m).pending x → Contains (flight w).pending x
   in_first m x there has =
       Contains-append_left (parts part_message w.inbox).pending ((parts part_item w.outbox).pending ++ (parts part_met (reported_to_all slots)).pending) x (in_parts part_message w.inbox m x there has)
 
-  in_second : (i : Item J) (x : Unanswered) → Contains w.outbox i → Contains (part_item i).pending x → Contains (flight w).pending x
+  in_second : (i : Item J) (x : UnansweredTransaction) → Contains w.outbox i → Contains (part_item i).pending x → Contains (flight w).pending x
   in_second i x there has =
       let met = (parts part_met (reported_to_all slots)).pending in
       let out = (parts part_item w.outbox).pending in
       Contains-append_right (parts part_message w.inbox).pending (out ++ met) x (Contains-append_left out met x (in_parts part_item w.outbox i x there has))
 
-  in_third : (r : Report J) (x : Unanswered) → Contains (reported_to_all slots) r → Contains (part_met r).pending x → Contains (flight w).pending x
+  in_third : (r : Report J) (x : UnansweredTransaction) → Contains (reported_to_all slots) r → Contains (part_met r).pending x → Contains (flight w).pending x
   in_third r x there has =
       let met = (parts part_met (reported_to_all slots)).pending in
       let out = (parts part_item w.outbox).pending in
       Contains-append_right (parts part_message w.inbox).pending (out ++ met) x (Contains-append_right out met x (in_parts part_met (reported_to_all slots) r x there has))
 
   module _ (slot : ℕ) where
-    abbrev own : UnderWay
+    abbrev own : ActiveTransaction
     own = at slot
 
     -- what is carried with the first action
-    carried_leads : (s number : ℕ) (o : Option (Journey J)) → s ≡ slot → number ≡ 0 → IsCarriedAt s (at s) number o
-        → ((x : Unanswered) → Contains (part_carried o).pending x → Contains (flight w).pending x) → Leads slot
+    carried_leads : (s number : ℕ) (o : Option (Flow J)) → s ≡ slot → number ≡ 0 → IsCarriedAt s (at s) number o
+        → ((x : UnansweredTransaction) → Contains (part_carried o).pending x → Contains (flight w).pending x) → Leads slot
     carried_leads s number None same first k there = absurd (subst (λ n. IsCarriedAt {J = J} s (at s) n None) first k)
-    carried_leads s number (Some journey) same first k there =
-        let sound_journey : IsSoundJourney s (at s) journey = subst (λ n. IsCarriedAt s (at s) n (Some journey)) first k in
-        (journey, (subst (λ n. IsSoundJourney n (at n) journey) same sound_journey, there (unanswered_transaction journey.transaction) (contains_here (unanswered_transaction journey.transaction) [])))
+    carried_leads s number (Some flow) same first k there =
+        let sound_flow : IsSoundFlow s (at s) flow = subst (λ n. IsCarriedAt s (at s) n (Some flow)) first k in
+        (flow, (subst (λ n. IsSoundFlow n (at n) flow) same sound_flow, there (unanswered_transaction flow.transaction) (contains_here (unanswered_transaction flow.transaction) [])))
 
     -- the token of an action of this slot and place
     token_of : (s place p : ℕ) → 1 ≤ weigh_acting slot place (Acting s p) → (s ≡ slot) × (p ≡ place)
@@ -377,25 +377,25 @@ module _ {J : Type 0} (shared : Shared) (w : Parts J) (h : IsSoundWith shared no
 
     -- the first action of the phase is in a message
     message_leads : (place : ℕ) → place ≡ length own.held → (m : Message J) → IsSoundMessage shared at m → 1 ≤ sum_by (weigh_acting slot place) (part_message m).tokens
-        → ((x : Unanswered) → Contains (part_message m).pending x → Contains (flight w).pending x) → Leads slot
-    message_leads place first (Start journey works) k some there =
-        carried_leads journey.transaction.slot 0 (Some journey) (token_from journey.transaction.slot place (length journey.transaction.held) works.items some) refl k.journey_is there
-    message_leads place first (Errand errand) k some there =
-        let token = token_of errand.slot place errand.place (omega (arith, some, sum_by-cons (weigh_acting slot place) (Acting errand.slot errand.place) [])) in
-        carried_leads errand.slot k.number errand.journey token.0 (omega (arith, k.place, token.1, first, ap (λ n. length (at n).held) token.0)) k.journey there
+        → ((x : UnansweredTransaction) → Contains (part_message m).pending x → Contains (flight w).pending x) → Leads slot
+    message_leads place first (Start flow works) k some there =
+        carried_leads flow.transaction.slot 0 (Some flow) (token_from flow.transaction.slot place (length flow.transaction.held) works.items some) refl k.flow_is there
+    message_leads place first (Act act) k some there =
+        let token = token_of act.slot place act.place (omega (arith, some, sum_by-cons (weigh_acting slot place) (Acting act.slot act.place) [])) in
+        carried_leads act.slot k.number act.flow token.0 (omega (arith, k.place, token.1, first, ap (λ n. length (at n).held) token.0)) k.flow there
     message_leads place first (Settle s claims) k some there = absurd (omega (arith, some))
     message_leads place first (Undo s claims) k some there = absurd (omega (arith, some))
 
     -- or in an item
     item_leads : (place : ℕ) → place ≡ length own.held → (i : Item J) → IsSoundItem shared at i → 1 ≤ sum_by (weigh_acting slot place) (part_item i).tokens
-        → ((x : Unanswered) → Contains (part_item i).pending x → Contains (flight w).pending x) → Leads slot
+        → ((x : UnansweredTransaction) → Contains (part_item i).pending x → Contains (flight w).pending x) → Leads slot
     item_leads place first (item.Push m) k some there = message_leads place first m k some there
     item_leads place first (item.Report r) k some there =
         let token = token_of r.slot place r.place (omega (arith, some, sum_by-cons (weigh_acting slot place) (Acting r.slot r.place) [])) in
-        carried_leads r.slot k.number r.journey token.0 (omega (arith, k.place, token.1, first, ap (λ n. length (at n).held) token.0)) k.journey there
+        carried_leads r.slot k.number r.flow token.0 (omega (arith, k.place, token.1, first, ap (λ n. length (at n).held) token.0)) k.flow there
     item_leads place first (item.Ended s) k some there = absurd (omega (arith, some))
     item_leads place first (item.Commit commit) k some there = absurd (omega (arith, some))
-    item_leads place first (item.Reply told) k some there = absurd (omega (arith, some))
+    item_leads place first (item.Reply recorded) k some there = absurd (omega (arith, some))
 
     pub leads : IsActing slot → Leads slot
     leads acting = by places refl
@@ -413,11 +413,11 @@ module _ {J : Type 0} (shared : Shared) (w : Parts J) (h : IsSoundWith shared no
         by [] is = absurd (omega (arith, phase.many, ap (λ (ps : List (Option (Report J))). length ps) is, some_actions own.progress))
         by (Some r ∷ ps) is =
             let there : slice_get places 0 ≡ Some (Some r) = ap (λ (l : List (Option (Report J))). slice_get l 0) is in
-            let told = phase.reports 0 r there in
-            let k : IsSoundReport shared (at r.slot) r = subst (λ n. IsSoundReport shared (at n) r) (sym told.1.0) told.1.1 in
+            let recorded = phase.reports 0 r there in
+            let k : IsSoundReport shared (at r.slot) r = subst (λ n. IsSoundReport shared (at n) r) (sym recorded.1.0) recorded.1.1 in
             let among : Contains (reported places) r = subst (λ (l : List (Option (Report J))). Contains (reported l) r) (sym is) (contains_here r (reported ps)) in
             let all = reported_among slot slots first places r acting.1.1 among in
-            carried_leads r.slot k.number r.journey told.1.0 (omega (arith, k.place, told.0, phase.first_is, ap (λ n. length (at n).held) told.1.0)) k.journey (λ x has. in_third r x all has)
+            carried_leads r.slot k.number r.flow recorded.1.0 (omega (arith, k.place, recorded.0, phase.first_is, ap (λ n. length (at n).held) recorded.1.0)) k.flow (λ x has. in_third r x all has)
         by (None ∷ ps) is = of_inbox (sum_by weight (parts part_message w.inbox).tokens) refl
           where
             weight : Token → ℕ
@@ -451,101 +451,101 @@ module _ {J : Type 0} (shared : Shared) (w : Parts J) (h : IsSoundWith shared no
 
   -- ---- an action that is to run
 
-  module _ (once : TransactionsClaimEachGroupOnce) (errand : AnyErrand J) (there : Contains w.inbox (Errand errand)) where
-    abbrev u : UnderWay
-    u = at errand.slot
+  module _ (once : TransactionsClaimEachGroupOnce) (act : AnyAct J) (there : Contains w.inbox (Act act)) where
+    abbrev u : ActiveTransaction
+    u = at act.slot
 
-    fine : IsSoundErrand shared u errand
-    fine = All-contains (IsSoundMessage shared at) w.inbox (Errand errand) h.inbox there
+    fine : IsSoundAct shared u act
+    fine = All-contains (IsSoundMessage shared at) w.inbox (Act act) h.inbox there
 
-    to_run : 1 ≤ sum_by (weigh_acting errand.slot errand.place) (parts part_message w.inbox).tokens
+    to_run : 1 ≤ sum_by (weigh_acting act.slot act.place) (parts part_message w.inbox).tokens
     to_run =
-        let weight = weigh_acting errand.slot errand.place in
-        omega (arith, one_of_all part_message weight w.inbox (Errand errand) there, sum_by-cons weight (Acting errand.slot errand.place) [], acting_weighs errand.slot errand.place)
+        let weight = weigh_acting act.slot act.place in
+        omega (arith, one_of_all part_message weight w.inbox (Act act) there, sum_by-cons weight (Acting act.slot act.place) [], acting_weighs act.slot act.place)
 
-    pub errands_now : IsActing errand.slot
-    errands_now = acting_at errand.slot errand.place (omega (arith, to_run, tokens (weigh_acting errand.slot errand.place)))
+    pub acts_now : IsActing act.slot
+    acts_now = acting_at act.slot act.place (omega (arith, to_run, tokens (weigh_acting act.slot act.place)))
 
-    pub phase_now : IsSoundPhase shared errand.slot u errands_now.0 errands_now.1.0
-    phase_now = sound errand.slot (Some (active.Acting errands_now.0 errands_now.1.0)) errands_now.1.1
+    pub phase_now : IsSoundPhase shared act.slot u acts_now.0 acts_now.1.0
+    phase_now = sound act.slot (Some (active.Acting acts_now.0 acts_now.1.0)) acts_now.1.1
 
-    -- its transaction has no claim on a group that it wishes for
-    not_own : (c : Claiming) → Contains (flight w).claims c → c.by.age ≡ errand.age → Contains (groups_of (wishes_of errand.work)) c.group → ⊥
-    not_own c is aged wished =
+    -- its transaction has no claim on a group that it wants for
+    not_own : (c : ClaimView) → Contains (flight w).claims c → c.by.age ≡ act.age → Contains (groups_of (group_wants_of act.work)) c.group → ⊥
+    not_own c is aged group_wanted =
         let whose = whose_is c is in
         let a = active_of whose.0 c whose.1.1 in
-        let same : whose.0 ≡ errand.slot = h.ages.apart whose.0 errand.slot a.0 (active.Acting errands_now.0 errands_now.1.0) a.1 errands_now.1.1 (sym whose.1.0 ∙ aged ∙ fine.age) in
+        let same : whose.0 ≡ act.slot = h.ages.apart whose.0 act.slot a.0 (active.Acting acts_now.0 acts_now.1.0) a.1 acts_now.1.1 (sym whose.1.0 ∙ aged ∙ fine.age) in
         by (subst (λ n. Has n c) same whose.1.1)
       where
         works : List Work
         works = works_of u.progress
 
-        of_phase : (Contains (all_claims u.held) c ⊎ HasRun errand.slot c) → ⊥
+        of_phase : (Contains (all_claims u.held) c ⊎ HasRun act.slot c) → ⊥
         of_phase (inl held) =
             omega (
               arith,
               claimed_once shared u.request u.progress u.held phase_now.reached c.group once,
               claim_counts (all_claims u.held) c held,
-              one_of_works c.group works fine.number errand.work fine.work,
-              group_counts c.group (wishes_of errand.work) wished,
+              one_of_works c.group works fine.number act.work fine.work,
+              group_counts c.group (group_wants_of act.work) group_wanted,
             )
         of_phase (inr run) =
             by_bool (run.0 == fine.number)
             (λ alike.
-            let place_is : length u.held + run.0 ≡ errand.place = omega (arith, fine.place, exact_unsigned_eq run.0 fine.number alike) in
-            let none : sum_by (weigh_acting errand.slot errand.place) (parts part_message w.inbox).tokens ≡ 0 =
-            subst (λ n. sum_by (weigh_acting errand.slot n) (parts part_message w.inbox).tokens ≡ 0) place_is run.1.1.1.1 in
+            let place_is : length u.held + run.0 ≡ act.place = omega (arith, fine.place, exact_unsigned_eq run.0 fine.number alike) in
+            let none : sum_by (weigh_acting act.slot act.place) (parts part_message w.inbox).tokens ≡ 0 =
+            subst (λ n. sum_by (weigh_acting act.slot n) (parts part_message w.inbox).tokens ≡ 0) place_is run.1.1.1.1 in
             omega (arith, none, to_run))
             (λ differs.
             omega (
               arith,
               claimed_once shared u.request u.progress u.held phase_now.reached c.group once,
-              two_of_works c.group works run.0 fine.number run.1.0 errand.work run.1.1.0 fine.work (λ same. subst (λ b. IsFalse b) (sym differs ∙ eq-eqb run.0 fine.number same) tt),
-              group_counts c.group (wishes_of run.1.0) run.1.1.1.0,
-              group_counts c.group (wishes_of errand.work) wished,
+              two_of_works c.group works run.0 fine.number run.1.0 act.work run.1.1.0 fine.work (λ same. subst (λ b. IsFalse b) (sym differs ∙ eq-eqb run.0 fine.number same) tt),
+              group_counts c.group (group_wants_of run.1.0) run.1.1.1.0,
+              group_counts c.group (group_wants_of act.work) group_wanted,
             ))
 
-        by : Has errand.slot c → ⊥
+        by : Has act.slot c → ⊥
         by (inl has) = of_phase has.1
-        by (inr (inl committing)) = let acting = errands_now.1.1 in absurd (cc)
-        by (inr (inr ending)) = let acting = errands_now.1.1 in let over = ending.1 in absurd (cc)
+        by (inr (inl committing)) = let acting = acts_now.1.1 in absurd (cc)
+        by (inr (inr ending)) = let acting = acts_now.1.1 in let over = ending.1 in absurd (cc)
 
     -- so who is in its way, and isn't younger, is older
-    pub dies_of_older : (w_id : ℕ) (holdings : List Holding) → (joined_in w).holdings w_id ≡ holdings → (group : Group) (holder : ℕ) → MustDie holdings errand.age (wants_of errand.work) group holder → holder < errand.age
+    pub dies_of_older : (w_id : ℕ) (holdings : List HeldClaim) → (joined_in w).holdings w_id ≡ holdings → (group : Group) (holder : ℕ) → MustDie holdings act.age (wants_of act.work) group holder → holder < act.age
     dies_of_older w_id holdings is group holder death =
-        let on = dies_on holdings errand.age (wishes_of errand.work) group holder death in
-        let held : Contains ((joined_in w).holdings w_id) on.holding = subst (λ (hs : List Holding). Contains hs on.holding) (sym is) on.held in
+        let on = dies_on holdings act.age (group_wants_of act.work) group holder death in
+        let held : Contains ((joined_in w).holdings w_id) on.holding = subst (λ (hs : List HeldClaim). Contains hs on.holding) (sym is) on.held in
         let out = Contains-permutation ((joined_in w).holdings w_id) (held_at w_id (flight w).claims) on.holding (h.held w_id) held in
         let claim = claim_of w_id (flight w).claims on.holding out in
-        lesser holder errand.age death.older
+        lesser holder act.age death.older
         (λ same.
-        not_own claim.0 claim.1.0 (ap (λ (x : Holding). x.by.age) claim.1.1 ∙ on.by ∙ same)
-        (subst (λ (g : Group). Contains (groups_of (wishes_of errand.work)) g) (sym (ap (λ (x : Holding). x.group) claim.1.1 ∙ on.on)) on.wished))
+        not_own claim.0 claim.1.0 (ap (λ (x : HeldClaim). x.by.age) claim.1.1 ∙ on.by ∙ same)
+        (subst (λ (g : Group). Contains (groups_of (group_wants_of act.work)) g) (sym (ap (λ (x : HeldClaim). x.group) claim.1.1 ∙ on.on)) on.group_wanted))
 
     -- what an action holds once it has run is of its request's footprint, as the history tells
-    pub ran_claimed : (opening : Database) (history : List Step) → Fits opening history w → (was now : Sliced) (one : Ran J) → IsRan (holder_of errand) was errand.work one now → All (IsClaimOf history) (claims_of_ran one)
+    pub ran_claimed : (opening : Database) (history : List Step) → Fits opening history w → (was now : SliceView) (one : Ran J) → IsRan (holder_of act) was act.work one now → All (IsClaimOf history) (claims_of_ran one)
     ran_claimed opening history f was now (ran.Died group holder) of = All-nil (IsClaimOf history)
     ran_claimed opening history f was now ran.NoMemory of = All-nil (IsClaimOf history)
     ran_claimed opening history f was now (ran.Done claims found) of =
         All-weaker (Contains claims) (IsClaimOf history) (λ c is. (u.request, (subst (λ n. WasAccepted history n u.request) (sym (aged c is)) accepted, claims_group c is))) claims (All-contains_itself claims)
       where
         accepted : WasAccepted history u.age u.request
-        accepted = accepted_as opening history f errand.slot errands_now
+        accepted = accepted_as opening history f act.slot acts_now
 
-        aged : (c : Claiming) → Contains claims c → c.by.age ≡ u.age
-        aged c is = ap (λ (x : Holder). x.age) (All-contains (IsBy (holder_of errand)) claims c of.own is) ∙ fine.age
+        aged : (c : ClaimView) → Contains claims c → c.by.age ≡ u.age
+        aged c is = ap (λ (x : Holder). x.age) (All-contains (IsBy (holder_of act)) claims c of.own is) ∙ fine.age
 
-        claims_group : (c : Claiming) → Contains claims c → Contains (groups_of (footprint u.request)) c.group
+        claims_group : (c : ClaimView) → Contains claims c → Contains (groups_of (footprint u.request)) c.group
         claims_group c is =
             let works = works_of u.progress in
-            let on = works_have_a_claim_for_each_wish (shared_of was.tables) errand.work found claims of.done in
-            let wished = subst (λ (gs : List Group). Contains gs c.group) on (contains_mapped (λ (claim : Claiming). claim.group) claims c is) in
+            let on = works_have_a_claim_for_each_group_want (shared_of was.tables) act.work found claims of.done in
+            let group_wanted = subst (λ (gs : List Group). Contains gs c.group) on (contains_mapped (λ (claim : ClaimView). claim.group) claims c is) in
             of_footprint shared u.request u.progress u.held phase_now.reached c.group within
-            (counted_there c.group (all_wishes works) (omega (arith, group_counts c.group (wishes_of errand.work) wished, one_of_works c.group works fine.number errand.work fine.work)))
+            (counted_there c.group (all_group_wants works) (omega (arith, group_counts c.group (group_wants_of act.work) group_wanted, one_of_works c.group works fine.number act.work fine.work)))
 
   -- ---- a death that is reported
 
-  -- what is reported in the outbox is of a phase that is under way
+  -- what is reported in the outbox is of a phase that is in flight
   pub reporting : (r : Report J) → Contains w.outbox (item.Report r) → IsActing r.slot
   reporting r there =
       let weight = weigh_acting r.slot r.place in
@@ -560,23 +560,23 @@ module _ {J : Type 0} (shared : Shared) (w : Parts J) (h : IsSoundWith shared no
 
   -- where one of that age has a claim on the group, the report names somebody older who is active
   pub reports_of_older : (opening : Database) (history : List Step) → Fits opening history w → (r : Report J) → Contains w.outbox (item.Report r) → (group : Group) (holder : ℕ) → r.ran ≡ ran.Died group holder
-      → (w_id : ℕ) (x : Holding) → Contains ((joined_in w).holdings w_id) x → x.group ≡ group → x.by.age ≡ holder → DiesOf history w at r.slot group holder
+      → (w_id : ℕ) (x : HeldClaim) → Contains ((joined_in w).holdings w_id) x → x.group ≡ group → x.by.age ≡ holder → DiesOf history w at r.slot group holder
   reports_of_older opening history f r there group holder is w_id x out on by =
       let k : IsSoundReport shared (at r.slot) r = All-contains (IsSoundItem shared at) w.outbox (item.Report r) h.outbox there in
       let died : IsSoundRan {J = J} shared (at r.slot) k.number (ran.Died group holder) = subst (λ (one : Ran J). IsSoundRan shared (at r.slot) k.number one) is k.ran in
       let acting = reporting r there in
       let phase : IsSoundPhase shared r.slot (at r.slot) acting.0 acting.1.0 = sound r.slot (Some (active.Acting acting.0 acting.1.0)) acting.1.1 in
       let works = works_of (at r.slot).progress in
-      let wished : Contains (groups_of (all_wishes works)) group =
-      counted_there group (all_wishes works) (omega (arith, group_counts group (wishes_of died.0) died.1.1.0, one_of_works group works k.number died.0 died.1.0)) in
+      let group_wanted : Contains (groups_of (all_group_wants works)) group =
+      counted_there group (all_group_wants works) (omega (arith, group_counts group (group_wants_of died.0) died.1.1.0, one_of_works group works k.number died.0 died.1.0)) in
       let claims = (flight w).claims in
       let claim = claim_of w_id claims x (Contains-permutation ((joined_in w).holdings w_id) (held_at w_id claims) x (h.held w_id) out) in
-      let aged : claim.0.by.age ≡ holder = ap (λ (y : Holding). y.by.age) claim.1.1 ∙ by in
-      let on_group : claim.0.group ≡ group = ap (λ (y : Holding). y.group) claim.1.1 ∙ on in
+      let aged : claim.0.by.age ≡ holder = ap (λ (y : HeldClaim). y.by.age) claim.1.1 ∙ by in
+      let on_group : claim.0.group ≡ group = ap (λ (y : HeldClaim). y.group) claim.1.1 ∙ on in
       let of = All-contains (IsClaimOf history) claims claim.0 f.claimed claim.1.0 in
       record {
         accepted = accepted_as opening history f r.slot acting;
-        of_footprint = of_footprint shared (at r.slot).request (at r.slot).progress (at r.slot).held phase.reached group within wished;
+        of_footprint = of_footprint shared (at r.slot).request (at r.slot).progress (at r.slot).held phase.reached group within group_wanted;
         older = died.1.1.1;
         active = subst (λ n. IsActiveAt at slots n) aged (holder_active shared w h claim.0 claim.1.0);
         asked = of.0;

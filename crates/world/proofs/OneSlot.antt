@@ -5,7 +5,7 @@ use Rattle.std.specs.List.{slice_get, sum_by}
 use Rattle.std.proofs.lemmas.List.{set-set}
 use Rattle.std.proofs.lemmas.List.Sums.{sum_by-append, sum_by-cons}
 use Rattle.std.proofs.lemmas.Map.Views.{exact_unsigned_eq}
-use Rattle.partitions.specs.Parts.{Shared}
+use Rattle.partitions.specs.Parts.{SharedTables}
 use Rattle.rendezvous.specs.Awaited.{awaited_from}
 use Rattle.world.specs.declared.desk.Active.{Active}
 use Rattle.world.specs.declared.desk.Active.TheVariants as active
@@ -13,7 +13,7 @@ use Rattle.world.specs.declared.flight.Item.{Item}
 use Rattle.world.specs.declared.world.Parts.{Parts}
 use Rattle.world.specs.Flights.{Token, Acting, Committing, Ending, InFlight, join, parts, part_item, part_met}
 use Rattle.world.specs.Following.{putting, with_active}
-use Rattle.world.specs.Sound.{Courses, IsSoundActive, AreSoundActive, awaited, awaited_by_all, flight, reported_to, reported_to_all}
+use Rattle.world.specs.Sound.{ActiveTransactions, IsSoundActive, AreSoundActive, awaited, awaited_by_all, flight, reported_to, reported_to_all}
 use Rattle.world.proofs.Joins.{IsSame, same-refl, same-trans, same-is, same-join, same-middle, parts-append}
 use Rattle.world.proofs.Balances.{fly, fly_same, fly_last, in_inbox, in_outbox, in_meeting, items_put}
 use Rattle.world.proofs.Tokens.{by_bool}
@@ -144,7 +144,7 @@ module _ {J : Type 0} where
       (same-join first first all (join own rest) (same-refl first) (met_apart slot slots a is))
       (same-middle first own rest)))
 
-  -- ---- all that is under way
+  -- ---- all that is in flight
 
   -- but for what the transaction in a slot has met
   abbrev pub lots : ℕ → Parts J → InFlight
@@ -180,7 +180,7 @@ module _ {J : Type 0} where
 
   -- ---- soundness of one slot, and of all
 
-  pub sound_at : (shared : Shared) (at : Courses) (n slot : ℕ) (slots : List (Option (Active J))) (a : Option (Active J)) → AreSoundActive shared at n slots → slice_get slots slot ≡ Some a
+  pub sound_at : (shared : SharedTables) (at : ActiveTransactions) (n slot : ℕ) (slots : List (Option (Active J))) (a : Option (Active J)) → AreSoundActive shared at n slots → slice_get slots slot ≡ Some a
       → IsSoundActive shared (n + slot) (at (n + slot)) a
   sound_at shared at n slot [] a h is = absurd (cc)
   sound_at shared at n zero (b ∷ slots) a h is =
@@ -191,21 +191,21 @@ module _ {J : Type 0} where
       let later : suc n + slot ≡ n + suc slot = omega arith in
       subst (λ m. IsSoundActive shared m (at m) a) later (sound_at shared at (suc n) slot slots a h.1 is)
 
-  pub sound_in : (shared : Shared) (at : Courses) (slot : ℕ) (slots : List (Option (Active J))) (a : Option (Active J)) → AreSoundActive shared at 0 slots → slice_get slots slot ≡ Some a
+  pub sound_in : (shared : SharedTables) (at : ActiveTransactions) (slot : ℕ) (slots : List (Option (Active J))) (a : Option (Active J)) → AreSoundActive shared at 0 slots → slice_get slots slot ≡ Some a
       → IsSoundActive shared slot (at slot) a
   sound_in shared at slot slots a h is =
       let here : 0 + slot ≡ slot = omega arith in
       subst (λ m. IsSoundActive shared m (at m) a) here (sound_at shared at 0 slot slots a h is)
 
   -- all but one are as they were
-  sound_from : (shared : Shared) (at bt : Courses) (n : ℕ) (slots : List (Option (Active J))) → ((m : ℕ) → n ≤ m → at m ≡ bt m) → AreSoundActive shared at n slots → AreSoundActive shared bt n slots
+  sound_from : (shared : SharedTables) (at bt : ActiveTransactions) (n : ℕ) (slots : List (Option (Active J))) → ((m : ℕ) → n ≤ m → at m ≡ bt m) → AreSoundActive shared at n slots → AreSoundActive shared bt n slots
   sound_from shared at bt n [] same h = tt
   sound_from shared at bt n (a ∷ slots) same h = (
     subst (λ u. IsSoundActive shared n u a) (same n (omega arith)) h.0,
     sound_from shared at bt (suc n) slots (λ m above. same m (omega (arith, above))) h.1,
   )
 
-  sound_but : (shared : Shared) (at bt : Courses) (n slot : ℕ) (slots : List (Option (Active J))) (a : Option (Active J)) → ((m : ℕ) → (m ≡ n + slot → ⊥) → at m ≡ bt m)
+  sound_but : (shared : SharedTables) (at bt : ActiveTransactions) (n slot : ℕ) (slots : List (Option (Active J))) (a : Option (Active J)) → ((m : ℕ) → (m ≡ n + slot → ⊥) → at m ≡ bt m)
       → AreSoundActive shared at n slots → IsSoundActive shared (n + slot) (bt (n + slot)) a → AreSoundActive shared bt n (slice_set slots slot a)
   sound_but shared at bt n slot [] a same h own = tt
   sound_but shared at bt n zero (b ∷ slots) a same h own =
@@ -219,7 +219,7 @@ module _ {J : Type 0} where
         sound_but shared at bt (suc n) slot slots a (λ m other. same m (λ is. other (omega (arith, is)))) h.1 (subst (λ m. IsSoundActive shared m (bt m) a) later own),
       )
 
-  pub sound_then : (shared : Shared) (at bt : Courses) (slot : ℕ) (slots : List (Option (Active J))) (a : Option (Active J)) → ((m : ℕ) → (m ≡ slot → ⊥) → at m ≡ bt m)
+  pub sound_then : (shared : SharedTables) (at bt : ActiveTransactions) (slot : ℕ) (slots : List (Option (Active J))) (a : Option (Active J)) → ((m : ℕ) → (m ≡ slot → ⊥) → at m ≡ bt m)
       → AreSoundActive shared at 0 slots → IsSoundActive shared slot (bt slot) a → AreSoundActive shared bt 0 (slice_set slots slot a)
   sound_then shared at bt slot slots a same h own =
       let here : slot ≡ 0 + slot = omega arith in

@@ -1,8 +1,8 @@
 -- A world that was just opened.
 use Rattle.std.specs.List.{AllByRecursion}
 use Rattle.world.specs.declared.flight.Carried.{Carried}
-use Rattle.world.specs.Stations.{HaveToWait, IsStationOf, NobodyWaitsIn, slice_of, slices_in, station_of, waiting_at, waiting_in}
-use Rattle.transactions.specs.Stations.{Stationed}
+use Rattle.world.specs.Shards.{HaveToWait, IsShardOf, NobodyWaitsIn, slice_of, slices_in, shard_of, waiting_at, waiting_in}
+use Rattle.transactions.specs.Shards.{ShardView}
 use Rattle.local_locks.specs.Asking.{StillWaits}
 use Rattle.std.proofs.Common.{◌≡◌, ℕ, ◌+◌, ◌<◌, zero, suc, List, [], ◌∷◌, Option, Some, None, map, length, get_or, refl, sym, ap, subst, ◌∙◌, cond, arith, option_map, IsPermutation, ◌++◌}
 use Rattle.std.specs.Prelude.{count_by, replicate, slice_get, slice_index_or, sum_by, All, flat_map}
@@ -12,19 +12,19 @@ use Rattle.std.proofs.lemmas.List.Sums.{sum_by-cons}
 use Rattle.std.proofs.lemmas.Option.{slice_get-map, slice_get_within}
 use Rattle.std.proofs.lemmas.List.Sorted.{IsPermutation-refl}
 use Rattle.schema.specs.Database.{Database, IsWithinScale}
-use Rattle.partitions.specs.Parts.{Shared, parts_of, shared_of, Part}
+use Rattle.partitions.specs.Parts.{SharedTables, parts_of, shared_of, Part}
 use Rattle.schema.specs.Consistency.{Consistent}
 use Rattle.groups.specs.Content.{content}
-use Rattle.tickets.specs.Boxes.{Boxed}
-use Rattle.tickets.specs.LogSeats.{Committed}
-use Rattle.tickets.specs.Openings.{Opened, box_beside, contents_committed, contents_opened}
+use Rattle.tickets.specs.Boxes.{TicketBoxView}
+use Rattle.tickets.specs.LogSeats.{CommittedGroup}
+use Rattle.tickets.specs.Openings.{OpenedGroup, box_beside, contents_committed, contents_opened}
 use Rattle.tickets.specs.Places.{AreInPlace}
 use Rattle.tickets.proofs.Committed as kept
-use Rattle.commit_log.specs.Passing.{Passing, Seating, new_pass, new_seat}
+use Rattle.commit_log.specs.PassView.{PassView, SessionSeatView, new_pass, new_seat}
 use Rattle.history.proofs.Fitting.{empty_history_fits}
 use Rattle.transactions.proofs.Unasked.{unasked, unasked_progress}
 use Rattle.slices.specs.Openings.{AreOpenedFor, IsBoxOf}
-use Rattle.slices.specs.Sliced.{Sliced, AreSlicesOf, all_at_rest, all_standing, at_rest, everywhere, joined, held_at}
+use Rattle.slices.specs.SliceView.{SliceView, AreSlicesOf, all_at_rest, all_standing, at_rest, everywhere, joined, held_at}
 use Rattle.slices.proofs.Joined.{cut_slices_are_at_rest}
 use Rattle.slices.proofs.Opened.{opened_groups_have_boxes}
 use Rattle.world.specs.declared.desk.Active.{Active}
@@ -33,65 +33,65 @@ use Rattle.world.specs.declared.world.Parts.{Parts}
 use Rattle.world.specs.declared.world.Core.{Core}
 use Rattle.world.specs.declared.flight.Message.{Message}
 use Rattle.routing.specs.Routes.{Routes}
-use Rattle.world.specs.Together.{IsSound, arrived_in, letters_of_all, together}
+use Rattle.world.specs.Together.{IsSound, arrived_in, envelopes_of_all, together}
 use Rattle.world.specs.Queues.{all_of}
-use Rattle.world.specs.Letters.{IsPosted, IsTo, arrived_of, going_in, home_of_message, items_in, letters_out, messages_in, sent_in}
-use Rattle.range_moves.specs.Housing.{IsOpenedBy}
-use Rattle.range_moves.specs.Traffic.{IsHousedWith}
-use Rattle.range_moves.proofs.Housed.{opened_housed}
-use Rattle.world.specs.declared.flight.Letter.{Letter}
-use Rattle.world.specs.declared.flight.Posted.{Posted}
+use Rattle.world.specs.Envelopes.{IsOutgoing, IsTo, arrived_of, going_in, home_of_message, items_in, envelopes_out, messages_in, sent_in}
+use Rattle.range_moves.specs.Placements.{IsOpenedBy}
+use Rattle.range_moves.specs.Traffic.{IsLocatedWith}
+use Rattle.range_moves.proofs.Located.{opened_located}
+use Rattle.world.specs.declared.flight.Envelope.{Envelope}
+use Rattle.world.specs.declared.flight.Outgoing.{Outgoing}
 use Rattle.world.specs.Parted.{joined_in}
 use Rattle.world.specs.Flights.{nothing, join, parts, part_message, part_item, part_met, InFlight}
 use Rattle.world.specs.Openings.{AreNewLanes, IsNew, session_with}
-use Rattle.world.specs.Sound.{HaveTheirAges, IsSoundWith, IsSoundMessage, IsSoundItem, AreSoundActive, IsPassOf, IsBalanced, Courses, awaited_by_all, is_here, reported_to_all, flight}
+use Rattle.world.specs.Sound.{HaveTheirAges, IsSoundWith, IsSoundMessage, IsSoundItem, AreSoundActive, IsPassOf, IsBalanced, ActiveTransactions, awaited_by_all, is_here, reported_to_all, flight}
 use Rattle.world.specs.Worlds.{Fits, FitsPart, IsAcceptedIn, IsClaimOf}
 use Rattle.world.proofs.Ages.{no_ages}
 
 -- ---- the log's seats
 
 -- they tell what the tables have
-pub seats_tell : (t : Database) (openings : List Opened) (seats : List Committed) → AreOpenedFor t openings → AreInPlace t.scale.warehouses seats → contents_committed seats ≡ contents_opened openings
-    → (place : ℕ) (d : Committed) → place < length seats → content t (get_or seats place d).group ≡ (get_or seats place d).content
-seats_tell t openings seats opened in_place same place d small =
+pub seats_record : (t : Database) (openings : List OpenedGroup) (seats : List CommittedGroup) → AreOpenedFor t openings → AreInPlace t.scale.warehouses seats → contents_committed seats ≡ contents_opened openings
+    → (place : ℕ) (d : CommittedGroup) → place < length seats → content t (get_or seats place d).group ≡ (get_or seats place d).content
+seats_record t openings seats opened in_place same place d small =
     let boxes = opened_groups_have_boxes t openings seats opened in_place same in
     let long : length (map box_beside seats) ≡ length seats = length-map seats box_beside in
     let is : IsBoxOf t place (get_or (map box_beside seats) place (box_beside d)) = boxes.each place (box_beside d) (omega (arith, small, long)) in
     let here : IsBoxOf t place (box_beside (get_or seats place d)) = subst (IsBoxOf t place) (get_or-map box_beside seats place d (box_beside d) small) is in
-    sym (ap (λ (b : Boxed). b.left) here.has)
+    sym (ap (λ (b : TicketBoxView). b.left) here.has)
 
 -- ---- the slices
 
 -- those of the tables that were cut are the slices of all warehouses, at rest
-pub cut_slices : (t : Database) (shared : Shared) (slices : List Sliced) → IsWithinScale t → shared ≡ shared_of t → slices ≡ map at_rest (parts_of t)
+pub cut_slices : (t : Database) (shared : SharedTables) (slices : List SliceView) → IsWithinScale t → shared ≡ shared_of t → slices ≡ map at_rest (parts_of t)
     → AreSlicesOf shared slices × (joined shared slices ≡ all_at_rest t)
 cut_slices t shared slices within same are =
-    let Are : Shared → List Sliced → Type 0 = λ s l. AreSlicesOf s l × (joined s l ≡ all_at_rest t) in
+    let Are : SharedTables → List SliceView → Type 0 = λ s l. AreSlicesOf s l × (joined s l ≡ all_at_rest t) in
     subst (λ s. Are s slices) (sym same) (subst (Are (shared_of t)) (sym are) (cut_slices_are_at_rest t within))
 
--- ---- the stations
+-- ---- the shards
 
--- of stations that were just opened, the slices are those that they were opened with
-pub slices_back : (J : Type 0) (slices : List Sliced) → map slice_of (map (station_of {J = J}) slices) ≡ slices
+-- of shards that were just opened, the slices are those that they were opened with
+pub slices_back : (J : Type 0) (slices : List SliceView) → map slice_of (map (shard_of {J = J}) slices) ≡ slices
 slices_back J [] = refl
-slices_back J (s ∷ slices) = ap (λ (l : List Sliced). s ∷ l) (slices_back J slices)
+slices_back J (s ∷ slices) = ap (λ (l : List SliceView). s ∷ l) (slices_back J slices)
 
 module _ {J : Type 0} where
   -- and nobody waits there
-  pub nobody_waits : (slices : List Sliced) → flat_map (λ queue. queue) (map (waiting_at {J = J}) (map station_of slices)) ≡ []
+  pub nobody_waits : (slices : List SliceView) → flat_map (λ queue. queue) (map (waiting_at {J = J}) (map shard_of slices)) ≡ []
   nobody_waits [] = refl
   nobody_waits (s ∷ slices) = nobody_waits slices
 
-  pub have_not_to_wait : (slices : List Sliced) → All NobodyWaitsIn slices → All (HaveToWait {J = J}) (map station_of slices)
-  have_not_to_wait slices none = All-map HaveToWait station_of slices (All-weaker NobodyWaitsIn (λ s. HaveToWait {J = J} (station_of s)) (λ s is. subst (All (StillWaits s.holdings)) (sym is) (All-nil (StillWaits s.holdings))) slices none)
+  pub have_not_to_wait : (slices : List SliceView) → All NobodyWaitsIn slices → All (HaveToWait {J = J}) (map shard_of slices)
+  have_not_to_wait slices none = All-map HaveToWait shard_of slices (All-weaker NobodyWaitsIn (λ s. HaveToWait {J = J} (shard_of s)) (λ s is. subst (All (StillWaits s.holdings)) (sym is) (All-nil (StillWaits s.holdings))) slices none)
 
--- the stations of slices that were just cut
-pub opened_stations : {J : Type 0} (t : Database) (shared : Shared) (slices : List Sliced) (stations : List (Stationed (Carried J))) → AreSlicesOf shared slices × (joined shared slices ≡ all_at_rest t) → stations ≡ map station_of slices
-    → AreSlicesOf shared (map slice_of stations) × ((flat_map (λ queue. queue) (map waiting_at stations) ≡ []) × (joined shared (map slice_of stations) ≡ all_at_rest t))
-opened_stations {J} t shared slices stations are made =
-    let back : map slice_of stations ≡ slices = ap (map slice_of) made ∙ slices_back J slices in (
+-- the shards of slices that were just cut
+pub opened_shards : {J : Type 0} (t : Database) (shared : SharedTables) (slices : List SliceView) (shards : List (ShardView (Carried J))) → AreSlicesOf shared slices × (joined shared slices ≡ all_at_rest t) → shards ≡ map shard_of slices
+    → AreSlicesOf shared (map slice_of shards) × ((flat_map (λ queue. queue) (map waiting_at shards) ≡ []) × (joined shared (map slice_of shards) ≡ all_at_rest t))
+opened_shards {J} t shared slices shards are made =
+    let back : map slice_of shards ≡ slices = ap (map slice_of) made ∙ slices_back J slices in (
       subst (AreSlicesOf shared) (sym back) are.0,
-      (ap (λ (l : List (Stationed (Carried J))). flat_map (λ queue. queue) (map waiting_at l)) made ∙ nobody_waits slices, ap (joined shared) back ∙ are.1),
+      (ap (λ (l : List (ShardView (Carried J))). flat_map (λ queue. queue) (map waiting_at l)) made ∙ nobody_waits slices, ap (joined shared) back ∙ are.1),
     )
 
 -- slices that were just cut have nobody who waits
@@ -105,8 +105,8 @@ cut_waits parts = All-map NobodyWaitsIn at_rest parts (All-from_recursion (λ p.
 -- ---- the sessions
 
 -- a transaction in each slot, where there is none
-none_under_way : Courses
-none_under_way slot = record { request = unasked; progress = unasked_progress; held = []; age = 0 }
+none_in_flight : ActiveTransactions
+none_in_flight slot = record { request = unasked; progress = unasked_progress; held = []; age = 0 }
 
 -- free slots
 none_met : (J : Type 0) (n : ℕ) → reported_to_all {J = J} (replicate n None) ≡ []
@@ -117,14 +117,14 @@ none_awaited : (J : Type 0) (slot n : ℕ) → awaited_by_all {J = J} slot (repl
 none_awaited J slot zero = refl
 none_awaited J slot (suc n) = none_awaited J (suc slot) n
 
-none_active : (J : Type 0) (shared : Shared) (at : Courses) (slot n : ℕ) → AreSoundActive {J = J} shared at slot (replicate n None)
+none_active : (J : Type 0) (shared : SharedTables) (at : ActiveTransactions) (slot n : ℕ) → AreSoundActive {J = J} shared at slot (replicate n None)
 none_active J shared at slot zero = tt
 none_active J shared at slot (suc n) = (tt, none_active J shared at (suc slot) n)
 
 found_in : {X Y : Type 0} (f : X → Y) (o : Option X) (y : Y) (x : X) → option_map f o ≡ Some y → o ≡ Some x → y ≡ f x
 found_in f o y x found is = cc
 
-all_here : (J : Type 0) (lanes : List (Passing × Seating)) → count_by (is_here {J = J}) (map session_with lanes) ≡ length lanes
+all_here : (J : Type 0) (lanes : List (PassView × SessionSeatView)) → count_by (is_here {J = J}) (map session_with lanes) ≡ length lanes
 all_here J [] = refl
 all_here J (lane ∷ lanes) =
     sum_by-cons (λ (s : SessionDesk J). cond (is_here s) 1 0) (session_with lane) (map session_with lanes) ∙ ap {B = ℕ} (λ n. 1 + n) (all_here J lanes) ∙ one_more (length lanes)
@@ -133,7 +133,7 @@ all_here J (lane ∷ lanes) =
     one_more n = omega arith
 
 module _ {J : Type 0} where
-  session_is : (lanes : List (Passing × Seating)) (number : ℕ) (session : SessionDesk J) → AreNewLanes lanes → slice_get (map session_with lanes) number ≡ Some session
+  session_is : (lanes : List (PassView × SessionSeatView)) (number : ℕ) (session : SessionDesk J) → AreNewLanes lanes → slice_get (map session_with lanes) number ≡ Some session
       → session ≡ session_with (new_pass number, new_seat number)
   session_is lanes number session new found =
       let inside : number < length (map (session_with {J = J}) lanes) = slice_get_within (map session_with lanes) number session found in
@@ -148,7 +148,7 @@ module _ {J : Type 0} where
       ∙ ap (λ is. join nothing (join (parts part_item is) (parts part_met (reported_to_all w.desk.active)))) outbox
       ∙ ap (λ rs. join nothing (join nothing (parts part_met rs))) (ap reported_to_all active ∙ none_met J 64)
 
-  pub opened_sound : (shared : Shared) (lanes : List (Passing × Seating)) (w : Parts J) → AreNewLanes lanes → w.catalog ≡ shared → AreSlicesOf w.catalog (slices_in w) → ((w_id : ℕ) → (joined_in w).holdings w_id ≡ []) → w.inbox ≡ [] → w.outbox ≡ [] → w.desk.active ≡ replicate 64 None
+  pub opened_sound : (shared : SharedTables) (lanes : List (PassView × SessionSeatView)) (w : Parts J) → AreNewLanes lanes → w.catalog ≡ shared → AreSlicesOf w.catalog (slices_in w) → ((w_id : ℕ) → (joined_in w).holdings w_id ≡ []) → w.inbox ≡ [] → w.outbox ≡ [] → w.desk.active ≡ replicate 64 None
       → w.desk.sessions.items ≡ map session_with lanes → IsSoundWith shared nothing w
   opened_sound shared lanes w new shared_is slices none inbox outbox active sessions =
       let found_at : (number : ℕ) (session : SessionDesk J) → slice_get w.desk.sessions.items number ≡ Some session → session ≡ session_with (new_pass number, new_seat number) =
@@ -157,12 +157,12 @@ module _ {J : Type 0} where
       record {
         shared_is = shared_is;
         slices = slices;
-        under_way = none_under_way;
-        inbox = subst (All (IsSoundMessage shared none_under_way)) (sym inbox) (All-nil (IsSoundMessage shared none_under_way));
-        outbox = subst (All (IsSoundItem shared none_under_way)) (sym outbox) (All-nil (IsSoundItem shared none_under_way));
+        in_flight = none_in_flight;
+        inbox = subst (All (IsSoundMessage shared none_in_flight)) (sym inbox) (All-nil (IsSoundMessage shared none_in_flight));
+        outbox = subst (All (IsSoundItem shared none_in_flight)) (sym outbox) (All-nil (IsSoundItem shared none_in_flight));
         slots = ap (λ (l : List (Option (Active J))). length l) active ∙ length-replicate {A = Option (Active J)} 64 None;
-        active = subst (AreSoundActive shared none_under_way 0) (sym active) (none_active J shared none_under_way 0 64);
-        ages = subst (HaveTheirAges none_under_way w.desk.admitted) (sym active) (no_ages none_under_way w.desk.admitted 64);
+        active = subst (AreSoundActive shared none_in_flight 0) (sym active) (none_active J shared none_in_flight 0 64);
+        ages = subst (HaveTheirAges none_in_flight w.desk.admitted) (sym active) (no_ages none_in_flight w.desk.admitted 64);
         seats = ap length sessions ∙ length-map lanes session_with ∙ new.many;
         sessions = λ number session found.
             let is = found_at number session found in
@@ -176,18 +176,18 @@ module _ {J : Type 0} where
             (subst (λ (p : InFlight). IsPermutation [] (held_at w_id p.claims)) (sym (nothing_flies w inbox outbox active)) (IsPermutation-refl []));
       }
 
-  pub opened_new : (t : Database) (executors : ℕ) (lanes : List (Passing × Seating)) (w : Core J) → AreNewLanes lanes → w.parts.catalog ≡ shared_of t → w.parts.stations.items ≡ map station_of (map at_rest (parts_of t))
+  pub opened_new : (t : Database) (executors : ℕ) (lanes : List (PassView × SessionSeatView)) (w : Core J) → AreNewLanes lanes → w.parts.catalog ≡ shared_of t → w.parts.shards.items ≡ map shard_of (map at_rest (parts_of t))
       → AreSlicesOf w.parts.catalog (slices_in w.parts) → waiting_in w.parts ≡ [] → joined_in w.parts ≡ all_at_rest t
-      → IsOpenedBy (record { warehouses = t.scale.warehouses; executors = executors }) w.houses → w.parked ≡ [] → w.inboxes ≡ replicate executors [] → w.outboxes ≡ replicate executors []
+      → IsOpenedBy (record { warehouses = t.scale.warehouses; executors = executors }) w.placements → w.parked ≡ [] → w.inboxes ≡ replicate executors [] → w.outboxes ≡ replicate executors []
       → w.parts.inbox ≡ [] → w.parts.outbox ≡ [] → w.parts.log ≡ [] → w.parts.desk.admitted ≡ 0 → w.parts.desk.active ≡ replicate 64 None
       → w.parts.desk.sessions.items ≡ map session_with lanes → IsNew t executors w
-  opened_new t executors lanes w new catalog stations slices none_waits rows houses parked inboxes outboxes inbox outbox log admitted active sessions = record {
+  opened_new t executors lanes w new catalog shards slices none_waits rows placements parked inboxes outboxes inbox outbox log admitted active sessions = record {
     catalog = catalog;
-    stations = stations;
+    shards = shards;
     slices = slices;
     none_waits = none_waits;
     rows = rows;
-    houses = houses;
+    placements = placements;
     parked = parked;
     inboxes = inboxes;
     outboxes = outboxes;
@@ -212,29 +212,29 @@ none_at X (suc n) (suc place) = none_at X n place
 
 module _ {J : Type 0} where
   -- so it is where each executor has empty queues
-  pub opened_core : (shared : Shared) (executors : ℕ) (lanes : List (Passing × Seating)) (w : Core J) → AreNewLanes lanes → w.parts.catalog ≡ shared → AreSlicesOf w.parts.catalog (slices_in w.parts)
-      → ((w_id : ℕ) → (joined_in w.parts).holdings w_id ≡ []) → waiting_in w.parts ≡ [] → All (IsStationOf shared.scale.warehouses) w.parts.stations.items → All HaveToWait w.parts.stations.items
-      → IsOpenedBy (record { warehouses = shared.scale.warehouses; executors = executors }) w.houses → w.parked ≡ [] → w.inboxes ≡ replicate executors [] → w.outboxes ≡ replicate executors []
+  pub opened_core : (shared : SharedTables) (executors : ℕ) (lanes : List (PassView × SessionSeatView)) (w : Core J) → AreNewLanes lanes → w.parts.catalog ≡ shared → AreSlicesOf w.parts.catalog (slices_in w.parts)
+      → ((w_id : ℕ) → (joined_in w.parts).holdings w_id ≡ []) → waiting_in w.parts ≡ [] → All (IsShardOf shared.scale.warehouses) w.parts.shards.items → All HaveToWait w.parts.shards.items
+      → IsOpenedBy (record { warehouses = shared.scale.warehouses; executors = executors }) w.placements → w.parked ≡ [] → w.inboxes ≡ replicate executors [] → w.outboxes ≡ replicate executors []
       → w.parts.inbox ≡ [] → w.parts.outbox ≡ [] → w.parts.desk.active ≡ replicate 64 None → w.parts.desk.sessions.items ≡ map session_with lanes → IsSound shared w
-  opened_core shared executors lanes w new shared_is slices none none_wait stations wait houses parked inboxes outboxes inbox outbox active sessions =
-      let no_letters : all_of w.inboxes ≡ [] = ap (λ qs. all_of qs) inboxes ∙ none_waits (Letter J) executors in
-      let no_posts : all_of w.outboxes ≡ [] = ap (λ qs. all_of qs) outboxes ∙ none_waits (Posted J) executors in
+  opened_core shared executors lanes w new shared_is slices none none_wait shards wait placements parked inboxes outboxes inbox outbox active sessions =
+      let no_envelopes : all_of w.inboxes ≡ [] = ap (λ qs. all_of qs) inboxes ∙ none_waits (Envelope J) executors in
+      let no_posts : all_of w.outboxes ≡ [] = ap (λ qs. all_of qs) outboxes ∙ none_waits (Outgoing J) executors in
       let routes : Routes = record { warehouses = shared.scale.warehouses; executors = executors } in
-      let letters : letters_of_all w ≡ [] = ap (λ (ls : List (Letter J)). ls ++ letters_out (all_of w.outboxes)) no_letters ∙ ap (λ (ps : List (Posted J)). letters_out ps) no_posts in
+      let envelopes : envelopes_of_all w ≡ [] = ap (λ (ls : List (Envelope J)). ls ++ envelopes_out (all_of w.outboxes)) no_envelopes ∙ ap (λ (ps : List (Outgoing J)). envelopes_out ps) no_posts in
       record {
-        stations = stations;
+        shards = shards;
         wait = wait;
         all = opened_sound shared lanes (together w) new shared_is slices none
-            (ap (λ (q : List (Message J)). q ++ (messages_in (all_of w.inboxes) ++ w.parked)) none_wait ∙ ap (λ (ls : List (Letter J)). messages_in ls ++ w.parked) no_letters ∙ parked)
-            (ap (λ (ps : List (Posted J)). items_in ps) no_posts) active sessions;
-        warehouses = houses.many;
-        inboxes = ap (λ qs. length qs) inboxes ∙ length-replicate executors [] ∙ sym houses.executors;
-        outboxes = ap (λ qs. length qs) outboxes ∙ length-replicate executors [] ∙ sym houses.executors;
-        own = λ executor. subst (λ (q : List (Letter J)). All (IsTo executor) q) (sym (ap (λ (qs : List (List (Letter J))). slice_index_or qs executor []) inboxes ∙ none_at (Letter J) executors executor)) (All-nil (IsTo executor));
-        posted = subst (λ (ps : List (Posted J)). All (IsPosted w.houses.executors) ps) (sym no_posts) (All-nil (IsPosted w.houses.executors));
-        housed = subst (λ (ls : List (Letter J)). IsHousedWith 0 w.houses (going_in ls) (sent_in ls) (arrived_in w) (map home_of_message w.parked)) (sym letters)
-            (subst (λ (ps : List (Posted J)). IsHousedWith 0 w.houses [] [] (sum_by arrived_of ps) (map home_of_message w.parked)) (sym no_posts)
-            (subst (λ (ms : List (Message J)). IsHousedWith 0 w.houses [] [] 0 (map home_of_message ms)) (sym parked) (opened_housed routes w.houses houses)));
+            (ap (λ (q : List (Message J)). q ++ (messages_in (all_of w.inboxes) ++ w.parked)) none_wait ∙ ap (λ (ls : List (Envelope J)). messages_in ls ++ w.parked) no_envelopes ∙ parked)
+            (ap (λ (ps : List (Outgoing J)). items_in ps) no_posts) active sessions;
+        warehouses = placements.many;
+        inboxes = ap (λ qs. length qs) inboxes ∙ length-replicate executors [] ∙ sym placements.executors;
+        outboxes = ap (λ qs. length qs) outboxes ∙ length-replicate executors [] ∙ sym placements.executors;
+        own = λ executor. subst (λ (q : List (Envelope J)). All (IsTo executor) q) (sym (ap (λ (qs : List (List (Envelope J))). slice_index_or qs executor []) inboxes ∙ none_at (Envelope J) executors executor)) (All-nil (IsTo executor));
+        outgoing = subst (λ (ps : List (Outgoing J)). All (IsOutgoing w.placements.executors) ps) (sym no_posts) (All-nil (IsOutgoing w.placements.executors));
+        located = subst (λ (ls : List (Envelope J)). IsLocatedWith 0 w.placements (going_in ls) (sent_in ls) (arrived_in w) (map home_of_message w.parked)) (sym envelopes)
+            (subst (λ (ps : List (Outgoing J)). IsLocatedWith 0 w.placements [] [] (sum_by arrived_of ps) (map home_of_message w.parked)) (sym no_posts)
+            (subst (λ (ms : List (Message J)). IsLocatedWith 0 w.placements [] [] 0 (map home_of_message ms)) (sym parked) (opened_located routes w.placements placements)));
         no_inbox = inbox;
         no_outbox = outbox;
       }
@@ -244,7 +244,7 @@ module _ {J : Type 0} where
 module _ (t : Database) (consistent : Consistent t) where
   rest_fits : FitsPart t [] [] (all_at_rest t) 0 nothing
   rest_fits = record {
-    told = empty_history_fits t consistent;
+    recorded = empty_history_fits t consistent;
     committed = (kept.rest_is_committed everywhere (content t) (all_standing (all_at_rest t))).0 (record {
       free = λ group near. refl;
       rows = λ group near. refl;
@@ -267,5 +267,5 @@ module _ (t : Database) (consistent : Consistent t) where
       → w.parts.desk.active ≡ replicate 64 None → w.parts.desk.admitted ≡ 0 → Fits t [] (together w)
   opened_fits {J} executors w none_wait rest empty parked inboxes outboxes active admitted =
       opened_parts (together w) rest empty
-      (ap (λ (q : List (Message J)). q ++ (messages_in (all_of w.inboxes) ++ w.parked)) none_wait ∙ ap (λ qs. messages_in (all_of qs) ++ w.parked) inboxes ∙ ap (λ (ls : List (Letter J)). messages_in ls ++ w.parked) (none_waits (Letter J) executors) ∙ parked)
-      (ap (λ qs. items_in (all_of qs)) outboxes ∙ ap (λ (ps : List (Posted J)). items_in ps) (none_waits (Posted J) executors)) active admitted
+      (ap (λ (q : List (Message J)). q ++ (messages_in (all_of w.inboxes) ++ w.parked)) none_wait ∙ ap (λ qs. messages_in (all_of qs) ++ w.parked) inboxes ∙ ap (λ (ls : List (Envelope J)). messages_in ls ++ w.parked) (none_waits (Envelope J) executors) ∙ parked)
+      (ap (λ qs. items_in (all_of qs)) outboxes ∙ ap (λ (ps : List (Outgoing J)). items_in ps) (none_waits (Outgoing J) executors)) active admitted

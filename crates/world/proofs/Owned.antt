@@ -1,4 +1,4 @@
--- In an executor's inbox there are letters to it alone, and only pushes put any.
+-- In an executor's inbox there are envelopes to it alone, and only pushes put any.
 use Rattle.std.proofs.Common.{◌≡◌, ◌≢◌, inl, inr, ℕ, ◌<◌, ◌==◌, List, [], length, Option, Some, None, refl, sym, ◌∙◌, ap, subst, ⊎_elim}
 use Rattle.std.specs.Prelude.{All, slice_index_or, slice_set}
 use Rattle.std.proofs.lemmas.Bool.{eq-eqb}
@@ -9,7 +9,7 @@ use Rattle.history.specs.declared.event.EventAnswer.{EventAnswer}
 use Rattle.transactions.specs.declared.progress.Gathered.{Gathered}
 use Rattle.transactions.specs.declared.progress.Gathered.TheVariants.{Next, Finish}
 use Rattle.world.specs.declared.flight.Commit.{Commit}
-use Rattle.world.specs.declared.flight.Journey.{Journey}
+use Rattle.world.specs.declared.flight.Flow.{Flow}
 use Rattle.world.specs.declared.flight.Transaction.{Transaction}
 use Rattle.world.specs.declared.flight.Report.{Report}
 use Rattle.world.specs.declared.flight.Item.{Item}
@@ -17,8 +17,8 @@ use Rattle.world.specs.declared.flight.Item.TheVariants as item
 use Rattle.world.specs.declared.world.Parts.{Parts}
 use Rattle.world.specs.Following.{refusal_of}
 use Rattle.world.specs.Events.{Commits, MeetsAs, MeetsUnless, ReportsInto, SendsItem, goes_on}
-use Rattle.world.specs.declared.flight.Letter.{Letter}
-use Rattle.world.specs.Letters.{IsNoPush, IsTo}
+use Rattle.world.specs.declared.flight.Envelope.{Envelope}
+use Rattle.world.specs.Envelopes.{IsNoPush, IsTo}
 use Rattle.world.specs.Queues.{queue_of}
 use Rattle.world.proofs.Sorting.{carried_both}
 use Rattle.world.proofs.Tokens.{IsFalse, by_bool}
@@ -26,7 +26,7 @@ use Rattle.world.proofs.Tokens.{IsFalse, by_bool}
 module _ {J : Type 0} where
   -- ---- one inbox in place of another
 
-  pub own_put : (inboxes : List (List (Letter J))) (to : ℕ) (inbox : List (Letter J)) → to < length inboxes
+  pub own_put : (inboxes : List (List (Envelope J))) (to : ℕ) (inbox : List (Envelope J)) → to < length inboxes
       → ((executor : ℕ) → All (IsTo executor) (queue_of executor inboxes)) → All (IsTo to) inbox
       → (executor : ℕ) → All (IsTo executor) (queue_of executor (slice_set inboxes to inbox))
   own_put inboxes to inbox below own fine executor =
@@ -45,15 +45,15 @@ module _ {J : Type 0} where
   goes_inbox t (Next progress) w = refl
   goes_inbox t (Finish shown) w = refl
 
-  unless_inbox : (why : Option Refusal) (reports : List (Report J)) (journey : Journey J) (old new : Parts J) → MeetsUnless why reports journey old new → new.inbox ≡ old.inbox
-  unless_inbox (Some why) reports journey old new said = ap (λ (w : Parts J). w.inbox) said
-  unless_inbox None reports journey old new said =
+  unless_inbox : (why : Option Refusal) (reports : List (Report J)) (flow : Flow J) (old new : Parts J) → MeetsUnless why reports flow old new → new.inbox ≡ old.inbox
+  unless_inbox (Some why) reports flow old new said = ap (λ (w : Parts J). w.inbox) said
+  unless_inbox None reports flow old new said =
       ⊎_elim (λ no_memory. ap (λ (w : Parts J). w.inbox) no_memory) (λ gathered. ap (λ (w : Parts J). w.inbox) gathered.1.1 ∙ goes_inbox _ gathered.0 old) said
 
   meets_inbox : (reports : List (Report J)) (old new : Parts J) → MeetsAs reports old new → new.inbox ≡ old.inbox
   meets_inbox reports old new said =
-      let P : Journey J → Type 0 = λ journey. MeetsUnless (refusal_of None reports) reports journey old new in
-      carried_both reports P P (new.inbox ≡ old.inbox) (λ journey one same. unless_inbox (refusal_of None reports) reports journey old new one) said said
+      let P : Flow J → Type 0 = λ flow. MeetsUnless (refusal_of None reports) reports flow old new in
+      carried_both reports P P (new.inbox ≡ old.inbox) (λ flow one same. unless_inbox (refusal_of None reports) reports flow old new one) said said
 
   commits_inbox : (commit : Commit J) (old new : Parts J) (answer : EventAnswer) → Commits commit old answer new → new.inbox ≡ old.inbox
   commits_inbox commit old new answer said = ap (λ (w : Parts J). w.inbox) said.over
@@ -68,4 +68,4 @@ module _ {J : Type 0} where
   sent_inbox (item.Report r) old new answer no_push said = into_inbox r.slot said.1.0 _ old new said.1.1.1.1
   sent_inbox (item.Ended slot) old new answer no_push said = ap (λ (w : Parts J). w.inbox) said.1.1.1
   sent_inbox (item.Commit commit) old new answer no_push said = commits_inbox commit old new answer said
-  sent_inbox (item.Reply told) old new answer no_push said = said.1.1.1.1.1.0
+  sent_inbox (item.Reply recorded) old new answer no_push said = said.1.1.1.1.1.0

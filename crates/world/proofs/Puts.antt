@@ -8,10 +8,10 @@ use Rattle.std.proofs.lemmas.List.Elements.{All-head, All-tail, All-append}
 use Rattle.std.proofs.lemmas.List.Sorted.{IsPermutation-refl, IsPermutation-append, sum_by-IsPermutation}
 use Rattle.std.proofs.lemmas.List.Sums.{sum_by-append}
 use Rattle.std.proofs.lemmas.Option.{slice_get_within}
-use Rattle.partitions.specs.Parts.{Shared}
+use Rattle.partitions.specs.Parts.{SharedTables}
 use Rattle.schema.specs.Database.{Database}
-use Rattle.history.specs.History.{Step, Unanswered, is_of}
-use Rattle.slices.specs.Sliced.{AreAllHeld, AreSlicesOf}
+use Rattle.history.specs.History.{Step, UnansweredTransaction, is_of}
+use Rattle.slices.specs.SliceView.{AreAllHeld, AreSlicesOf}
 use Rattle.slices.proofs.Held.{held_in_any_order}
 use Rattle.world.specs.declared.desk.Active.{Active}
 use Rattle.world.specs.declared.desk.Desk.{Desk}
@@ -19,9 +19,9 @@ use Rattle.world.specs.declared.desk.SessionDesk.{SessionDesk}
 use Rattle.world.specs.declared.flight.Item.{Item}
 use Rattle.world.specs.declared.world.Parts.{Parts}
 use Rattle.world.specs.Parted.{joined_in}
-use Rattle.world.specs.Stations.{slices_in}
+use Rattle.world.specs.Shards.{slices_in}
 use Rattle.world.specs.Flights.{Token, InFlight, part, nothing, join, parts, part_item, part_met}
-use Rattle.world.specs.Sound.{Courses, HaveTheirAges, UnderWay, IsSoundWith, IsSoundMessage, IsSoundItem, IsSoundActive, AreSoundActive, IsSessionOf, IsBalanced, WeighAlike, flight, reported_to, reported_to_all, awaited, awaited_by_all, is_here}
+use Rattle.world.specs.Sound.{ActiveTransactions, HaveTheirAges, ActiveTransaction, IsSoundWith, IsSoundMessage, IsSoundItem, IsSoundActive, AreSoundActive, IsSessionOf, IsBalanced, WeighAlike, flight, reported_to, reported_to_all, awaited, awaited_by_all, is_here}
 use Rattle.world.specs.Following.{putting, with_active}
 use Rattle.world.specs.Worlds.{FitsPart, Fits}
 use Rattle.world.proofs.Joins.{IsSame, same-refl, same-sym, same-trans, same-join, join-assoc}
@@ -30,22 +30,22 @@ use Rattle.world.proofs.Fitting.{fits_same, fits_like}
 use Rattle.world.proofs.Reported.{met_tokens}
 use Rattle.world.proofs.OneSlot.{lots, without, of_slot, weigh_slots, awaited_of, awaited_then, flight_apart, flight_then, flight_with, none_of_slot, sound_then}
 use Rattle.world.proofs.Ages.{ages_on, ages_then}
-use Rattle.world.proofs.Courses.{course_on, course_elsewhere, messages_stay, items_stay}
+use Rattle.world.proofs.ActiveTransactions.{transaction_on, transaction_elsewhere, messages_stay, items_stay}
 use Rattle.world.proofs.Tokens.{one_weighs}
 
 module _ {J : Type 0} where
   -- what is known of the first item of the outbox, once it is in hand
-  pub item_in_hand : (shared : Shared) (old : Parts J) (item : Item J) (rest : List (Item J)) → old.outbox ≡ item ∷ rest
+  pub item_in_hand : (shared : SharedTables) (old : Parts J) (item : Item J) (rest : List (Item J)) → old.outbox ≡ item ∷ rest
       → IsSoundWith shared nothing old
-      → (h : IsSoundWith shared (part_item item) (record old { outbox = rest })) × IsSoundItem shared h.under_way item
+      → (h : IsSoundWith shared (part_item item) (record old { outbox = rest })) × IsSoundItem shared h.in_flight item
   item_in_hand shared old item rest is h =
-      let all = subst (λ is. All (IsSoundItem shared h.under_way) is) is h.outbox in (
+      let all = subst (λ is. All (IsSoundItem shared h.in_flight) is) is h.outbox in (
         record {
           shared_is = h.shared_is;
           slices = h.slices;
-          under_way = h.under_way;
+          in_flight = h.in_flight;
           inbox = h.inbox;
-          outbox = All-tail (IsSoundItem shared h.under_way) item rest all;
+          outbox = All-tail (IsSoundItem shared h.in_flight) item rest all;
           slots = h.slots;
           active = h.active;
           ages = h.ages;
@@ -54,7 +54,7 @@ module _ {J : Type 0} where
           balance = balanced_same old.desk (flight old) (join (part_item item) (flight (record old { outbox = rest }))) (item_taken old item rest is) h.balance;
           held = held_same (joined_in old) (flight old) (join (part_item item) (flight (record old { outbox = rest }))) (item_taken old item rest is) h.held;
         },
-        All-head (IsSoundItem shared h.under_way) item rest all,
+        All-head (IsSoundItem shared h.in_flight) item rest all,
       )
 
   pub fits_in_hand : (opening : Database) (history : List Step) (old : Parts J) (item : Item J) (rest : List (Item J)) → old.outbox ≡ item ∷ rest
@@ -63,16 +63,16 @@ module _ {J : Type 0} where
       fits_same opening history old.log (joined_in old) old.desk.admitted (flight old) (join (part_item item) (flight (record old { outbox = rest }))) (item_taken old item rest is) f
 
   -- each session has its one pass or its one transaction, and there are 64
-  pub record AreServed (desk : Desk J) (pending : List Unanswered) : Type 0 where
+  pub record AreServed (desk : Desk J) (pending : List UnansweredTransaction) : Type 0 where
     pub alone : (number : ℕ) (session : SessionDesk J) → slice_get desk.sessions.items number ≡ Some session
         → count_by (is_of number) pending + cond (is_here session) 1 0 ≡ 1
     pub many : length pending + count_by is_here desk.sessions.items ≡ 64
 
   -- ---- the world but for one slot
 
-  -- All is sound but for the transaction in this slot, of which nothing is under way: of what is, there is just what the others
+  -- All is sound but for the transaction in this slot, of which nothing is in flight: of what is, there is just what the others
   -- await.
-  pub record Rests (shared : Shared) (at : Courses) (slot : ℕ) (w : Parts J) : Type 0 where
+  pub record Rests (shared : SharedTables) (at : ActiveTransactions) (slot : ℕ) (w : Parts J) : Type 0 where
     pub shared_is : w.catalog ≡ shared
     pub slices : AreSlicesOf w.catalog (slices_in w)
     pub inbox : All (IsSoundMessage shared at) w.inbox
@@ -86,8 +86,8 @@ module _ {J : Type 0} where
     pub tokens : WeighAlike (lots slot w).tokens (awaited_by_all 0 (without slot w.desk.active))
 
   -- where all that the transaction awaits is in hand
-  pub rests_of : (shared : Shared) (hand : InFlight) (w : Parts J) (h : IsSoundWith shared hand w) (slot : ℕ) (a : Option (Active J)) → slice_get w.desk.active slot ≡ Some a
-      → WeighAlike hand.tokens (awaited slot a) → Rests shared h.under_way slot w
+  pub rests_of : (shared : SharedTables) (hand : InFlight) (w : Parts J) (h : IsSoundWith shared hand w) (slot : ℕ) (a : Option (Active J)) → slice_get w.desk.active slot ≡ Some a
+      → WeighAlike hand.tokens (awaited slot a) → Rests shared h.in_flight slot w
   rests_of shared hand w h slot a is own = record {
     shared_is = h.shared_is;
     slices = h.slices;
@@ -95,7 +95,7 @@ module _ {J : Type 0} where
     outbox = h.outbox;
     slots = h.slots;
     below = subst (λ n. slot < n) h.slots (slice_get_within w.desk.active slot a is);
-    others = sound_then shared h.under_way h.under_way slot w.desk.active None (λ m other. refl) h.active tt;
+    others = sound_then shared h.in_flight h.in_flight slot w.desk.active None (λ m other. refl) h.active tt;
     ages = h.ages;
     seats = h.seats;
     sessions = h.sessions;
@@ -113,12 +113,12 @@ module _ {J : Type 0} where
   }
 
   -- and then it may have come as far as it likes, if it is as old as it was
-  pub rests_with : (shared : Shared) (at : Courses) (slot : ℕ) (w : Parts J) (u : UnderWay) → ((x : Active J) → slice_get w.desk.active slot ≡ Some (Some x) → u.age ≡ (at slot).age)
-      → Rests shared at slot w → Rests shared (course_on at slot u) slot w
+  pub rests_with : (shared : SharedTables) (at : ActiveTransactions) (slot : ℕ) (w : Parts J) (u : ActiveTransaction) → ((x : Active J) → slice_get w.desk.active slot ≡ Some (Some x) → u.age ≡ (at slot).age)
+      → Rests shared at slot w → Rests shared (transaction_on at slot u) slot w
   rests_with shared at slot w u aged r =
       let g = of_slot slot in
-      let bt = course_on at slot u in
-      let stays : (m : ℕ) → g m ≡ 0 → at m ≡ bt m = λ m none. course_elsewhere at slot u m (λ is. one_at m is none) in
+      let bt = transaction_on at slot u in
+      let stays : (m : ℕ) → g m ≡ 0 → at m ≡ bt m = λ m none. transaction_elsewhere at slot u m (λ is. one_at m is none) in
       let rest = lots slot w in
       let zero_all : sum_by (weigh_slots g) rest.tokens ≡ 0 = r.tokens (weigh_slots g) ∙ none_of_slot slot w.desk.active in
       let met = parts part_met (reported_to_all (without slot w.desk.active)) in
@@ -132,7 +132,7 @@ module _ {J : Type 0} where
         slots = r.slots;
         below = r.below;
         others = subst (λ (l : List (Option (Active J))). AreSoundActive shared bt 0 l) (set-set w.desk.active slot None None)
-            (sound_then shared at bt slot (without slot w.desk.active) None (λ m other. course_elsewhere at slot u m other) r.others tt);
+            (sound_then shared at bt slot (without slot w.desk.active) None (λ m other. transaction_elsewhere at slot u m other) r.others tt);
         ages = ages_on at w.desk.admitted slot w.desk.active u aged r.ages;
         seats = r.seats;
         sessions = r.sessions;
@@ -144,7 +144,7 @@ module _ {J : Type 0} where
 
   -- ---- the transaction in the slot goes on
 
-  -- what is under way then
+  -- what is in flight then
   lots_put : (w : Parts J) (items : List (Item J)) (slot : ℕ) (a : Option (Active J)) → reported_to a ≡ [] → slot < length w.desk.active
       → IsSame (flight (putting items slot a w)) (join (parts part_item items) (lots slot w))
   lots_put w items slot a none below =
@@ -161,7 +161,7 @@ module _ {J : Type 0} where
       (IsPermutation-append hand.claims put.claims rest.claims rest.claims claims (IsPermutation-refl rest.claims))
       (IsPermutation-append hand.pending put.pending rest.pending rest.pending pending (IsPermutation-refl rest.pending)) f)
 
-  pub puts_sound : (shared : Shared) (at : Courses) (slot : ℕ) (w : Parts J) (hand : InFlight) (items : List (Item J)) (a : Option (Active J)) → Rests shared at slot w → (x : Active J) × (slice_get w.desk.active slot ≡ Some (Some x)) → reported_to a ≡ []
+  pub puts_sound : (shared : SharedTables) (at : ActiveTransactions) (slot : ℕ) (w : Parts J) (hand : InFlight) (items : List (Item J)) (a : Option (Active J)) → Rests shared at slot w → (x : Active J) × (slice_get w.desk.active slot ≡ Some (Some x)) → reported_to a ≡ []
       → All (IsSoundItem shared at) items → IsSoundActive shared slot (at slot) a
       → IsPermutation hand.pending (parts part_item items).pending
       → AreServed w.desk (hand.pending ++ (lots slot w).pending)
@@ -184,7 +184,7 @@ module _ {J : Type 0} where
       record {
         shared_is = r.shared_is;
         slices = r.slices;
-        under_way = at;
+        in_flight = at;
         inbox = r.inbox;
         outbox = All-append (IsSoundItem shared at) w.outbox items r.outbox fine;
         slots = length-set w.desk.active slot a ∙ r.slots;
@@ -200,15 +200,15 @@ module _ {J : Type 0} where
       }
 
   -- from what was in hand, the next world is sound, and a history that fits goes on fitting
-  pub record GoesOn (shared : Shared) (hand : InFlight) (old new : Parts J) : Type 0 where
+  pub record GoesOn (shared : SharedTables) (hand : InFlight) (old new : Parts J) : Type 0 where
     pub sound : IsSoundWith shared nothing new
     pub fits : (opening : Database) (history : List Step) → FitsPart opening history old.log (joined_in old) old.desk.admitted (join hand (flight old)) → Fits opening history new
 
   -- ---- what is in hand joins what the slot has
 
   -- What is in hand, with what has met in the slot, is what has met there then; and it awaits so much less.
-  pub joins_on : (shared : Shared) (hand : InFlight) (w : Parts J) (h : IsSoundWith shared hand w) (slot : ℕ) (a b : Option (Active J)) → slice_get w.desk.active slot ≡ Some a → (x : Active J) × (a ≡ Some x)
-      → IsSoundActive shared slot (h.under_way slot) b
+  pub joins_on : (shared : SharedTables) (hand : InFlight) (w : Parts J) (h : IsSoundWith shared hand w) (slot : ℕ) (a b : Option (Active J)) → slice_get w.desk.active slot ≡ Some a → (x : Active J) × (a ≡ Some x)
+      → IsSoundActive shared slot (h.in_flight slot) b
       → ((weight : Token → ℕ) → sum_by weight hand.tokens + sum_by weight (awaited slot b) ≡ sum_by weight (awaited slot a))
       → IsPermutation (hand.claims ++ (parts part_met (reported_to a)).claims) (parts part_met (reported_to b)).claims
       → IsPermutation (hand.pending ++ (parts part_met (reported_to a)).pending) (parts part_met (reported_to b)).pending
@@ -248,12 +248,12 @@ module _ {J : Type 0} where
         sound = record {
           shared_is = h.shared_is;
           slices = h.slices;
-          under_way = h.under_way;
+          in_flight = h.in_flight;
           inbox = h.inbox;
           outbox = h.outbox;
           slots = length-set w.desk.active slot b ∙ h.slots;
-          active = sound_then shared h.under_way h.under_way slot w.desk.active b (λ m other. refl) h.active sound;
-          ages = ages_then h.under_way w.desk.admitted slot w.desk.active b some.0 (is ∙ ap (λ (o : Option (Active J)). Some o) some.1) h.ages;
+          active = sound_then shared h.in_flight h.in_flight slot w.desk.active b (λ m other. refl) h.active sound;
+          ages = ages_then h.in_flight w.desk.admitted slot w.desk.active b some.0 (is ∙ ap (λ (o : Option (Active J)). Some o) some.1) h.ages;
           seats = h.seats;
           sessions = h.sessions;
           balance = balanced_same desk (join now rest) (flight next) then balance;
@@ -262,5 +262,5 @@ module _ {J : Type 0} where
         fits = λ opening history f.
             let together = fits_same opening history w.log (joined_in w) w.desk.admitted (join hand (flight w)) (join met rest) with_token f in
             fits_same opening history w.log (joined_in w) w.desk.admitted (join now rest) (flight next) then
-            (record { told = together.told; committed = together.committed; held = together.held; accepted = together.accepted; claimed = together.claimed; scale = together.scale; items = together.items });
+            (record { recorded = together.recorded; committed = together.committed; held = together.held; accepted = together.accepted; claimed = together.claimed; scale = together.scale; items = together.items });
       }

@@ -1,13 +1,13 @@
--- Where nothing is active nothing is under way but answers, and where nothing can be taken or sent nothing is active.
+-- Where nothing is active nothing is in flight but answers, and where nothing can be taken or sent nothing is active.
 use Rattle.std.proofs.Common.{◌≡◌, ℕ, suc, Bool, true, false, List, [], ◌∷◌, ◌++◌, length, Option, Some, None, refl, sym, ◌∙◌, ap, subst, arith, nat_lt}
 use Rattle.std.specs.Prelude.{All, Result, Ok, Err}
 use Rattle.std.specs.List.{sum_by}
 use Rattle.std.proofs.lemmas.List.Elements.{All-head, All-tail}
 use Rattle.std.proofs.lemmas.List.Sums.{sum_by-append}
-use Rattle.partitions.specs.Parts.{Shared}
+use Rattle.partitions.specs.Parts.{SharedTables}
 use Rattle.schema.specs.Database.{Database}
 use Rattle.groups.specs.Content.{content}
-use Rattle.tickets.specs.Claims.{Claiming}
+use Rattle.tickets.specs.Claims.{ClaimView}
 use Rattle.tickets.specs.Committed.{AreCommitted}
 use Rattle.tickets.proofs.Committed as kept
 use Rattle.groups.proofs.RowsInGroups.{contents_make_tables}
@@ -17,7 +17,7 @@ use Rattle.history.specs.declared.event.EventAnswer.{EventAnswer}
 use Rattle.history.specs.declared.event.EventAnswer.TheVariants.{Nothing}
 use Rattle.history.specs.History.{Step}
 use Rattle.rendezvous.specs.Awaited.{awaited_from}
-use Rattle.slices.specs.Sliced.{all_standing, everywhere}
+use Rattle.slices.specs.SliceView.{all_standing, everywhere}
 use Rattle.requests.specs.declared.refusal.Refusal.{Refusal}
 use Rattle.world.specs.declared.desk.Active.{Active}
 use Rattle.world.specs.declared.desk.Active.TheVariants as active
@@ -29,8 +29,8 @@ use Rattle.world.specs.Parted.{joined_in}
 use Rattle.world.specs.Flights.{nothing, parts, part_message, part_item, part_met}
 use Rattle.world.specs.declared.flight.Report.{Report}
 use Rattle.world.specs.Slots.{count_active}
-use Rattle.world.specs.Sound.{Courses, UnderWay, IsSoundWith, IsSoundActive, AreSoundActive, IsSoundItem, awaited, awaited_by_all, flight, reported_to_all}
-use Rattle.world.specs.Events.{Pushes, SendsItem, told_of}
+use Rattle.world.specs.Sound.{ActiveTransactions, ActiveTransaction, IsSoundWith, IsSoundActive, AreSoundActive, IsSoundItem, awaited, awaited_by_all, flight, reported_to_all}
+use Rattle.world.specs.Events.{Pushes, SendsItem, recorded_of}
 use Rattle.world.specs.Worlds.{Fits, tables_now}
 use Rattle.world.proofs.Balances.{in_inbox, in_outbox}
 use Rattle.world.proofs.FreeSlots.{count-none, count-some}
@@ -41,14 +41,14 @@ use Rattle.world.proofs.Rooms.{as_many, so_many_end}
 module _ {J : Type 0} where
   -- ---- while something is active, something is awaited
 
-  none_active : (shared : Shared) (slot : ℕ) (u : UnderWay) (a : Option (Active J)) → IsSoundActive shared slot u a → sum_by one_each (awaited slot a) ≡ 0 → a ≡ None
+  none_active : (shared : SharedTables) (slot : ℕ) (u : ActiveTransaction) (a : Option (Active J)) → IsSoundActive shared slot u a → sum_by one_each (awaited slot a) ≡ 0 → a ≡ None
   none_active shared slot u None h none = refl
   none_active shared slot u (Some (active.Acting first slots)) h none = absurd (omega (arith, none, as_many slot (awaited_from first slots), as_many_from first slots, h.awaits))
   none_active shared slot u (Some active.Committing) h none = absurd (omega (arith, none))
   none_active shared slot u (Some (active.Ending left)) h none = absurd (omega (arith, none, so_many_end slot left, h.0))
 
   -- where nothing is awaited nothing is active
-  all_idle : (shared : Shared) (at : Courses) (slot : ℕ) (slots : List (Option (Active J))) → AreSoundActive shared at slot slots → sum_by one_each (awaited_by_all slot slots) ≡ 0 → count_active slots ≡ 0
+  all_idle : (shared : SharedTables) (at : ActiveTransactions) (slot : ℕ) (slots : List (Option (Active J))) → AreSoundActive shared at slot slots → sum_by one_each (awaited_by_all slot slots) ≡ 0 → count_active slots ≡ 0
   all_idle shared at slot [] h none = refl
   all_idle shared at slot (a ∷ slots) h none =
       let both = sum_by-append one_each (awaited slot a) (awaited_by_all (suc slot) slots) in
@@ -69,13 +69,13 @@ module _ {J : Type 0} where
 
   -- ---- where nothing can be taken or sent
 
-  pub quiet_rests : (shared : Shared) (w : Parts J) → IsSoundWith shared nothing w → w.inbox ≡ [] → w.outbox ≡ [] → (count_active w.desk.active ≡ 0) × ((flight w).claims ≡ [])
+  pub quiet_rests : (shared : SharedTables) (w : Parts J) → IsSoundWith shared nothing w → w.inbox ≡ [] → w.outbox ≡ [] → (count_active w.desk.active ≡ 0) × ((flight w).claims ≡ [])
   quiet_rests shared w h inbox outbox =
       let met = reported_to_all w.desk.active in
       let tokens : (flight w).tokens ≡ [] =
       ap (λ (ms : List (Message J)). (parts part_message ms).tokens ++ ((parts part_item w.outbox).tokens ++ (parts part_met met).tokens)) inbox
       ∙ ap (λ (is : List (Item J)). (parts part_item is).tokens ++ (parts part_met met).tokens) outbox ∙ met_tokens met in
-      let idle = all_idle shared h.under_way 0 w.desk.active h.active (sym (h.balance.tokens one_each) ∙ ap (λ ts. sum_by one_each ts) tokens) in (
+      let idle = all_idle shared h.in_flight 0 w.desk.active h.active (sym (h.balance.tokens one_each) ∙ ap (λ ts. sum_by one_each ts) tokens) in (
         idle,
         ap (λ (ms : List (Message J)). (parts part_message ms).claims ++ ((parts part_item w.outbox).claims ++ (parts part_met met).claims)) inbox
             ∙ ap (λ (is : List (Item J)). (parts part_item is).claims ++ (parts part_met met).claims) outbox
@@ -84,7 +84,7 @@ module _ {J : Type 0} where
 
   -- ---- where nothing is active
 
-  no_claims : (shared : Shared) (at : Courses) (items : List (Item J)) → All (IsSoundItem shared at) items
+  no_claims : (shared : SharedTables) (at : ActiveTransactions) (items : List (Item J)) → All (IsSoundItem shared at) items
       → sum_by one_each (parts part_item items).tokens ≡ 0 → (parts part_item items).claims ≡ []
   no_claims shared at [] h none = refl
   no_claims shared at (item.Push message ∷ items) h none =
@@ -100,23 +100,23 @@ module _ {J : Type 0} where
       absurd (omega (arith, none, sum_by-append one_each (part_item {J = J} (item.Ended slot)).tokens (parts part_item items).tokens))
   no_claims shared at (item.Commit commit ∷ items) h none =
       absurd (omega (arith, none, sum_by-append one_each (part_item (item.Commit commit)).tokens (parts part_item items).tokens))
-  no_claims shared at (item.Reply told ∷ items) h none =
-      no_claims shared at items (All-tail (IsSoundItem shared at) (item.Reply told) items h) none
+  no_claims shared at (item.Reply recorded ∷ items) h none =
+      no_claims shared at items (All-tail (IsSoundItem shared at) (item.Reply recorded) items h) none
 
-  idle_claims : (shared : Shared) (w : Parts J) → IsSoundWith shared nothing w → count_active w.desk.active ≡ 0 → (flight w).claims ≡ []
+  idle_claims : (shared : SharedTables) (w : Parts J) → IsSoundWith shared nothing w → count_active w.desk.active ≡ 0 → (flight w).claims ≡ []
   idle_claims shared w h none =
       let met = reported_to_all w.desk.active in
       let zero_all = h.balance.tokens one_each ∙ ap (λ ts. sum_by one_each ts) (idle_awaits 0 w.desk.active none) in
       let front = sum_by-append one_each (in_inbox w).tokens ((in_outbox w).tokens ++ (parts part_met met).tokens) in
       let back = sum_by-append one_each (in_outbox w).tokens (parts part_met met).tokens in
-      let inbox : w.inbox ≡ [] = no_message shared h.under_way w.inbox h.inbox (omega (arith, zero_all, front, back)) in
-      let outbox = no_claims shared h.under_way w.outbox h.outbox (omega (arith, zero_all, front, back)) in
+      let inbox : w.inbox ≡ [] = no_message shared h.in_flight w.inbox h.inbox (omega (arith, zero_all, front, back)) in
+      let outbox = no_claims shared h.in_flight w.outbox h.outbox (omega (arith, zero_all, front, back)) in
       ap (λ (ms : List (Message J)). (parts part_message ms).claims ++ ((parts part_item w.outbox).claims ++ (parts part_met met).claims)) inbox
-      ∙ ap (λ (cs : List Claiming). cs ++ (parts part_met met).claims) outbox
+      ∙ ap (λ (cs : List ClaimView). cs ++ (parts part_met met).claims) outbox
       ∙ ap (λ (rs : List (Report J)). (parts part_met rs).claims) (idle_met w.desk.active none)
 
   -- the rows are what the machine leaves
-  pub idle_tables : (shared : Shared) (w : Parts J) → IsSoundWith shared nothing w → count_active w.desk.active ≡ 0 → (opening : Database) (history : List Step) → Fits opening history w
+  pub idle_tables : (shared : SharedTables) (w : Parts J) → IsSoundWith shared nothing w → count_active w.desk.active ≡ 0 → (opening : Database) (history : List Step) → Fits opening history w
       → (joined_in w).tables ≡ tables_now opening w.log
   idle_tables shared w h none opening history f =
       let last = tables_now opening w.log in
@@ -135,9 +135,9 @@ module _ {J : Type 0} where
       pushed false said is = absurd (cc)
   sends_something (item.Report r) old new answer said is = let e = said.0 in absurd (cc)
   sends_something (item.Ended slot) old new answer said is = let e = said.0 in absurd (cc)
-  sends_something (item.Commit commit) old new answer said is = told said.logged.answer (sym said.answered ∙ is)
+  sends_something (item.Commit commit) old new answer said is = recorded said.logged.answer (sym said.answered ∙ is)
     where
-      told : (result : Result ℕ Refusal) → told_of result ≡ Nothing → ⊥
-      told (Ok place) is = absurd (cc)
-      told (Err why) is = absurd (cc)
-  sends_something (item.Reply told) old new answer said is = let e = said.0 in absurd (cc)
+      recorded : (result : Result ℕ Refusal) → recorded_of result ≡ Nothing → ⊥
+      recorded (Ok place) is = absurd (cc)
+      recorded (Err why) is = absurd (cc)
+  sends_something (item.Reply recorded) old new answer said is = let e = said.0 in absurd (cc)

@@ -5,12 +5,12 @@ use Rattle.std.specs.List.{slice_get, sum_by}
 use Rattle.std.specs.List.Sorted.{IsPermutation}
 use Rattle.std.proofs.lemmas.List.Elements.{All-cons, All-nil, All-head, All-tail}
 use Rattle.std.proofs.lemmas.List.Sorted.{IsPermutation-refl}
-use Rattle.partitions.specs.Parts.{Shared}
+use Rattle.partitions.specs.Parts.{SharedTables}
 use Rattle.schema.specs.Database.{Database}
 use Rattle.groups.specs.Footprint.{footprint, groups_of}
-use Rattle.tickets.specs.Claims.{Claiming, all_claims}
-use Rattle.history.specs.History.{Step, Unanswered}
-use Rattle.slices.specs.Sliced.{AreAllHeld}
+use Rattle.tickets.specs.Claims.{ClaimView, all_claims}
+use Rattle.history.specs.History.{Step, UnansweredTransaction}
+use Rattle.slices.specs.SliceView.{AreAllHeld}
 use Rattle.transactions.specs.declared.laws.TheConstants.{MOST_ACTIONS}
 use Rattle.transactions.specs.Acting.{AreGivenBy}
 use Rattle.world.specs.declared.desk.Active.{Active}
@@ -18,7 +18,7 @@ use Rattle.world.specs.declared.sending.Release.{Release}
 use Rattle.world.specs.declared.world.Parts.{Parts}
 use Rattle.world.specs.Parted.{joined_in}
 use Rattle.world.specs.Flights.{Ending, InFlight, nothing, join, parts, part_item, part_held, place_answered}
-use Rattle.world.specs.Sound.{Courses, UnderWay, IsSoundWith, IsSoundItem, IsSoundActive, AnswersOlder, awaited, reported_to}
+use Rattle.world.specs.Sound.{ActiveTransactions, ActiveTransaction, IsSoundWith, IsSoundItem, IsSoundActive, AnswersOlder, awaited, reported_to}
 use Rattle.world.specs.Following.{ending, items_released, push_of, releasing}
 use Rattle.world.specs.Worlds.{FitsPart, Fits}
 use Rattle.world.proofs.OneSlot.{lots}
@@ -26,15 +26,15 @@ use Rattle.world.proofs.Puts.{puts_fits, puts_sound, AreServed, Rests}
 
 -- ---- what several actions hold
 
-held_claims : (slot : ℕ) (all : List (List Claiming)) → (parts (part_held slot) all).claims ≡ all_claims all
+held_claims : (slot : ℕ) (all : List (List ClaimView)) → (parts (part_held slot) all).claims ≡ all_claims all
 held_claims slot [] = refl
 held_claims slot (claims ∷ all) = ap (λ cs. claims ++ cs) (held_claims slot all)
 
-held_pending : (slot : ℕ) (all : List (List Claiming)) → (parts (part_held slot) all).pending ≡ []
+held_pending : (slot : ℕ) (all : List (List ClaimView)) → (parts (part_held slot) all).pending ≡ []
 held_pending slot [] = refl
 held_pending slot (claims ∷ all) = held_pending slot all
 
-held_tokens : (slot : ℕ) (all : List (List Claiming)) → (parts (part_held slot) all).tokens ≡ replicate (length all) (Ending slot)
+held_tokens : (slot : ℕ) (all : List (List ClaimView)) → (parts (part_held slot) all).tokens ≡ replicate (length all) (Ending slot)
 held_tokens slot [] = refl
 held_tokens slot (claims ∷ all) = ap (λ ts. Ending slot ∷ ts) (held_tokens slot all)
 
@@ -49,25 +49,25 @@ module _ (J : Type 0) where
   nothing_met zero = refl
   nothing_met (suc n) = refl
 
-  pub ending_sound : (shared : Shared) (slot : ℕ) (u : UnderWay) (left : ℕ) → left ≤ MOST_ACTIONS → IsSoundActive {J = J} shared slot u (ending left)
+  pub ending_sound : (shared : SharedTables) (slot : ℕ) (u : ActiveTransaction) (left : ℕ) → left ≤ MOST_ACTIONS → IsSoundActive {J = J} shared slot u (ending left)
   ending_sound shared slot u zero few = tt
   ending_sound shared slot u (suc n) few = (omega arith, few)
 
   -- ---- the pushes
 
-  push_part : (settle : Bool) (slot : ℕ) (claims : List Claiming) → part_item {J = J} (push_of settle slot claims) ≡ part_held slot claims
+  push_part : (settle : Bool) (slot : ℕ) (claims : List ClaimView) → part_item {J = J} (push_of settle slot claims) ≡ part_held slot claims
   push_part true slot claims = refl
   push_part false slot claims = refl
 
-  pushes_part : (settle : Bool) (slot : ℕ) (all : List (List Claiming)) → parts (part_item {J = J}) (map (push_of settle slot) all) ≡ parts (part_held slot) all
+  pushes_part : (settle : Bool) (slot : ℕ) (all : List (List ClaimView)) → parts (part_item {J = J}) (map (push_of settle slot) all) ≡ parts (part_held slot) all
   pushes_part settle slot [] = refl
   pushes_part settle slot (claims ∷ all) = λ i. join (push_part settle slot claims i) (pushes_part settle slot all i)
 
-  push_sound : (shared : Shared) (at : Courses) (settle : Bool) (slot : ℕ) (claims : List Claiming) → AreGivenBy settle (at slot).age claims → IsSoundItem {J = J} shared at (push_of settle slot claims)
+  push_sound : (shared : SharedTables) (at : ActiveTransactions) (settle : Bool) (slot : ℕ) (claims : List ClaimView) → AreGivenBy settle (at slot).age claims → IsSoundItem {J = J} shared at (push_of settle slot claims)
   push_sound shared at true slot claims h = h
   push_sound shared at false slot claims h = h
 
-  pushes_sound : (shared : Shared) (at : Courses) (settle : Bool) (slot : ℕ) (all : List (List Claiming)) → All (AreGivenBy settle (at slot).age) all
+  pushes_sound : (shared : SharedTables) (at : ActiveTransactions) (settle : Bool) (slot : ℕ) (all : List (List ClaimView)) → All (AreGivenBy settle (at slot).age) all
       → All (IsSoundItem {J = J} shared at) (map (push_of settle slot) all)
   pushes_sound shared at settle slot [] h = All-nil (IsSoundItem shared at)
   pushes_sound shared at settle slot (claims ∷ all) h =
@@ -76,7 +76,7 @@ module _ (J : Type 0) where
       (pushes_sound shared at settle slot all (All-tail (AreGivenBy settle (at slot).age) claims all h))
 
 module _ {J : Type 0} where
-  abbrev pub unanswered_release : Release J → Unanswered
+  abbrev pub unanswered_release : Release J → UnansweredTransaction
   unanswered_release r = record {
     age = r.age;
     session = r.pass.session;
@@ -108,7 +108,7 @@ module _ {J : Type 0} where
       (subst (λ us. IsPermutation hand.pending us) (pending ∙ sym (released_pending settle r)) (IsPermutation-refl hand.pending))
       f
 
-  pub releases_sound : (shared : Shared) (at : Courses) (w : Parts J) (hand : InFlight) (settle : Bool) (r : Release J) → Rests shared at r.slot w → (x : Active J) × (slice_get w.desk.active r.slot ≡ Some (Some x))
+  pub releases_sound : (shared : SharedTables) (at : ActiveTransactions) (w : Parts J) (hand : InFlight) (settle : Bool) (r : Release J) → Rests shared at r.slot w → (x : Active J) × (slice_get w.desk.active r.slot ≡ Some (Some x))
       → r.pass.session < 64 → r.pass.asks.number ≡ r.number → AnswersOlder (groups_of (footprint r.pass.asks.request)) r.age r.answer
       → All (AreGivenBy settle (at r.slot).age) r.held → length r.held ≤ MOST_ACTIONS
       → hand.claims ≡ all_claims r.held → AreAllHeld (joined_in w).holdings (hand.claims ++ (lots r.slot w).claims)

@@ -1,11 +1,11 @@
--- What is under way in another order: a world stays sound, and a history that fits goes on fitting.
+-- What is in flight in another order: a world stays sound, and a history that fits goes on fitting.
 use Rattle.std.proofs.Common.{◌≡◌, ℕ, ◌<◌, zero, suc, List, [], ◌∷◌, ◌++◌, length, Some, sym, subst, arith}
 use Rattle.std.specs.Prelude.{slice_index_or, slice_set}
 use Rattle.std.specs.List.{remove, slice_get}
 use Rattle.std.specs.List.Sorted.{IsPermutation}
 use Rattle.std.proofs.lemmas.List.{set-get_or}
 use Rattle.std.proofs.lemmas.List.Sorted.{All-permutation, IsPermutation-sym, IsPermutation-trans, IsPermutation-cons, IsPermutation-refl, IsPermutation-append_comm, IsPermutation-append_left, IsPermutation-middle}
-use Rattle.partitions.specs.Parts.{Shared}
+use Rattle.partitions.specs.Parts.{SharedTables}
 use Rattle.schema.specs.Database.{Database}
 use Rattle.history.specs.History.{Step}
 use Rattle.world.specs.declared.flight.Message.{Message}
@@ -125,13 +125,13 @@ module _ {J : Type 0} where
     flight_same : IsSame (flight (queued w ms is)) (flight (queued w ns js))
     flight_same = fly_same _ _ _ _ _ _ messages.part items.part (same-refl (in_meeting w))
 
-    pub sound_in_order : (shared : Shared) (hand : InFlight) → IsSoundWith shared hand (queued w ms is) → IsSoundWith shared hand (queued w ns js)
+    pub sound_in_order : (shared : SharedTables) (hand : InFlight) → IsSoundWith shared hand (queued w ms is) → IsSoundWith shared hand (queued w ns js)
     sound_in_order shared hand h = record {
       shared_is = h.shared_is;
       slices = h.slices;
-      under_way = h.under_way;
-      inbox = All-permutation (IsSoundMessage shared h.under_way) ms ns messages.order h.inbox;
-      outbox = All-permutation (IsSoundItem shared h.under_way) is js items.order h.outbox;
+      in_flight = h.in_flight;
+      inbox = All-permutation (IsSoundMessage shared h.in_flight) ms ns messages.order h.inbox;
+      outbox = All-permutation (IsSoundItem shared h.in_flight) is js items.order h.outbox;
       slots = h.slots;
       active = h.active;
       ages = h.ages;

@@ -3,16 +3,16 @@ use Rattle.std.proofs.Common.{◌≡◌, ℕ, List, [], ◌∷◌, ◌++◌, len
 use Rattle.std.specs.Prelude.{slice_set}
 use Rattle.std.specs.List.{slice_get}
 use Rattle.std.proofs.lemmas.List.{length-set}
-use Rattle.partitions.specs.Parts.{Shared}
+use Rattle.partitions.specs.Parts.{SharedTables}
 use Rattle.schema.specs.Database.{Database}
 use Rattle.requests.specs.declared.refusal.Refusal.{Refusal}
 use Rattle.history.specs.declared.event.Event.TheVariants.{Send}
 use Rattle.history.specs.declared.event.EventAnswer.TheVariants.{Answered}
-use Rattle.history.specs.History.{Step, step, Unanswered}
+use Rattle.history.specs.History.{Step, step, UnansweredTransaction}
 use Rattle.history.specs.Laws.{IsAnswerTo}
 use Rattle.world.specs.declared.desk.SessionDesk.{SessionDesk}
 use Rattle.world.specs.declared.flight.Item.TheVariants as item
-use Rattle.world.specs.declared.flight.Told.{Told}
+use Rattle.world.specs.declared.flight.SessionAnswer.{SessionAnswer}
 use Rattle.world.specs.declared.world.Parts.{Parts}
 use Rattle.world.specs.Parted.{joined_in}
 use Rattle.world.specs.Flights.{nothing, join, part_item, unanswered_reply, place_answered}
@@ -34,21 +34,21 @@ module _ {J : Type 0} where
       → new ≡ record old { desk = record old.desk { sessions = new.desk.sessions } }
   of_sessions old new sessions h = λ i. record {
     catalog = h.0 i;
-    stations = h.1.0 i;
+    shards = h.1.0 i;
     inbox = h.1.1.0 i;
     outbox = h.1.1.1.0 i;
     desk = record { admitted = h.1.1.1.1.1.0 i; sessions = new.desk.sessions; active = h.1.1.1.1.1.1.0 i };
     log = h.1.1.1.1.0 i;
   }
 
-  module _ (shared : Shared) (w : Parts J) (told : Told J) (h : IsSoundWith shared (part_item (item.Reply told)) w) (s : IsSoundReply told)
-      (desk : SessionDesk J) (is : slice_get w.desk.sessions.items told.pass.session ≡ Some desk)
-      (new : Parts J) (same : with_sessions w (slice_set w.desk.sessions.items told.pass.session (record desk { pass = Some told.pass })) new) where
+  module _ (shared : SharedTables) (w : Parts J) (recorded : SessionAnswer J) (h : IsSoundWith shared (part_item (item.Reply recorded)) w) (s : IsSoundReply recorded)
+      (desk : SessionDesk J) (is : slice_get w.desk.sessions.items recorded.pass.session ≡ Some desk)
+      (new : Parts J) (same : with_sessions w (slice_set w.desk.sessions.items recorded.pass.session (record desk { pass = Some recorded.pass })) new) where
     pub replies_sound : IsSoundWith shared nothing new
     replies_sound =
-        let place = told.pass.session in
-        let session : SessionDesk J = record desk { pass = Some told.pass } in
-        let u : Unanswered = unanswered_reply told in
+        let place = recorded.pass.session in
+        let session : SessionDesk J = record desk { pass = Some recorded.pass } in
+        let u : UnansweredTransaction = unanswered_reply recorded in
         let rest = flight w in
         let sessions_are = same.1.1.1.1.1.1.1 in
         let all = slice_set w.desk.sessions.items place session in
@@ -59,7 +59,7 @@ module _ {J : Type 0} where
         let sound : IsSoundWith shared nothing next = record {
           shared_is = h.shared_is;
           slices = h.slices;
-          under_way = h.under_way;
+          in_flight = h.in_flight;
           inbox = h.inbox;
           outbox = h.outbox;
           slots = h.slots;
@@ -77,13 +77,13 @@ module _ {J : Type 0} where
         subst (λ v. IsSoundWith shared nothing v) (sym (of_sessions w new all same)) sound
 
     pub replies_fits : (opening : Database) (history : List Step) (executor : ℕ)
-        → FitsPart opening history w.log (joined_in w) w.desk.admitted (join (part_item (item.Reply told)) (flight w))
-        → Fits opening (history ++ step (Send executor) (Answered told.pass.session told.number told.answer) ∷ []) new
+        → FitsPart opening history w.log (joined_in w) w.desk.admitted (join (part_item (item.Reply recorded)) (flight w))
+        → Fits opening (history ++ step (Send executor) (Answered recorded.pass.session recorded.number recorded.answer) ∷ []) new
     replies_fits opening history executor f =
-        let u : Unanswered = unanswered_reply told in
+        let u : UnansweredTransaction = unanswered_reply recorded in
         let rest = flight w in
         let next : Parts J = record w { desk = record w.desk { sessions = new.desk.sessions } } in
-        let after = fits_answer opening history w.log (joined_in w) w.desk.admitted rest.claims u rest executor told.answer
-        (is_answer_to told.age told.pass.session told.pass.asks.number told.pass.asks.request told.answer) f in
-        subst (λ v. Fits opening (history ++ step (Send executor) (Answered told.pass.session told.number told.answer) ∷ []) v) (sym (of_sessions w new _ same))
-        (subst (λ n. Fits opening (history ++ step (Send executor) (Answered told.pass.session n told.answer) ∷ []) next) s.1.0 after)
+        let after = fits_answer opening history w.log (joined_in w) w.desk.admitted rest.claims u rest executor recorded.answer
+        (is_answer_to recorded.age recorded.pass.session recorded.pass.asks.number recorded.pass.asks.request recorded.answer) f in
+        subst (λ v. Fits opening (history ++ step (Send executor) (Answered recorded.pass.session recorded.number recorded.answer) ∷ []) v) (sym (of_sessions w new _ same))
+        (subst (λ n. Fits opening (history ++ step (Send executor) (Answered recorded.pass.session n recorded.answer) ∷ []) next) s.1.0 after)

@@ -5,33 +5,33 @@ use Rattle.std.specs.List.{slice_get}
 use Rattle.std.proofs.lemmas.List.{length-append, length-map, length-set}
 use Rattle.std.proofs.lemmas.List.Elements.{All-nil, All-cons, All-append}
 use Rattle.std.proofs.lemmas.Option.{slice_get-map}
-use Rattle.partitions.specs.Parts.{Shared}
+use Rattle.partitions.specs.Parts.{SharedTables}
 use Rattle.requests.specs.declared.group.Group.{Group}
 use Rattle.requests.specs.declared.refusal.Refusal.TheVariants as refusal
-use Rattle.groups.specs.declared.wishes.Wish.{Wish}
+use Rattle.groups.specs.declared.group_wants.GroupWant.{GroupWant}
 use Rattle.groups.specs.Footprint.{groups_of}
-use Rattle.tickets.specs.Claims.{Claiming, all_claims}
-use Rattle.transactions.specs.Works.{HaveAllDone, HasDone, all_wishes, wishes_of}
+use Rattle.tickets.specs.Claims.{ClaimView, all_claims}
+use Rattle.transactions.specs.Works.{HaveAllDone, HasDone, all_group_wants, group_wants_of}
 use Rattle.transactions.specs.declared.work.Work.{Work}
 use Rattle.transactions.specs.declared.acting.Ran.{Ran}
 use Rattle.transactions.specs.declared.acting.Ran.TheVariants as ran
 use Rattle.transactions.specs.Acting.{claims_of_ran, AreUndoneBy}
 use Rattle.transactions.specs.Progresses.{works_of}
 use Rattle.rendezvous.specs.Awaited.{reported}
-use Rattle.world.specs.declared.flight.Journey.{Journey}
+use Rattle.world.specs.declared.flight.Flow.{Flow}
 use Rattle.world.specs.declared.flight.Report.{Report}
 use Rattle.world.specs.Flights.{part, join, parts, part_carried, part_met, unanswered_transaction}
 use Rattle.transactions.specs.SortedOut.{found_by, held_by, refused_by}
 use Rattle.transactions.proofs.SortedOut.{one_holds, stays_refused, IfDied}
 use Rattle.world.specs.Following.{found_in, held_in, rans_of, refusal_of}
-use Rattle.world.specs.Sound.{NamesOlder, UnderWay, IsPlaceOf, IsWorkAt, IsSoundJourney, IsCarriedAt, IsSoundRan, IsSoundReport, IsSoundPhase}
+use Rattle.world.specs.Sound.{NamesOlder, ActiveTransaction, IsPlaceOf, IsWorkAt, IsSoundFlow, IsCarriedAt, IsSoundRan, IsSoundReport, IsSoundPhase}
 use Rattle.world.proofs.Joins.{IsSame, same-refl, same-trans, same-join, same-middle}
-use Rattle.transactions.proofs.OnGroups.{first_wish, later_wish}
+use Rattle.transactions.proofs.OnGroups.{first_group_want, later_group_want}
 
 -- ---- lists
 
 -- the claims of some actions and then of others
-pub all_claims-append : (some others : List (List Claiming)) → all_claims (some ++ others) ≡ all_claims some ++ all_claims others
+pub all_claims-append : (some others : List (List ClaimView)) → all_claims (some ++ others) ≡ all_claims some ++ all_claims others
 all_claims-append [] others = refl
 all_claims-append (claims ∷ some) others =
     ap (λ cs. claims ++ cs) (all_claims-append some others) ∙ sym (append_assoc claims (all_claims some) (all_claims others))
@@ -81,17 +81,17 @@ module _ {J : Type 0} where
 
   -- ---- the reports of a phase
 
-  module _ (shared : Shared) (slot : ℕ) (u : UnderWay) where
+  module _ (shared : SharedTables) (slot : ℕ) (u : ActiveTransaction) where
     -- an action that ran has done this work, and all of it can be taken back; or it died of somebody older, who is on a group that it claims for it
     abbrev pub HasRan : Work → Ran J → Type 0
     HasRan work (ran.Done claims found) = HasDone shared work found claims × AreUndoneBy u.age claims
-    HasRan work (ran.Died group holder) = Contains (groups_of (wishes_of work)) group × (holder < u.age)
+    HasRan work (ran.Died group holder) = Contains (groups_of (group_wants_of work)) group × (holder < u.age)
     HasRan work ran.NoMemory = Unit {0}
 
     -- From this place on each action has reported of its own work.
     abbrev pub HaveReported : ℕ → List Work → List (Report J) → Type 0
     HaveReported place [] [] = Unit {0}
-    HaveReported place (work ∷ works) (r ∷ reports) = (IsCarriedAt slot u place r.journey × HasRan work r.ran) × HaveReported (suc place) works reports
+    HaveReported place (work ∷ works) (r ∷ reports) = (IsCarriedAt slot u place r.flow × HasRan work r.ran) × HaveReported (suc place) works reports
     HaveReported place works reports = ⊥
 
     ran_at : (place : ℕ) (work : Work) (r : Ran J) → IsWorkAt u place work → IsSoundRan shared u place r → HasRan work r
@@ -102,7 +102,7 @@ module _ {J : Type 0} where
     ran_at place work (ran.Died group holder) at h =
         let other = h.1.0 in
         let same : h.0 ≡ work = cc in
-        subst (λ (w : Work). Contains (groups_of (wishes_of w)) group × (holder < u.age)) same h.1.1
+        subst (λ (w : Work). Contains (groups_of (group_wants_of w)) group × (holder < u.age)) same h.1.1
     ran_at place work ran.NoMemory at h = tt
 
     have_reported : (place : ℕ) (works : List Work) (reports : List (Report J)) → length reports ≡ length works
@@ -117,7 +117,7 @@ module _ {J : Type 0} where
         let zero_more : place + 0 ≡ place = omega arith in
         let one = first.1.1 in
         let here : one.number ≡ place = omega (arith, first.0, one.place) in
-        let carried : IsCarriedAt slot u place r.journey = subst (λ s. IsCarriedAt s u place r.journey) first.1.0 (subst (λ n. IsCarriedAt r.slot u n r.journey) here one.journey) in
+        let carried : IsCarriedAt slot u place r.flow = subst (λ s. IsCarriedAt s u place r.flow) first.1.0 (subst (λ n. IsCarriedAt r.slot u n r.flow) here one.flow) in
         let own : IsWorkAt u place work = subst (λ n. slice_get (works_of u.progress) n ≡ Some work) zero_more (at 0) in (
           (carried, ran_at place work r.ran own (subst (λ n. IsSoundRan shared u n r.ran) here one.ran)),
           have_reported (suc place) works reports (omega (arith, many))
@@ -143,21 +143,21 @@ module _ {J : Type 0} where
             let both = put.1 in
             let same : r ≡ q = cc in
             subst (λ (p : Report J). IsPlaceOf u (0 + i) p.place × ((p.slot ≡ slot) × IsSoundReport shared u p)) same (omega (arith, put.0, here, at.first_is), (own, s))
-        by i q (inr stood) = let told = at.reports i q stood in (omega (arith, told.0, at.first_is), told.1)
+        by i q (inr stood) = let recorded = at.reports i q stood in (omega (arith, recorded.0, at.first_is), recorded.1)
 
     -- ---- who carries the transaction
 
-    pub is_carried : (o : Option (Journey J)) → IsCarriedAt slot u 0 o → (journey : Journey J) × ((o ≡ Some journey) × IsSoundJourney slot u journey)
+    pub is_carried : (o : Option (Flow J)) → IsCarriedAt slot u 0 o → (flow : Flow J) × ((o ≡ Some flow) × IsSoundFlow slot u flow)
     is_carried None h = absurd h
-    is_carried (Some journey) h = (journey, (refl, h))
+    is_carried (Some flow) h = (flow, (refl, h))
 
-    carries_none : (place : ℕ) (o : Option (Journey J)) → IsCarriedAt slot u (suc place) o → o ≡ None
+    carries_none : (place : ℕ) (o : Option (Flow J)) → IsCarriedAt slot u (suc place) o → o ≡ None
     carries_none place None h = refl
-    carries_none place (Some journey) h = absurd h
+    carries_none place (Some flow) h = absurd h
 
-    part_later : (place : ℕ) (r : Report J) → IsCarriedAt slot u (suc place) r.journey → part_met r ≡ part (all_claims (held_by r.ran)) [] []
+    part_later : (place : ℕ) (r : Report J) → IsCarriedAt slot u (suc place) r.flow → part_met r ≡ part (all_claims (held_by r.ran)) [] []
     part_later place r h =
-        ap (λ (o : Option (Journey J)). part ((part_carried o).claims ++ claims_of_ran r.ran) (part_carried o).pending []) (carries_none place r.journey h)
+        ap (λ (o : Option (Flow J)). part ((part_carried o).claims ++ claims_of_ran r.ran) (part_carried o).pending []) (carries_none place r.flow h)
         ∙ ap (λ cs. part cs [] []) (held_by_ran r.ran)
 
     parts_later : (place : ℕ) (works : List Work) (reports : List (Report J)) → HaveReported (suc place) works reports
@@ -170,14 +170,14 @@ module _ {J : Type 0} where
         ∙ ap (λ cs. part cs [] []) (sym (all_claims-append (held_by r.ran) (held_in reports)))
 
     -- all that the reports have: the transaction with what it held, and what the actions hold
-    pub parts_all : (works : List Work) (r : Report J) (reports : List (Report J)) (journey : Journey J) → HaveReported 0 works (r ∷ reports) → r.journey ≡ Some journey
-        → parts part_met (r ∷ reports) ≡ part (all_claims (journey.transaction.held ++ held_in (r ∷ reports))) (unanswered_transaction journey.transaction ∷ []) []
-    parts_all [] r reports journey h is = absurd h
-    parts_all (work ∷ works) r reports journey h is =
-        let t = journey.transaction in
+    pub parts_all : (works : List Work) (r : Report J) (reports : List (Report J)) (flow : Flow J) → HaveReported 0 works (r ∷ reports) → r.flow ≡ Some flow
+        → parts part_met (r ∷ reports) ≡ part (all_claims (flow.transaction.held ++ held_in (r ∷ reports))) (unanswered_transaction flow.transaction ∷ []) []
+    parts_all [] r reports flow h is = absurd h
+    parts_all (work ∷ works) r reports flow h is =
+        let t = flow.transaction in
         let own = all_claims (held_by r.ran) in
         let first : part_met r ≡ part (all_claims t.held ++ own) (unanswered_transaction t ∷ []) [] =
-        ap (λ (o : Option (Journey J)). part ((part_carried o).claims ++ claims_of_ran r.ran) (part_carried o).pending []) is
+        ap (λ (o : Option (Flow J)). part ((part_carried o).claims ++ claims_of_ran r.ran) (part_carried o).pending []) is
         ∙ ap (λ cs. part (all_claims t.held ++ cs) (unanswered_transaction t ∷ []) []) (held_by_ran r.ran) in
         (λ i. join (first i) (parts_later 0 works reports h.1 i))
         ∙ ap (λ cs. part cs (unanswered_transaction t ∷ []) []) (
@@ -216,24 +216,24 @@ module _ {J : Type 0} where
 
     -- ---- why it is refused
 
-    -- who died, died of one who is older, on a group that the work wishes for, among others
-    one_fair : (wishes : List Wish) (work : Work) → ((group : Group) → Contains (groups_of (wishes_of work)) group → Contains (groups_of wishes) group)
-        → (own : Ran J) → HasRan work own → IfDied (NamesOlder (groups_of wishes) u.age) own
-    one_fair wishes work among (ran.Done claims found) has = tt
-    one_fair wishes work among (ran.Died group holder) has = (among group has.0, has.1)
-    one_fair wishes work among ran.NoMemory has = tt
+    -- who died, died of one who is older, on a group that the work wants for, among others
+    one_fair : (group_wants : List GroupWant) (work : Work) → ((group : Group) → Contains (groups_of (group_wants_of work)) group → Contains (groups_of group_wants) group)
+        → (own : Ran J) → HasRan work own → IfDied (NamesOlder (groups_of group_wants) u.age) own
+    one_fair group_wants work among (ran.Done claims found) has = tt
+    one_fair group_wants work among (ran.Died group holder) has = (among group has.0, has.1)
+    one_fair group_wants work among ran.NoMemory has = tt
 
     -- so did all who died
-    pub all_fair : (wishes : List Wish) (place : ℕ) (works : List Work) (reports : List (Report J)) → HaveReported place works reports
-        → ((group : Group) → Contains (groups_of (all_wishes works)) group → Contains (groups_of wishes) group)
-        → All (IfDied (NamesOlder (groups_of wishes) u.age)) (rans_of reports)
-    all_fair wishes place [] [] h among = All-nil (IfDied (NamesOlder (groups_of wishes) u.age))
-    all_fair wishes place [] (r ∷ reports) h among = absurd h
-    all_fair wishes place (work ∷ works) [] h among = absurd h
-    all_fair wishes place (work ∷ works) (r ∷ reports) h among =
-        All-cons (IfDied (NamesOlder (groups_of wishes) u.age)) r.ran (rans_of reports)
-        (one_fair wishes work (λ group is. among group (first_wish work works group is)) r.ran h.0.1)
-        (all_fair wishes (suc place) works reports h.1 (λ group is. among group (later_wish work works group is)))
+    pub all_fair : (group_wants : List GroupWant) (place : ℕ) (works : List Work) (reports : List (Report J)) → HaveReported place works reports
+        → ((group : Group) → Contains (groups_of (all_group_wants works)) group → Contains (groups_of group_wants) group)
+        → All (IfDied (NamesOlder (groups_of group_wants) u.age)) (rans_of reports)
+    all_fair group_wants place [] [] h among = All-nil (IfDied (NamesOlder (groups_of group_wants) u.age))
+    all_fair group_wants place [] (r ∷ reports) h among = absurd h
+    all_fair group_wants place (work ∷ works) [] h among = absurd h
+    all_fair group_wants place (work ∷ works) (r ∷ reports) h among =
+        All-cons (IfDied (NamesOlder (groups_of group_wants) u.age)) r.ran (rans_of reports)
+        (one_fair group_wants work (λ group is. among group (first_group_want work works group is)) r.ran h.0.1)
+        (all_fair group_wants (suc place) works reports h.1 (λ group is. among group (later_group_want work works group is)))
 
     -- those that hold claims are no more than they are
     pub few_hold : (place : ℕ) (works : List Work) (reports : List (Report J)) → HaveReported place works reports → length (held_in reports) ≤ length works

@@ -4,9 +4,9 @@ use Rattle.std.specs.Prelude.{count_by, cond}
 use Rattle.std.specs.List.Sorted.{IsPermutation}
 use Rattle.std.proofs.lemmas.List.Elements.{All-push}
 use Rattle.std.proofs.lemmas.List.Sorted.{sum_by-IsPermutation, length_permutation}
-use Rattle.partitions.specs.Parts.{Shared}
+use Rattle.partitions.specs.Parts.{SharedTables}
 use Rattle.schema.specs.Database.{Database}
-use Rattle.history.specs.History.{Step, Unanswered, is_of}
+use Rattle.history.specs.History.{Step, UnansweredTransaction, is_of}
 use Rattle.world.specs.declared.desk.Desk.{Desk}
 use Rattle.world.specs.declared.flight.Message.{Message}
 use Rattle.world.specs.declared.flight.Item.{Item}
@@ -23,7 +23,7 @@ use Rattle.world.proofs.Puts.{AreServed}
 module _ {J : Type 0} where
   -- ---- what holds in any order
 
-  pub served_same : (desk : Desk J) (us vs : List Unanswered) → IsPermutation us vs → AreServed desk us → AreServed desk vs
+  pub served_same : (desk : Desk J) (us vs : List UnansweredTransaction) → IsPermutation us vs → AreServed desk us → AreServed desk vs
   served_same desk us vs same h = record {
     alone = λ number session there. ap (λ (n : ℕ). n + cond (is_here session) 1 0) (sum_by-IsPermutation (λ u. cond (is_of number u) 1 0) us vs same) ∙ h.alone number session there;
     many = ap (λ (n : ℕ). n + count_by is_here desk.sessions.items) (length_permutation us vs same) ∙ h.many;
@@ -31,16 +31,16 @@ module _ {J : Type 0} where
 
   -- ---- a push
 
-  pub pushes_sound : (shared : Shared) (mid : Parts J) (message : Message J)
-      → (h : IsSoundWith shared (part_message message) mid) → IsSoundMessage shared h.under_way message
+  pub pushes_sound : (shared : SharedTables) (mid : Parts J) (message : Message J)
+      → (h : IsSoundWith shared (part_message message) mid) → IsSoundMessage shared h.in_flight message
       → IsSoundWith shared nothing (record mid { inbox = mid.inbox ++ message ∷ [] })
   pushes_sound shared mid message h fine =
       let next : Parts J = record mid { inbox = mid.inbox ++ message ∷ [] } in
       record {
         shared_is = h.shared_is;
         slices = h.slices;
-        under_way = h.under_way;
-        inbox = All-push (IsSoundMessage shared h.under_way) mid.inbox message h.inbox fine;
+        in_flight = h.in_flight;
+        inbox = All-push (IsSoundMessage shared h.in_flight) mid.inbox message h.inbox fine;
         outbox = h.outbox;
         slots = h.slots;
         active = h.active;
@@ -62,15 +62,15 @@ module _ {J : Type 0} where
   item_back mid item =
       subst (λ p. IsSame (join p (flight mid)) (flight (record mid { outbox = mid.outbox ++ item ∷ [] }))) (join-nothing (part_item item)) (same-sym _ _ (items_put mid (item ∷ [])))
 
-  pub put_back_sound : (shared : Shared) (mid : Parts J) (item : Item J)
-      → (h : IsSoundWith shared (part_item item) mid) → IsSoundItem shared h.under_way item
+  pub put_back_sound : (shared : SharedTables) (mid : Parts J) (item : Item J)
+      → (h : IsSoundWith shared (part_item item) mid) → IsSoundItem shared h.in_flight item
       → IsSoundWith shared nothing (record mid { outbox = mid.outbox ++ item ∷ [] })
   put_back_sound shared mid item h fine = record {
     shared_is = h.shared_is;
     slices = h.slices;
-    under_way = h.under_way;
+    in_flight = h.in_flight;
     inbox = h.inbox;
-    outbox = All-push (IsSoundItem shared h.under_way) mid.outbox item h.outbox fine;
+    outbox = All-push (IsSoundItem shared h.in_flight) mid.outbox item h.outbox fine;
     slots = h.slots;
     active = h.active;
     ages = h.ages;

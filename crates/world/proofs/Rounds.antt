@@ -3,15 +3,15 @@ use Rattle.std.proofs.Common.{◌≡◌, ℕ, ◌+◌, ◌<◌, ◌≤◌, zero,
 use Rattle.std.specs.Prelude.{All, slice_set}
 use Rattle.std.proofs.lemmas.List.{get_or-set_same, map-append}
 use Rattle.std.proofs.lemmas.List.Elements.{All-head, filter-append}
-use Rattle.range_moves.specs.Housing.{fetched_from, house_installed, house_moved, house_of, place_of, with_house}
+use Rattle.range_moves.specs.Placements.{fetched_from, placement_installed, placement_moved, placement_of, place_of, with_placement}
 use Rattle.world.specs.declared.flight.Item.{Item}
 use Rattle.world.specs.declared.flight.Load.TheVariants.{Work}
 use Rattle.world.specs.declared.flight.Message.{Message}
-use Rattle.world.specs.declared.flight.Posted.{Posted}
-use Rattle.world.specs.declared.flight.Posted.TheVariants as posted
+use Rattle.world.specs.declared.flight.Outgoing.{Outgoing}
+use Rattle.world.specs.declared.flight.Outgoing.TheVariants as outgoing
 use Rattle.world.specs.declared.world.Core.{Core}
-use Rattle.world.specs.Happening.{bringing, houses_begun, posted_for, posting, posts_begun}
-use Rattle.world.specs.Letters.{is_at_home, letter, posted_by, parked_else, parked_for, to_itself}
+use Rattle.world.specs.Happening.{bringing, placements_begun, outgoing_for, posting, posts_begun}
+use Rattle.world.specs.Envelopes.{is_at_home, envelope, outgoing_by, parked_else, parked_for, to_itself}
 use Rattle.world.specs.Queues.{put_into, queue_of}
 use Rattle.world.proofs.Steps.{back}
 
@@ -37,16 +37,16 @@ first_left (x ∷ left) others m rest some is =
 
 module _ {J : Type 0} where
   -- what is posted, and then more, is posted together
-  posted_twice : (executor : ℕ) (some more : List (Posted J)) (w : Core J) → executor < length w.outboxes → posting executor more (posting executor some w) ≡ posting executor (some ++ more) w
-  posted_twice executor some more w there = ap (λ (qs : List (List (Posted J))). record w { outboxes = qs }) (put_twice executor some more w.outboxes there)
+  outgoing_twice : (executor : ℕ) (some more : List (Outgoing J)) (w : Core J) → executor < length w.outboxes → posting executor more (posting executor some w) ≡ posting executor (some ++ more) w
+  outgoing_twice executor some more w there = ap (λ (qs : List (List (Outgoing J))). record w { outboxes = qs }) (put_twice executor some more w.outboxes there)
 
   -- ---- those that were parked for a slice that has come
 
   -- Of these some have been looked at: those for the slice stand in the outbox, and the others behind those that are left.
   abbrev pub installing : ℕ → ℕ → List (Message J) → List (Message J) → Core J → Core J
   installing executor w_id done left w =
-      posting executor (posted.Arrived ∷ to_itself executor (parked_for w_id done))
-      (record w { houses = with_house w.houses w_id (house_installed (house_of w.houses w_id) executor); parked = left ++ parked_else w_id done })
+      posting executor (outgoing.Arrived ∷ to_itself executor (parked_for w_id done))
+      (record w { placements = with_placement w.placements w_id (placement_installed (placement_of w.placements w_id) executor); parked = left ++ parked_else w_id done })
 
   one_for : (w_id : ℕ) (done : List (Message J)) (m : Message J) (home : Bool) → is_at_home w_id m ≡ home → parked_for w_id (done ++ m ∷ []) ≡ parked_for w_id done ++ cond home (m ∷ []) []
   one_for w_id done m home is = filter-append (is_at_home w_id) done (m ∷ []) ∙ ap (λ b. parked_for w_id done ++ cond b (m ∷ []) []) is
@@ -62,47 +62,47 @@ module _ {J : Type 0} where
 
   -- one that is for the slice goes to its executor
   round_for : (executor w_id : ℕ) (done left : List (Message J)) (m : Message J) (w : Core J) → executor < length w.outboxes → is_at_home w_id m ≡ true
-      → posting executor (posted.Letter (letter executor (Work m)) ∷ []) (record (installing executor w_id done (m ∷ left) w) { parked = left ++ parked_else w_id done }) ≡ installing executor w_id (done ++ m ∷ []) left w
+      → posting executor (outgoing.Envelope (envelope executor (Work m)) ∷ []) (record (installing executor w_id done (m ∷ left) w) { parked = left ++ parked_else w_id done }) ≡ installing executor w_id (done ++ m ∷ []) left w
   round_for executor w_id done left m w there is =
-      let some : List (Posted J) = posted.Arrived ∷ to_itself executor (parked_for w_id done) in
-      let more : List (Posted J) = posted.Letter (letter executor (Work m)) ∷ [] in
-      let houses = with_house w.houses w_id (house_installed (house_of w.houses w_id) executor) in
-      let posts : some ++ more ≡ posted.Arrived ∷ to_itself executor (parked_for w_id (done ++ m ∷ [])) =
-      ap (λ (ps : List (Posted J)). posted.Arrived ∷ ps)
-      (sym (map-append (λ (m : Message J). posted.Letter (letter executor (Work m))) (parked_for w_id done) (m ∷ [])) ∙ ap (to_itself executor) (sym (one_for w_id done m true is))) in
+      let some : List (Outgoing J) = outgoing.Arrived ∷ to_itself executor (parked_for w_id done) in
+      let more : List (Outgoing J) = outgoing.Envelope (envelope executor (Work m)) ∷ [] in
+      let placements = with_placement w.placements w_id (placement_installed (placement_of w.placements w_id) executor) in
+      let posts : some ++ more ≡ outgoing.Arrived ∷ to_itself executor (parked_for w_id (done ++ m ∷ [])) =
+      ap (λ (ps : List (Outgoing J)). outgoing.Arrived ∷ ps)
+      (sym (map-append (λ (m : Message J). outgoing.Envelope (envelope executor (Work m))) (parked_for w_id done) (m ∷ [])) ∙ ap (to_itself executor) (sym (one_for w_id done m true is))) in
       let others : parked_else w_id done ≡ parked_else w_id (done ++ m ∷ []) = sym (one_else w_id done m true is ∙ append-nil (parked_else w_id done)) in
-      posted_twice executor some more (record w { houses = houses; parked = left ++ parked_else w_id done }) there
-      ∙ (λ k. posting executor (posts k) (record w { houses = houses; parked = left ++ others k }))
+      outgoing_twice executor some more (record w { placements = placements; parked = left ++ parked_else w_id done }) there
+      ∙ (λ k. posting executor (posts k) (record w { placements = placements; parked = left ++ others k }))
 
   -- another goes behind those that are parked
   round_else : (executor w_id : ℕ) (done left : List (Message J)) (m : Message J) (w : Core J) → is_at_home w_id m ≡ false
       → record (installing executor w_id done (m ∷ left) w) { parked = (left ++ parked_else w_id done) ++ m ∷ [] } ≡ installing executor w_id (done ++ m ∷ []) left w
   round_else executor w_id done left m w is =
-      let houses = with_house w.houses w_id (house_installed (house_of w.houses w_id) executor) in
+      let placements = with_placement w.placements w_id (placement_installed (placement_of w.placements w_id) executor) in
       let same : parked_for w_id done ≡ parked_for w_id (done ++ m ∷ []) = sym (one_for w_id done m false is ∙ append-nil (parked_for w_id done)) in
       let others : (left ++ parked_else w_id done) ++ m ∷ [] ≡ left ++ parked_else w_id (done ++ m ∷ []) =
       append_assoc left (parked_else w_id done) (m ∷ []) ∙ ap (λ (q : List (Message J)). left ++ q) (sym (one_else w_id done m false is)) in
-      λ k. posting executor (posted.Arrived ∷ to_itself executor (same k)) (record w { houses = houses; parked = others k })
+      λ k. posting executor (outgoing.Arrived ∷ to_itself executor (same k)) (record w { placements = placements; parked = others k })
 
   -- ---- what is in hand
 
   -- what is in hand stands in the outbox, one after another
   pub bring_one : (executor : ℕ) (i : Item J) (rest : List (Item J)) (w : Core J) → executor < length w.outboxes → w.parts.outbox ≡ i ∷ rest
-      → bringing executor (record w.parts { outbox = rest }) (posting executor (posted_by w.houses i ∷ []) (record w { parts = record w.parts { outbox = rest } })) ≡ bringing executor w.parts w
+      → bringing executor (record w.parts { outbox = rest }) (posting executor (outgoing_by w.placements i ∷ []) (record w { parts = record w.parts { outbox = rest } })) ≡ bringing executor w.parts w
   bring_one executor i rest w there is =
-      posted_twice executor (posted_by w.houses i ∷ []) (map (posted_by w.houses) rest) (record w { parts = record w.parts { outbox = [] } }) there
-      ∙ ap (λ (items : List (Item J)). posting executor (map (posted_by w.houses) items) (record w { parts = record w.parts { outbox = [] } })) (sym is)
+      outgoing_twice executor (outgoing_by w.placements i ∷ []) (map (outgoing_by w.placements) rest) (record w { parts = record w.parts { outbox = [] } }) there
+      ∙ ap (λ (items : List (Item J)). posting executor (map (outgoing_by w.placements) items) (record w { parts = record w.parts { outbox = [] } })) (sym is)
 
   -- ---- a move begins
 
   -- one warehouse more begins
   pub begin_one : (executor n v to : ℕ) (w : Core J) → executor < length w.outboxes
-      → posting executor (posts_begun n (v + 1) to (with_house w.houses v (house_moved (house_of w.houses v) to)))
-      (record (posting executor (posted_for (fetched_from (place_of w.houses v) to) v to ∷ []) w) { houses = houses_begun n (v + 1) to (with_house w.houses v (house_moved (house_of w.houses v) to)) })
-      ≡ posting executor (posts_begun (suc n) v to w.houses) (record w { houses = houses_begun (suc n) v to w.houses })
+      → posting executor (posts_begun n (v + 1) to (with_placement w.placements v (placement_moved (placement_of w.placements v) to)))
+      (record (posting executor (outgoing_for (fetched_from (place_of w.placements v) to) v to ∷ []) w) { placements = placements_begun n (v + 1) to (with_placement w.placements v (placement_moved (placement_of w.placements v) to)) })
+      ≡ posting executor (posts_begun (suc n) v to w.placements) (record w { placements = placements_begun (suc n) v to w.placements })
   begin_one executor n v to w there =
-      let next = with_house w.houses v (house_moved (house_of w.houses v) to) in
-      posted_twice executor (posted_for (fetched_from (place_of w.houses v) to) v to ∷ []) (posts_begun n (v + 1) to next) (record w { houses = houses_begun n (v + 1) to next }) there
+      let next = with_placement w.placements v (placement_moved (placement_of w.placements v) to) in
+      outgoing_twice executor (outgoing_for (fetched_from (place_of w.placements v) to) v to ∷ []) (posts_begun n (v + 1) to next) (record w { placements = placements_begun n (v + 1) to next }) there
 
   -- ---- the round of those that are parked
 
@@ -146,7 +146,7 @@ module _ {J : Type 0} where
       (append_assoc done (m ∷ []) more ∙ ap (λ (ms : List (Message J)). done ++ ms) (sym is) ∙ whole, omega (arith, counted, length-append done (m ∷ [])))
 
   pub round_goes : (executor w_id count : ℕ) (w now new : Core J) (m : Message J) (rest : List (Message J)) (round : Round executor w_id count w now) → executor < length w.outboxes → count < length w.parked → now.parked ≡ m ∷ rest
-      → is_at_home w_id m ≡ true → new ≡ posting executor (posted.Letter (letter executor (Work m)) ∷ []) (record now { parked = rest }) → Round executor w_id (count + 1) w new
+      → is_at_home w_id m ≡ true → new ≡ posting executor (outgoing.Envelope (envelope executor (Work m)) ∷ []) (record now { parked = rest }) → Round executor w_id (count + 1) w new
   round_goes executor w_id count w now new m rest round there below first home is =
       let done = round.0 in
       let at = looked_at executor w_id count w now m rest round below first in
@@ -159,7 +159,7 @@ module _ {J : Type 0} where
             next.0,
             (
               next.1,
-              is ∙ (λ k. posting executor (posted.Letter (letter executor (Work m)) ∷ []) (record (was k) { parked = sym at.1.1 k })) ∙ round_for executor w_id done at.0 m w there home,
+              is ∙ (λ k. posting executor (outgoing.Envelope (envelope executor (Work m)) ∷ []) (record (was k) { parked = sym at.1.1 k })) ∙ round_for executor w_id done at.0 m w there home,
             ),
           ),
         ),

@@ -16,24 +16,24 @@ use Rattle.history.specs.declared.schedule.Output.{Output}
 use Rattle.history.specs.declared.schedule.Output.TheVariants as output
 use Rattle.history.specs.History.{Step, step}
 use Rattle.history.specs.Schedules.{Begins, EndAs, Follows, IsBusy, IsIdle, IsIdleTurn, IsRoundOf, Plays, Round, Turn, steps_from, steps_of_round, outputs_in_round, outputs_of_round, outputs_of_turn}
-use Rattle.range_moves.specs.declared.house.Found.{Found}
-use Rattle.range_moves.specs.declared.house.Found.TheVariants.{Here, Went, Unknown}
+use Rattle.range_moves.specs.declared.placement.Found.{Found}
+use Rattle.range_moves.specs.declared.placement.Found.TheVariants.{Here, Went, Unknown}
 use Rattle.range_moves.specs.declared.order.Moving.TheVariants as moving
-use Rattle.range_moves.specs.Housing.{found_by}
+use Rattle.range_moves.specs.Placements.{found_by}
 use Rattle.range_moves.specs.Orders.{size_of}
-use Rattle.world.specs.declared.flight.Letter.{Letter}
+use Rattle.world.specs.declared.flight.Envelope.{Envelope}
 use Rattle.world.specs.declared.flight.Load.{Load}
 use Rattle.world.specs.declared.flight.Load.TheVariants.{Work, Move}
-use Rattle.world.specs.declared.flight.Posted.{Posted}
-use Rattle.world.specs.declared.flight.Posted.TheVariants as posted
-use Rattle.partitions.specs.Parts.{Shared}
+use Rattle.world.specs.declared.flight.Outgoing.{Outgoing}
+use Rattle.world.specs.declared.flight.Outgoing.TheVariants as outgoing
+use Rattle.partitions.specs.Parts.{SharedTables}
 use Rattle.world.specs.declared.world.Core.{Core}
 use Rattle.world.specs.Together.{IsSound}
-use Rattle.world.specs.Letters.{home_of_message, is_for_slice}
+use Rattle.world.specs.Envelopes.{home_of_message, is_for_slice}
 use Rattle.world.specs.Queues.{all_of, queue_of}
 use Rattle.world.specs.Worlds.{ComeAbout, IsAtRest}
-use Rattle.world.specs.Happening.{Delivers, FindsSlice, Happens, Opens, SendsFirst, SendsPosted, TakesFirst, WorksIfHere, has_room}
-use Rattle.world.proofs.Answered.{posted_something}
+use Rattle.world.specs.Happening.{Delivers, FindsSlice, Happens, Opens, SendsFirst, SendsOutgoing, TakesFirst, WorksIfHere, has_room}
+use Rattle.world.proofs.Answered.{outgoing_something}
 use Rattle.world.proofs.Moves.{begun_executors}
 use Rattle.world.proofs.Runs.{comes_after}
 
@@ -83,7 +83,7 @@ few_outputs Full = omega arith
 few_outputs Nothing = omega arith
 few_outputs (Accepted age) = omega arith
 few_outputs (Logged place) = omega arith
-few_outputs (Answered session number told) = omega arith
+few_outputs (Answered session number recorded) = omega arith
 few_outputs Ordered = omega arith
 few_outputs Moved = omega arith
 
@@ -129,23 +129,23 @@ module _ (executors : ℕ) where
       subst (λ (l : List Output). Plays executors after (l ++ more) (steps ++ later)) (sym played.0)
       (subst (λ (l : List Step). Plays executors after more (l ++ later)) (sym played.1) next)
   plays_on (first ∷ schedule) after added more steps later played next =
-      let told_first = played.0 in
-      let told_rest = played.1.0 in
+      let recorded_first = played.0 in
+      let recorded_rest = played.1.0 in
       let begun = played.1.1.0 in
       let rest = played.1.1.1.0 in
       let facts = played.1.1.1.1 in (
-        told_first,
+        recorded_first,
         (
-          told_rest ++ more,
+          recorded_rest ++ more,
           (
             begun,
             (
               rest ++ later,
               (
-                ap (λ (l : List Output). l ++ more) facts.0 ∙ append_assoc told_first told_rest more,
+                ap (λ (l : List Output). l ++ more) facts.0 ∙ append_assoc recorded_first recorded_rest more,
                 (
                   ap (λ (l : List Step). l ++ later) facts.1.0 ∙ append_assoc begun rest later,
-                  (facts.1.1.0, plays_on schedule after told_rest more rest later facts.1.1.1 next),
+                  (facts.1.1.0, plays_on schedule after recorded_rest more rest later facts.1.1.1 next),
                 ),
               ),
             ),
@@ -268,13 +268,13 @@ module _ {J : Type 0} where
       (comes_after (flat_map steps_of_round rounds) (steps_of_round r) first old new before more)
 
   -- an event that is answered Nothing changes nothing
-  untaken : (executor : ℕ) (letters : List (Letter J)) (old new : Core J) (answer : EventAnswer) → answer ≡ Nothing → TakesFirst executor letters old answer new → (letters ≡ []) × (new ≡ old)
+  untaken : (executor : ℕ) (envelopes : List (Envelope J)) (old new : Core J) (answer : EventAnswer) → answer ≡ Nothing → TakesFirst executor envelopes old answer new → (envelopes ≡ []) × (new ≡ old)
   untaken executor [] old new answer is said = (refl, said.1)
   untaken executor (l ∷ rest) old new answer is said = let e = said.0 in absurd (cc)
 
-  unsent : (executor : ℕ) (posts : List (Posted J)) (old new : Core J) (answer : EventAnswer) → answer ≡ Nothing → SendsFirst executor posts old answer new → (posts ≡ []) × (new ≡ old)
+  unsent : (executor : ℕ) (posts : List (Outgoing J)) (old new : Core J) (answer : EventAnswer) → answer ≡ Nothing → SendsFirst executor posts old answer new → (posts ≡ []) × (new ≡ old)
   unsent executor [] old new answer is said = (refl, said.1)
-  unsent executor (p ∷ rest) old new answer is said = absurd (posted_something executor p (record old { outboxes = slice_set old.outboxes executor rest }) new answer said is)
+  unsent executor (p ∷ rest) old new answer is said = absurd (outgoing_something executor p (record old { outboxes = slice_set old.outboxes executor rest }) new answer said is)
 
   -- after a turn in which nothing could happen the executor has nothing, and all is as it was
   pub turn_rests : (executor : ℕ) (t : Turn) (old mid new : Core J) → IsIdleTurn t → Happens (Take executor) old t.took mid → Happens (Send executor) mid t.sent new
@@ -309,7 +309,7 @@ module _ {J : Type 0} where
           (cases_lt place last)
 
   -- after a round in which nothing could happen, nothing can be taken or sent
-  pub round_rests : (shared : Shared) (executors : ℕ) (old new : Core J) → IsSound shared old → executors ≡ old.houses.executors → RestSoFar executors old new → IsAtRest new
+  pub round_rests : (shared : SharedTables) (executors : ℕ) (old new : Core J) → IsSound shared old → executors ≡ old.placements.executors → RestSoFar executors old new → IsAtRest new
   round_rests shared executors old new h many rest =
       subst IsAtRest (sym rest.same) (
         all_empty old.inboxes (λ place below. rest.inboxes place (omega (arith, below, many, h.inboxes))),
@@ -317,43 +317,43 @@ module _ {J : Type 0} where
       )
 
   -- there are as many executors as before
-  opens_stay : (executor : ℕ) (load : Load J) (old new : Core J) → Opens executor load old new → new.houses.executors ≡ old.houses.executors
+  opens_stay : (executor : ℕ) (load : Load J) (old new : Core J) → Opens executor load old new → new.placements.executors ≡ old.placements.executors
   opens_stay executor (Move (moving.Order order)) old new said =
-      ap (λ (w : Core J). w.houses.executors) said ∙ begun_executors (size_of order) order.lo order.to old.houses
-  opens_stay executor (Move (moving.Fetch w_id to)) old new said = ap (λ (w : Core J). w.houses.executors) said
-  opens_stay executor (Move (moving.Parcel w_id)) old new said = ap (λ (w : Core J). w.houses.executors) said
+      ap (λ (w : Core J). w.placements.executors) said ∙ begun_executors (size_of order) order.lo order.to old.placements
+  opens_stay executor (Move (moving.Fetch w_id to)) old new said = ap (λ (w : Core J). w.placements.executors) said
+  opens_stay executor (Move (moving.Parcel w_id)) old new said = ap (λ (w : Core J). w.placements.executors) said
   opens_stay executor (Work m) old new said = by (is_for_slice m) said
     where
-      finds : (found : Found) → FindsSlice found executor m old new → new.houses.executors ≡ old.houses.executors
-      finds Here works = ap (λ (w : Core J). w.houses.executors) works.1.1
-      finds (Went to) is = ap (λ (w : Core J). w.houses.executors) is
-      finds Unknown is = ap (λ (w : Core J). w.houses.executors) is
+      finds : (found : Found) → FindsSlice found executor m old new → new.placements.executors ≡ old.placements.executors
+      finds Here works = ap (λ (w : Core J). w.placements.executors) works.1.1
+      finds (Went to) is = ap (λ (w : Core J). w.placements.executors) is
+      finds Unknown is = ap (λ (w : Core J). w.placements.executors) is
 
-      by : (slice : Bool) → WorksIfHere slice executor m old new → new.houses.executors ≡ old.houses.executors
-      by false works = ap (λ (w : Core J). w.houses.executors) works.1.1
-      by true found = finds (found_by old.houses executor (home_of_message m)) found
+      by : (slice : Bool) → WorksIfHere slice executor m old new → new.placements.executors ≡ old.placements.executors
+      by false works = ap (λ (w : Core J). w.placements.executors) works.1.1
+      by true found = finds (found_by old.placements executor (home_of_message m)) found
 
-  sends_stay : (executor : ℕ) (p : Posted J) (old new : Core J) (answer : EventAnswer) → SendsPosted executor p old answer new → new.houses.executors ≡ old.houses.executors
-  sends_stay executor (posted.Letter l) old new answer said = delivered (has_room l.to old) said
+  sends_stay : (executor : ℕ) (p : Outgoing J) (old new : Core J) (answer : EventAnswer) → SendsOutgoing executor p old answer new → new.placements.executors ≡ old.placements.executors
+  sends_stay executor (outgoing.Envelope l) old new answer said = delivered (has_room l.to old) said
     where
-      delivered : (room : Bool) → Delivers room executor l old answer new → new.houses.executors ≡ old.houses.executors
-      delivered true said = ap (λ (w : Core J). w.houses.executors) said.1
-      delivered false said = ap (λ (w : Core J). w.houses.executors) said.1
-  sends_stay executor (posted.Item i) old new answer said = ap (λ (w : Core J). w.houses.executors) said.1.1
-  sends_stay executor posted.Arrived old new answer said = ap (λ (w : Core J). w.houses.executors) said.1
+      delivered : (room : Bool) → Delivers room executor l old answer new → new.placements.executors ≡ old.placements.executors
+      delivered true said = ap (λ (w : Core J). w.placements.executors) said.1
+      delivered false said = ap (λ (w : Core J). w.placements.executors) said.1
+  sends_stay executor (outgoing.Item i) old new answer said = ap (λ (w : Core J). w.placements.executors) said.1.1
+  sends_stay executor outgoing.Arrived old new answer said = ap (λ (w : Core J). w.placements.executors) said.1
 
-  pub executors_stay : (event : Event) (old new : Core J) (answer : EventAnswer) → Happens event old answer new → new.houses.executors ≡ old.houses.executors
-  executors_stay (Submit session number asked) old new answer said = ap (λ (w : Core J). w.houses.executors) said.1.1
-  executors_stay (Order order) old new answer said = ⊎_elim (λ can. ap (λ (w : Core J). w.houses.executors) can.1.1) (λ stays. ap (λ (w : Core J). w.houses.executors) stays.1.1) said
+  pub executors_stay : (event : Event) (old new : Core J) (answer : EventAnswer) → Happens event old answer new → new.placements.executors ≡ old.placements.executors
+  executors_stay (Submit session number asked) old new answer said = ap (λ (w : Core J). w.placements.executors) said.1.1
+  executors_stay (Order order) old new answer said = ⊎_elim (λ can. ap (λ (w : Core J). w.placements.executors) can.1.1) (λ stays. ap (λ (w : Core J). w.placements.executors) stays.1.1) said
   executors_stay (Take executor) old new answer said = took (queue_of executor old.inboxes) said
     where
-      took : (letters : List (Letter J)) → TakesFirst executor letters old answer new → new.houses.executors ≡ old.houses.executors
-      took [] said = ap (λ (w : Core J). w.houses.executors) said.1
+      took : (envelopes : List (Envelope J)) → TakesFirst executor envelopes old answer new → new.placements.executors ≡ old.placements.executors
+      took [] said = ap (λ (w : Core J). w.placements.executors) said.1
       took (l ∷ rest) said = opens_stay executor l.load (record old { inboxes = slice_set old.inboxes executor rest }) new said.1
   executors_stay (Send executor) old new answer said = sent (queue_of executor old.outboxes) said
     where
-      sent : (posts : List (Posted J)) → SendsFirst executor posts old answer new → new.houses.executors ≡ old.houses.executors
-      sent [] said = ap (λ (w : Core J). w.houses.executors) said.1
+      sent : (posts : List (Outgoing J)) → SendsFirst executor posts old answer new → new.placements.executors ≡ old.placements.executors
+      sent [] said = ap (λ (w : Core J). w.placements.executors) said.1
       sent (p ∷ rest) said = sends_stay executor p (record old { outboxes = slice_set old.outboxes executor rest }) new answer said
 
 -- whatever came of it

@@ -1,4 +1,4 @@
--- What a letter or an item that is sent does to a world, and what a submission does.
+-- What an envelope or an item that is sent does to a world, and what a submission does.
 use Rattle.std.proofs.Common.{◌≡◌, ◌⊎◌, inl, inr, ℕ, ◌<◌, ◌≤◌, Bool, true, false, ◌&&◌, List, [], ◌∷◌, ◌++◌, length, map, Option, Some, None, refl, sym, ◌∙◌, ap, subst, append-nil, arith, nat_lt, ⊎_elim}
 use Rattle.std.specs.Prelude.{All, Vec, slice_get, slice_set}
 use Rattle.std.specs.List.{sum_by}
@@ -6,59 +6,59 @@ use Rattle.std.specs.declared.alloc.Global.{Global}
 use Rattle.std.proofs.lemmas.List.{set-get_or}
 use Rattle.std.proofs.lemmas.List.Elements.{All-cons, All-nil}
 use Rattle.std.proofs.lemmas.List.Sums.{sum_by-cons}
-use Rattle.partitions.specs.Parts.{Shared}
+use Rattle.partitions.specs.Parts.{SharedTables}
 use Rattle.requests.specs.declared.refusal.Refusal.{Refusal}
 use Rattle.requests.specs.declared.request.Request.{Request}
 use Rattle.history.specs.declared.event.Event.TheVariants.{Submit, Send}
 use Rattle.history.specs.declared.event.EventAnswer.{EventAnswer}
 use Rattle.history.specs.declared.event.EventAnswer.TheVariants.{Full, Sent}
 use Rattle.history.specs.History.{step}
-use Rattle.range_moves.specs.Housing.{route_of}
-use Rattle.range_moves.specs.Traffic.{IsHousedWith}
-use Rattle.transactions.specs.Stations.{Stationed}
+use Rattle.range_moves.specs.Placements.{route_of}
+use Rattle.range_moves.specs.Traffic.{IsLocatedWith}
+use Rattle.transactions.specs.Shards.{ShardView}
 use Rattle.world.specs.declared.desk.SessionDesk.{SessionDesk}
 use Rattle.world.specs.declared.flight.Carried.{Carried}
 use Rattle.world.specs.declared.flight.Item.{Item}
 use Rattle.world.specs.declared.flight.Item.TheVariants as item
-use Rattle.world.specs.declared.flight.Letter.{Letter}
+use Rattle.world.specs.declared.flight.Envelope.{Envelope}
 use Rattle.world.specs.declared.flight.Load.{Load}
 use Rattle.world.specs.declared.flight.Load.TheVariants.{Work, Move}
 use Rattle.world.specs.declared.flight.Message.{Message}
 use Rattle.world.specs.declared.flight.Message.TheVariants as message
-use Rattle.world.specs.declared.flight.Posted.{Posted}
-use Rattle.world.specs.declared.flight.Posted.TheVariants as posted
+use Rattle.world.specs.declared.flight.Outgoing.{Outgoing}
+use Rattle.world.specs.declared.flight.Outgoing.TheVariants as outgoing
 use Rattle.world.specs.declared.world.Core.{Core}
 use Rattle.world.specs.declared.world.Parts.{Parts}
 use Rattle.world.specs.Events.{SendsItem}
 use Rattle.world.specs.Flights.{join, nothing, part_item}
 use Rattle.world.specs.Happening.{Admits, Delivers, SubmitsAt, SubmitsInto, SubmitsUnless, beginning_at, bringing, can_admit, posting, refusal_at}
-use Rattle.world.specs.Letters.{IsNoPush, IsPosted, arrived_of, going_in, home_of_message, items_in, letter, messages_in, messages_of, sent_in}
+use Rattle.world.specs.Envelopes.{IsNoPush, IsOutgoing, arrived_of, going_in, home_of_message, items_in, envelope, messages_in, messages_of, sent_in}
 use Rattle.world.specs.Queues.{all_of, put_into, queue_of}
 use Rattle.world.specs.Parted.{joined_in}
 use Rattle.world.specs.Sound.{IsSoundItem, IsSoundWith, flight}
-use Rattle.world.specs.Stations.{HaveToWait, IsStationOf, waiting_in}
-use Rattle.world.specs.Together.{IsSound, arrived_in, letters_of_all, together}
+use Rattle.world.specs.Shards.{HaveToWait, IsShardOf, waiting_in}
+use Rattle.world.specs.Together.{IsSound, arrived_in, envelopes_of_all, together}
 use Rattle.world.specs.Worlds.{Fits, FitsPart}
 use Rattle.world.proofs.Executing.{GoesOnWith, brings_keep, brings_pass, quietly}
 use Rattle.world.proofs.Framed.{framed, sends_framed, submits_framed}
 use Rattle.world.proofs.Moves.{sound_kept}
 use Rattle.world.proofs.Owned.{sent_inbox}
 use Rattle.world.proofs.Passes.{Passes, passes-is, passes-trans, passes_in, passes_shuffled}
-use Rattle.world.proofs.Posting.{Keeps, delivers_keep, delivers_pass, holding, is_posted, kept_sound, left_out, posts_keep, posts_pass, sends_passes, takes_posted, there_out}
+use Rattle.world.proofs.Posting.{Keeps, delivers_keep, delivers_pass, holding, is_outgoing, kept_sound, left_out, posts_keep, posts_pass, sends_passes, takes_outgoing, there_out}
 use Rattle.world.proofs.Puts.{fits_in_hand, item_in_hand}
 use Rattle.world.proofs.Reordered.{queued}
 use Rattle.world.proofs.Shuffles.{same, swap}
-use Rattle.world.proofs.Standing.{sent_stations, submitted_stations}
+use Rattle.world.proofs.Standing.{sent_shards, submitted_shards}
 
 first_of_both : (a b : Bool) → (a && b) ≡ true → a ≡ true
 first_of_both true b is = refl
 first_of_both false b is = is
 
 module _ {J : Type 0} where
-  -- ---- a letter
+  -- ---- an envelope
 
   -- what is pushed of it comes in
-  comes_in : (shared : Shared) (w : Core J) (l : Letter J) → Passes shared (holding [] (map item.Push (messages_of l.load)) w) (holding (messages_of l.load) [] w)
+  comes_in : (shared : SharedTables) (w : Core J) (l : Envelope J) → Passes shared (holding [] (map item.Push (messages_of l.load)) w) (holding (messages_of l.load) [] w)
   comes_in shared w l = by l.load
     where
       by : (load : Load J) → Passes shared (holding [] (map item.Push (messages_of load)) w) (holding (messages_of load) [] w)
@@ -69,27 +69,27 @@ module _ {J : Type 0} where
           passes-trans shared (queued w.parts ms (item.Push m ∷ is)) (queued w.parts (ms ++ m ∷ []) is) (queued w.parts (m ∷ ms) is) (passes_in shared w.parts m ms is)
           (passes_shuffled shared w.parts (ms ++ m ∷ []) (m ∷ ms) is is (swap ms (m ∷ [])) (same is))
 
-  pub sends_letter : (shared : Shared) (w : Core J) (h : IsSound shared w) (executor : ℕ) (l : Letter J) (rest : List (Posted J)) → queue_of executor w.outboxes ≡ posted.Letter l ∷ rest → (room : Bool) (answer : EventAnswer) (new : Core J)
+  pub sends_envelope : (shared : SharedTables) (w : Core J) (h : IsSound shared w) (executor : ℕ) (l : Envelope J) (rest : List (Outgoing J)) → queue_of executor w.outboxes ≡ outgoing.Envelope l ∷ rest → (room : Bool) (answer : EventAnswer) (new : Core J)
       → Delivers room executor l (record w { outboxes = slice_set w.outboxes executor rest }) answer new → GoesOnWith shared w (Send executor) answer new
-  sends_letter shared w h executor l rest first true answer new said =
-      let p : Posted J = posted.Letter l in
+  sends_envelope shared w h executor l rest first true answer new said =
+      let p : Outgoing J = outgoing.Envelope l in
       let left = left_out shared w h executor p rest first in
-      let hand = takes_posted shared w h executor p rest first in
-      let below = is_posted shared w h executor p rest first in
+      let hand = takes_outgoing shared w h executor p rest first in
+      let below = is_outgoing shared w h executor p rest first in
       let there : l.to < length w.inboxes = omega (arith, below, h.inboxes) in
       let pushes = map item.Push (messages_of l.load) in
       let passes : Passes shared (together w) (holding (messages_of l.load) [] left) =
       passes-trans shared (together w) (holding [] pushes left) (holding (messages_of l.load) [] left) (sends_passes shared w h executor p rest first) (comes_in shared left l) in
       let ready : Keeps shared (messages_of l.load) [] (l ∷ []) 0 left = record {
         all = (passes h.all).sound;
-        stations = hand.stations;
+        shards = hand.shards;
         wait = hand.wait;
         warehouses = hand.warehouses;
         inboxes = hand.inboxes;
         outboxes = hand.outboxes;
         own = hand.own;
-        posted = hand.posted;
-        housed = hand.housed;
+        outgoing = hand.outgoing;
+        located = hand.located;
         no_inbox = hand.no_inbox;
         no_outbox = hand.no_outbox;
       } in
@@ -98,11 +98,11 @@ module _ {J : Type 0} where
       subst (λ (v : Core J). GoesOnWith shared w (Send executor) answer v) (sym said.1)
       (subst (λ a. GoesOnWith shared w (Send executor) a next) (sym said.0)
       (quietly shared w next (Send executor) Sent tt keeps (passes-trans shared (together w) (holding (messages_of l.load) [] left) (together next) passes (delivers_pass shared left l there) h.all)))
-  sends_letter shared w h executor l rest first false answer new said =
-      let p : Posted J = posted.Letter l in
+  sends_envelope shared w h executor l rest first false answer new said =
+      let p : Outgoing J = outgoing.Envelope l in
       let left = left_out shared w h executor p rest first in
-      let hand = takes_posted shared w h executor p rest first in
-      let below = is_posted shared w h executor p rest first in
+      let hand = takes_outgoing shared w h executor p rest first in
+      let below = is_outgoing shared w h executor p rest first in
       let there = there_out shared w h executor p rest first in
       let there_left : executor < length left.outboxes = omega (arith, there, hand.outboxes, h.outboxes) in
       let pushes = map item.Push (messages_of l.load) in
@@ -111,7 +111,7 @@ module _ {J : Type 0} where
       subst (λ (is : List (Item J)). Keeps shared [] is (l ∷ []) (sum_by arrived_of (p ∷ [])) left) (sym items)
       (subst (λ n. Keeps shared [] pushes (l ∷ []) n left) (omega (arith, sum_by-cons arrived_of p [])) hand) in
       let next : Core J = posting executor (p ∷ []) left in
-      let keeps : Keeps shared [] [] [] 0 next = posts_keep shared left executor (p ∷ []) [] there_left counted (All-cons (IsPosted w.houses.executors) p [] below (All-nil (IsPosted w.houses.executors))) in
+      let keeps : Keeps shared [] [] [] 0 next = posts_keep shared left executor (p ∷ []) [] there_left counted (All-cons (IsOutgoing w.placements.executors) p [] below (All-nil (IsOutgoing w.placements.executors))) in
       let passes : Passes shared (together w) (holding [] (items_in (p ∷ [])) left) =
       subst (λ (is : List (Item J)). Passes shared (together w) (holding [] is left)) (sym items) (sends_passes shared w h executor p rest first) in
       subst (λ (v : Core J). GoesOnWith shared w (Send executor) answer v) (sym said.1)
@@ -120,9 +120,9 @@ module _ {J : Type 0} where
 
   -- ---- an item
 
-  module _ (shared : Shared) (w : Core J) (h : IsSound shared w) (executor : ℕ) (i : Item J) (rest : List (Posted J)) (first : queue_of executor w.outboxes ≡ posted.Item i ∷ rest) where
-    abbrev p : Posted J
-    p = posted.Item i
+  module _ (shared : SharedTables) (w : Core J) (h : IsSound shared w) (executor : ℕ) (i : Item J) (rest : List (Outgoing J)) (first : queue_of executor w.outboxes ≡ outgoing.Item i ∷ rest) where
+    abbrev p : Outgoing J
+    p = outgoing.Item i
 
     abbrev left : Core J
     left = record w { outboxes = slice_set w.outboxes executor rest }
@@ -143,25 +143,25 @@ module _ {J : Type 0} where
     no_more : queued w.parts messages items ≡ framed messages items w.parts
     no_more = λ k. queued w.parts ((sym (append-nil messages) ∙ ap (λ (ms : List (Message J)). messages ++ ms) (sym h.no_inbox)) k) ((sym (append-nil items) ∙ ap (λ (is : List (Item J)). items ++ is) (sym h.no_outbox)) k)
 
-    pub item_taken : (k : IsSoundWith shared (part_item i) (framed messages items w.parts)) × IsSoundItem shared k.under_way i
+    pub item_taken : (k : IsSoundWith shared (part_item i) (framed messages items w.parts)) × IsSoundItem shared k.in_flight i
     item_taken =
-        subst (λ (v : Parts J). (k : IsSoundWith shared (part_item i) v) × IsSoundItem shared k.under_way i) no_more (item_in_hand shared whole i items refl sound_item)
+        subst (λ (v : Parts J). (k : IsSoundWith shared (part_item i) v) × IsSoundItem shared k.in_flight i) no_more (item_in_hand shared whole i items refl sound_item)
 
     no_push : IsNoPush i
-    no_push = is_posted shared w h executor p rest first
+    no_push = is_outgoing shared w h executor p rest first
 
-    pub sends_item : (below : (w_id : ℕ) → route_of w.houses w_id < w.houses.executors) (parts : Parts J) (answer : EventAnswer) (new : Core J) → SendsItem i w.parts answer parts → new ≡ bringing executor parts left → GoesOnWith shared w (Send executor) answer new
+    pub sends_item : (below : (w_id : ℕ) → route_of w.placements w_id < w.placements.executors) (parts : Parts J) (answer : EventAnswer) (new : Core J) → SendsItem i w.parts answer parts → new ≡ bringing executor parts left → GoesOnWith shared w (Send executor) answer new
     sends_item below parts answer new said is =
         let sends = sends_framed messages items shared w.parts parts i answer item_taken.0 item_taken.1 said in
-        let hand = takes_posted shared w h executor p rest first in
-        let same_stations = sent_stations i w.parts parts answer said in
+        let hand = takes_outgoing shared w h executor p rest first in
+        let same_shards = sent_shards i w.parts parts answer said in
         let none : parts.inbox ≡ [] = sent_inbox i w.parts parts answer no_push said ∙ h.no_inbox in
         let there = there_out shared w h executor p rest first in
         let there_left : executor < length left.outboxes = omega (arith, there, hand.outboxes, h.outboxes) in
         let brought : Core J = record left { parts = record parts { outbox = [] } } in
         let seen : Parts J = queued parts messages (items ++ parts.outbox) in
         let framed_is : framed messages items parts ≡ seen = ap (λ (ms : List (Message J)). queued parts (messages ++ ms) (items ++ parts.outbox)) none ∙ ap (λ (ms : List (Message J)). queued parts ms (items ++ parts.outbox)) (append-nil messages) in
-        let waits : waiting_in w.parts ≡ waiting_in parts = ap (λ (s : Vec (Stationed (Carried J)) Global). waiting_in (record parts { stations = s })) (sym same_stations) in
+        let waits : waiting_in w.parts ≡ waiting_in parts = ap (λ (s : Vec (ShardView (Carried J)) Global). waiting_in (record parts { shards = s })) (sym same_shards) in
         let last : Parts J = holding [] parts.outbox brought in
         let mid : Parts J = queued parts (waiting_in parts ++ (messages_in (all_of w.inboxes) ++ w.parked)) (items ++ parts.outbox) in
         let seen_is : seen ≡ mid = ap (λ (q : List (Message J)). queued parts (q ++ (messages_in (all_of w.inboxes) ++ w.parked)) (items ++ parts.outbox)) waits in
@@ -170,11 +170,11 @@ module _ {J : Type 0} where
         (passes_shuffled shared parts mid.inbox mid.inbox (items ++ parts.outbox) (parts.outbox ++ items) (same mid.inbox) (swap items parts.outbox)) in
         let next : Core J = bringing executor parts left in
         let end : Passes shared (framed messages items parts) (together next) = passes-trans shared (framed messages items parts) last (together next) passes (brings_pass shared left executor parts there_left below) in
-        let kept : IsHousedWith 0 w.houses (going_in (letters_of_all left)) (sent_in (letters_of_all left)) (arrived_in left) (map home_of_message w.parked) =
-        subst (λ n. IsHousedWith 0 w.houses (going_in (letters_of_all left)) (sent_in (letters_of_all left)) n (map home_of_message w.parked)) (omega arith) hand.housed in
-        let stations : All (IsStationOf shared.scale.warehouses) parts.stations.items = subst (λ (s : Vec (Stationed (Carried J)) Global). All (IsStationOf shared.scale.warehouses) s.items) (sym same_stations) h.stations in
-        let wait : All HaveToWait parts.stations.items = subst (λ (s : Vec (Stationed (Carried J)) Global). All HaveToWait s.items) (sym same_stations) h.wait in
-        let keeps = brings_keep shared left executor parts there_left below [] (i ∷ []) [] 0 hand (passes sends.sound).sound stations wait none kept in
+        let kept : IsLocatedWith 0 w.placements (going_in (envelopes_of_all left)) (sent_in (envelopes_of_all left)) (arrived_in left) (map home_of_message w.parked) =
+        subst (λ n. IsLocatedWith 0 w.placements (going_in (envelopes_of_all left)) (sent_in (envelopes_of_all left)) n (map home_of_message w.parked)) (omega arith) hand.located in
+        let shards : All (IsShardOf shared.scale.warehouses) parts.shards.items = subst (λ (s : Vec (ShardView (Carried J)) Global). All (IsShardOf shared.scale.warehouses) s.items) (sym same_shards) h.shards in
+        let wait : All HaveToWait parts.shards.items = subst (λ (s : Vec (ShardView (Carried J)) Global). All HaveToWait s.items) (sym same_shards) h.wait in
+        let keeps = brings_keep shared left executor parts there_left below [] (i ∷ []) [] 0 hand (passes sends.sound).sound shards wait none kept in
         subst (λ (v : Core J). GoesOnWith shared w (Send executor) answer v) (sym is) (
           kept_sound shared next keeps,
           λ opening history f.
@@ -215,19 +215,19 @@ module _ {J : Type 0} where
       let nothing_put : length new.inbox ≡ 0 = ap (λ (w : Parts J). length w.inbox) same ∙ ap (λ (ms : List (Message J)). length ms) none in
       (omega (arith, nothing_put), λ some. absurd (omega (arith, some, nothing_put))))
       (λ admitted.
-      let one : length new.inbox ≡ 1 = ap (λ (ms : List (Message J)). length ms) (admitted.1.1.inbox ∙ ap (λ (ms : List (Message J)). ms ++ message.Start admitted.1.1.journey admitted.1.1.works ∷ []) none) in
+      let one : length new.inbox ≡ 1 = ap (λ (ms : List (Message J)). length ms) (admitted.1.1.inbox ∙ ap (λ (ms : List (Message J)). ms ++ message.Start admitted.1.1.flow admitted.1.1.works ∷ []) none) in
       (omega (arith, one), λ some. admitted_room room old admitted.0))
       (submit_cases room found session number asked old new answer said)
 
   -- nothing is handed out
   pub none_begins : (w : Core J) (to : ℕ) → w.parts.inbox ≡ [] → beginning_at to w.parts w ≡ w
   none_begins w to none =
-      let inboxes : put_into to (map (λ (m : Message J). letter to (Work m)) w.parts.inbox) w.inboxes ≡ w.inboxes =
-      ap (λ (ms : List (Message J)). slice_set w.inboxes to (queue_of to w.inboxes ++ map (λ (m : Message J). letter to (Work m)) ms)) none
-      ∙ ap (λ (q : List (Letter J)). slice_set w.inboxes to q) (append-nil (queue_of to w.inboxes)) ∙ set-get_or w.inboxes to [] in
+      let inboxes : put_into to (map (λ (m : Message J). envelope to (Work m)) w.parts.inbox) w.inboxes ≡ w.inboxes =
+      ap (λ (ms : List (Message J)). slice_set w.inboxes to (queue_of to w.inboxes ++ map (λ (m : Message J). envelope to (Work m)) ms)) none
+      ∙ ap (λ (q : List (Envelope J)). slice_set w.inboxes to q) (append-nil (queue_of to w.inboxes)) ∙ set-get_or w.inboxes to [] in
       λ k. record w { parts = record w.parts { inbox = sym none k }; inboxes = inboxes k }
 
-  module _ (shared : Shared) (w : Core J) (h : IsSound shared w) (session number : ℕ) (asked : Request) (to : ℕ) (there : to < length w.inboxes) where
+  module _ (shared : SharedTables) (w : Core J) (h : IsSound shared w) (session number : ℕ) (asked : Request) (to : ℕ) (there : to < length w.inboxes) where
     abbrev messages' : List (Message J)
     messages' = (together w).inbox
 
@@ -243,7 +243,7 @@ module _ {J : Type 0} where
         let found = slice_get w.parts.desk.sessions.items session in
         let framed_sound : IsSoundWith shared nothing (framed messages' items' w.parts) = subst (λ (v : Parts J). IsSoundWith shared nothing v) nothing_more h.all in
         let both = submits_framed messages' items' room shared w.parts parts framed_sound session number asked answer found refl said in
-        let same_stations = submitted_stations room found session number asked w.parts parts answer said in
+        let same_shards = submitted_shards room found session number asked w.parts parts answer said in
         let next : Core J = beginning_at to parts w in
         let come = messages_in (all_of w.inboxes) in
         ⊎_elim
@@ -258,15 +258,15 @@ module _ {J : Type 0} where
         ))
         (λ admitted.
         let a = admitted.1.1 in
-        let m : Message J = message.Start a.journey a.works in
-        let l : Letter J = letter to (Work m) in
+        let m : Message J = message.Start a.flow a.works in
+        let l : Envelope J = envelope to (Work m) in
         let inbox : parts.inbox ≡ m ∷ [] = a.inbox ∙ ap (λ (ms : List (Message J)). ms ++ m ∷ []) h.no_inbox in
         let outbox : parts.outbox ≡ [] = a.outbox ∙ h.no_outbox in
         let cleared : Parts J = record parts { inbox = [] } in
         let mid : Core J = record w { parts = cleared } in
         let next_is : next ≡ record mid { inboxes = put_into to (l ∷ []) w.inboxes } =
-        ap (λ (ms : List (Message J)). record mid { inboxes = put_into to (map (λ (m : Message J). letter to (Work m)) ms) w.inboxes }) inbox in
-        let waits : waiting_in w.parts ≡ waiting_in parts = ap (λ (s : Vec (Stationed (Carried J)) Global). waiting_in (record parts { stations = s })) (sym same_stations) in
+        ap (λ (ms : List (Message J)). record mid { inboxes = put_into to (map (λ (m : Message J). envelope to (Work m)) ms) w.inboxes }) inbox in
+        let waits : waiting_in w.parts ≡ waiting_in parts = ap (λ (s : Vec (ShardView (Carried J)) Global). waiting_in (record parts { shards = s })) (sym same_shards) in
         let seen : Parts J = queued parts (m ∷ (waiting_in parts ++ (come ++ w.parked))) items' in
         let framed_is : framed messages' items' parts ≡ queued parts ((waiting_in parts ++ (come ++ w.parked)) ++ m ∷ []) items' =
         λ k. queued parts ((waits k ++ (come ++ w.parked)) ++ inbox k) ((ap (λ (is : List (Item J)). items' ++ is) outbox ∙ append-nil items') k) in
@@ -277,14 +277,14 @@ module _ {J : Type 0} where
         let kept = sound_kept shared w h in
         let ready : Keeps shared (m ∷ []) [] (l ∷ []) 0 mid = record {
           all = (passes both.0).sound;
-          stations = subst (λ (s : Vec (Stationed (Carried J)) Global). All (IsStationOf shared.scale.warehouses) s.items) (sym same_stations) h.stations;
-          wait = subst (λ (s : Vec (Stationed (Carried J)) Global). All HaveToWait s.items) (sym same_stations) h.wait;
+          shards = subst (λ (s : Vec (ShardView (Carried J)) Global). All (IsShardOf shared.scale.warehouses) s.items) (sym same_shards) h.shards;
+          wait = subst (λ (s : Vec (ShardView (Carried J)) Global). All HaveToWait s.items) (sym same_shards) h.wait;
           warehouses = h.warehouses;
           inboxes = h.inboxes;
           outboxes = h.outboxes;
           own = h.own;
-          posted = h.posted;
-          housed = kept.housed;
+          outgoing = h.outgoing;
+          located = kept.located;
           no_inbox = refl;
           no_outbox = outbox;
         } in

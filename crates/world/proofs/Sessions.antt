@@ -5,7 +5,7 @@ use Rattle.std.specs.List.{slice_get, sum_by}
 use Rattle.std.proofs.lemmas.List.Sums.{sum_by-cons}
 use Rattle.std.proofs.lemmas.Bool.{eq-eqb}
 use Rattle.std.proofs.lemmas.Map.Views.{exact_unsigned_eq}
-use Rattle.history.specs.History.{Unanswered, is_of}
+use Rattle.history.specs.History.{UnansweredTransaction, is_of}
 use Rattle.world.specs.declared.desk.SessionDesk.{SessionDesk}
 use Rattle.world.specs.Sound.{IsSessionOf, is_here}
 use Rattle.world.proofs.Tokens.{IsFalse, by_bool}
@@ -37,21 +37,21 @@ found_once o x y a b = cc
 
 -- ---- one session's transaction
 
-is_of_own : (u : Unanswered) (number : ℕ) → u.session ≡ number → cond {A = ℕ} (is_of number u) 1 0 ≡ 1
+is_of_own : (u : UnansweredTransaction) (number : ℕ) → u.session ≡ number → cond {A = ℕ} (is_of number u) 1 0 ≡ 1
 is_of_own u number same = ap {B = ℕ} (λ b. cond b 1 0) (eq-eqb u.session number same)
 
-is_of_other : (u : Unanswered) (number : ℕ) → u.session ≢ number → cond {A = ℕ} (is_of number u) 1 0 ≡ 0
+is_of_other : (u : UnansweredTransaction) (number : ℕ) → u.session ≢ number → cond {A = ℕ} (is_of number u) 1 0 ≡ 0
 is_of_other u number other =
     by_bool (u.session == number)
     (λ same. absurd (other (exact_unsigned_eq u.session number same)))
     (λ differs. ap {B = ℕ} (λ b. cond b 1 0) differs)
 
 module _ {J : Type 0} where
-  abbrev pub AreAlone : List (SessionDesk J) → List Unanswered → Type 0
+  abbrev pub AreAlone : List (SessionDesk J) → List UnansweredTransaction → Type 0
   AreAlone sessions pending =
       (number : ℕ) (session : SessionDesk J) → slice_get sessions number ≡ Some session → count_by (is_of number) pending + cond (is_here session) 1 0 ≡ 1
 
-  abbrev pub AreMany : List (SessionDesk J) → List Unanswered → Type 0
+  abbrev pub AreMany : List (SessionDesk J) → List UnansweredTransaction → Type 0
   AreMany sessions pending = length pending + count_by is_here sessions ≡ 64
 
   abbrev pub AreInPlace : List (SessionDesk J) → Type 0
@@ -71,8 +71,8 @@ module _ {J : Type 0} where
       let other : number ≢ place = λ at. absurd (subst (λ b. IsFalse b) (sym differs ∙ eq-eqb number place at) tt) in
       others number session other (sym (get_other sessions place number new other) ∙ there))
 
-  -- a session is answered: its pass is here again, and its transaction is not under way any more
-  module _ (sessions : List (SessionDesk J)) (u : Unanswered) (pending : List Unanswered) (old new : SessionDesk J) (place : ℕ)
+  -- a session is answered: its pass is here again, and its transaction is not in flight any more
+  module _ (sessions : List (SessionDesk J)) (u : UnansweredTransaction) (pending : List UnansweredTransaction) (old new : SessionDesk J) (place : ℕ)
       (is : slice_get sessions place ≡ Some old) (whose : u.session ≡ place) (here : is_here new ≡ true) (alone : AreAlone sessions (u ∷ pending)) (many : AreMany sessions (u ∷ pending)) where
     was : (count_by (is_of place) pending ≡ 0) × (cond {A = ℕ} (is_here old) 1 0 ≡ 0)
     was =
@@ -90,8 +90,8 @@ module _ {J : Type 0} where
     pub answered_many : AreMany (slice_set sessions place new) pending
     answered_many = omega (arith, many, was.1, ap {B = ℕ} (λ b. cond b 1 0) here, sum_set (λ s. cond (is_here s) 1 0) sessions place old new is)
 
-  -- a session asks: its pass goes, and its transaction is under way
-  module _ (sessions : List (SessionDesk J)) (u : Unanswered) (pending : List Unanswered) (old new : SessionDesk J) (place : ℕ)
+  -- a session asks: its pass goes, and its transaction is in flight
+  module _ (sessions : List (SessionDesk J)) (u : UnansweredTransaction) (pending : List UnansweredTransaction) (old new : SessionDesk J) (place : ℕ)
       (is : slice_get sessions place ≡ Some old) (whose : u.session ≡ place) (here : is_here old ≡ true) (away : is_here new ≡ false) (alone : AreAlone sessions pending) (many : AreMany sessions pending) where
     pub asks_first : count_by (is_of place) pending ≡ 0
     asks_first = omega (arith, alone place old is, ap {B = ℕ} (λ b. cond b 1 0) here)

@@ -1,18 +1,18 @@
--- What an event leaves as it was: the stations, but where a message is taken, and then the inbox.
+-- What an event leaves as it was: the shards, but where a message is taken, and then the inbox.
 use Rattle.std.proofs.Common.{◌≡◌, inl, inr, ℕ, Bool, true, false, List, [], ◌∷◌, length, Option, Some, None, refl, ◌∙◌, ap, nat_lt, ⊎_elim}
 use Rattle.requests.specs.declared.request.Request.{Request}
 use Rattle.requests.specs.declared.refusal.Refusal.{Refusal}
 use Rattle.history.specs.declared.event.EventAnswer.{EventAnswer}
 use Rattle.transactions.specs.declared.progress.Gathered.{Gathered}
 use Rattle.transactions.specs.declared.progress.Gathered.TheVariants.{Next, Finish}
-use Rattle.transactions.specs.declared.station.Turned.{Turned}
+use Rattle.transactions.specs.declared.shard.Turned.{Turned}
 use Rattle.world.specs.declared.desk.SessionDesk.{SessionDesk}
 use Rattle.world.specs.declared.flight.Carried.{Carried}
 use Rattle.world.specs.declared.flight.Commit.{Commit}
-use Rattle.world.specs.declared.flight.Journey.{Journey}
+use Rattle.world.specs.declared.flight.Flow.{Flow}
 use Rattle.world.specs.declared.flight.Transaction.{Transaction}
 use Rattle.world.specs.declared.flight.Message.{Message}
-use Rattle.world.specs.declared.flight.Message.TheVariants.{Start, Errand, Settle, Undo}
+use Rattle.world.specs.declared.flight.Message.TheVariants.{Start, Act, Settle, Undo}
 use Rattle.world.specs.declared.flight.Report.{Report}
 use Rattle.world.specs.declared.flight.Item.{Item}
 use Rattle.world.specs.declared.flight.Item.TheVariants as item
@@ -25,52 +25,52 @@ use Rattle.world.proofs.Sorting.{carried_both}
 module _ {J : Type 0} where
   -- ---- an item is sent
 
-  goes_stations : (t : Transaction J) (g : Gathered) (w : Parts J) → (goes_on t g w).stations ≡ w.stations
-  goes_stations t (Next progress) w = refl
-  goes_stations t (Finish shown) w = refl
+  goes_shards : (t : Transaction J) (g : Gathered) (w : Parts J) → (goes_on t g w).shards ≡ w.shards
+  goes_shards t (Next progress) w = refl
+  goes_shards t (Finish shown) w = refl
 
-  unless_stations : (why : Option Refusal) (reports : List (Report J)) (journey : Journey J) (old new : Parts J) → MeetsUnless why reports journey old new → new.stations ≡ old.stations
-  unless_stations (Some why) reports journey old new said = ap (λ (w : Parts J). w.stations) said
-  unless_stations None reports journey old new said =
-      ⊎_elim (λ no_memory. ap (λ (w : Parts J). w.stations) no_memory) (λ gathered. ap (λ (w : Parts J). w.stations) gathered.1.1 ∙ goes_stations _ gathered.0 old) said
+  unless_shards : (why : Option Refusal) (reports : List (Report J)) (flow : Flow J) (old new : Parts J) → MeetsUnless why reports flow old new → new.shards ≡ old.shards
+  unless_shards (Some why) reports flow old new said = ap (λ (w : Parts J). w.shards) said
+  unless_shards None reports flow old new said =
+      ⊎_elim (λ no_memory. ap (λ (w : Parts J). w.shards) no_memory) (λ gathered. ap (λ (w : Parts J). w.shards) gathered.1.1 ∙ goes_shards _ gathered.0 old) said
 
-  meets_stations : (reports : List (Report J)) (old new : Parts J) → MeetsAs reports old new → new.stations ≡ old.stations
-  meets_stations reports old new said =
-      let P : Journey J → Type 0 = λ journey. MeetsUnless (refusal_of None reports) reports journey old new in
-      carried_both reports P P (new.stations ≡ old.stations) (λ journey one same. unless_stations (refusal_of None reports) reports journey old new one) said said
+  meets_shards : (reports : List (Report J)) (old new : Parts J) → MeetsAs reports old new → new.shards ≡ old.shards
+  meets_shards reports old new said =
+      let P : Flow J → Type 0 = λ flow. MeetsUnless (refusal_of None reports) reports flow old new in
+      carried_both reports P P (new.shards ≡ old.shards) (λ flow one same. unless_shards (refusal_of None reports) reports flow old new one) said said
 
-  commits_stations : (commit : Commit J) (old new : Parts J) (answer : EventAnswer) → Commits commit old answer new → new.stations ≡ old.stations
-  commits_stations commit old new answer said = ap (λ (w : Parts J). w.stations) said.over
+  commits_shards : (commit : Commit J) (old new : Parts J) (answer : EventAnswer) → Commits commit old answer new → new.shards ≡ old.shards
+  commits_shards commit old new answer said = ap (λ (w : Parts J). w.shards) said.over
 
-  into_stations : (slot first : ℕ) (slots : List (Option (Report J))) (old new : Parts J) → ReportsInto slot first slots old new → new.stations ≡ old.stations
-  into_stations slot first slots old new (inl kept) = ap (λ (w : Parts J). w.stations) kept.1
-  into_stations slot first slots old new (inr met) = meets_stations met.0 old new met.1.1
+  into_shards : (slot first : ℕ) (slots : List (Option (Report J))) (old new : Parts J) → ReportsInto slot first slots old new → new.shards ≡ old.shards
+  into_shards slot first slots old new (inl kept) = ap (λ (w : Parts J). w.shards) kept.1
+  into_shards slot first slots old new (inr met) = meets_shards met.0 old new met.1.1
 
-  push_stations : (room : Bool) (m : Message J) (old new : Parts J) (answer : EventAnswer) → Pushes room m old answer new → new.stations ≡ old.stations
-  push_stations true m old new answer said = ap (λ (w : Parts J). w.stations) said.1
-  push_stations false m old new answer said = ap (λ (w : Parts J). w.stations) said.1
+  push_shards : (room : Bool) (m : Message J) (old new : Parts J) (answer : EventAnswer) → Pushes room m old answer new → new.shards ≡ old.shards
+  push_shards true m old new answer said = ap (λ (w : Parts J). w.shards) said.1
+  push_shards false m old new answer said = ap (λ (w : Parts J). w.shards) said.1
 
-  pub sent_stations : (i : Item J) (old new : Parts J) (answer : EventAnswer) → SendsItem i old answer new → new.stations ≡ old.stations
-  sent_stations (item.Push m) old new answer said = push_stations (nat_lt (length old.inbox) 1024) m old new answer said
-  sent_stations (item.Report r) old new answer said = into_stations r.slot said.1.0 _ old new said.1.1.1.1
-  sent_stations (item.Ended slot) old new answer said = ap (λ (w : Parts J). w.stations) said.1.1.1
-  sent_stations (item.Commit commit) old new answer said = commits_stations commit old new answer said
-  sent_stations (item.Reply told) old new answer said = said.1.1.1.1.0
+  pub sent_shards : (i : Item J) (old new : Parts J) (answer : EventAnswer) → SendsItem i old answer new → new.shards ≡ old.shards
+  sent_shards (item.Push m) old new answer said = push_shards (nat_lt (length old.inbox) 1024) m old new answer said
+  sent_shards (item.Report r) old new answer said = into_shards r.slot said.1.0 _ old new said.1.1.1.1
+  sent_shards (item.Ended slot) old new answer said = ap (λ (w : Parts J). w.shards) said.1.1.1
+  sent_shards (item.Commit commit) old new answer said = commits_shards commit old new answer said
+  sent_shards (item.Reply recorded) old new answer said = said.1.1.1.1.0
 
   -- ---- a request is submitted
 
-  into_submitted : (can : Bool) (session number : ℕ) (asked : Request) (desk : SessionDesk J) (old new : Parts J) (answer : EventAnswer) → SubmitsInto can session number asked desk old answer new → new.stations ≡ old.stations
-  into_submitted false session number asked desk old new answer said = ap (λ (w : Parts J). w.stations) said.1
+  into_submitted : (can : Bool) (session number : ℕ) (asked : Request) (desk : SessionDesk J) (old new : Parts J) (answer : EventAnswer) → SubmitsInto can session number asked desk old answer new → new.shards ≡ old.shards
+  into_submitted false session number asked desk old new answer said = ap (λ (w : Parts J). w.shards) said.1
   into_submitted true session number asked desk old new answer said =
-      ⊎_elim (λ refused. ap (λ (w : Parts J). w.stations) refused.1) (λ admitted. admitted.1.stations) said
+      ⊎_elim (λ refused. ap (λ (w : Parts J). w.shards) refused.1) (λ admitted. admitted.1.shards) said
 
-  unless_submitted : (room : Bool) (why : Option Refusal) (session number : ℕ) (asked : Request) (desk : SessionDesk J) (old new : Parts J) (answer : EventAnswer) → SubmitsUnless room why session number asked desk old answer new → new.stations ≡ old.stations
-  unless_submitted room (Some why) session number asked desk old new answer said = ap (λ (w : Parts J). w.stations) said.1
+  unless_submitted : (room : Bool) (why : Option Refusal) (session number : ℕ) (asked : Request) (desk : SessionDesk J) (old new : Parts J) (answer : EventAnswer) → SubmitsUnless room why session number asked desk old answer new → new.shards ≡ old.shards
+  unless_submitted room (Some why) session number asked desk old new answer said = ap (λ (w : Parts J). w.shards) said.1
   unless_submitted room None session number asked desk old new answer said = into_submitted (can_admit room old) session number asked desk old new answer said
 
-  pub submitted_stations : (room : Bool) (found : Option (SessionDesk J)) (session number : ℕ) (asked : Request) (old new : Parts J) (answer : EventAnswer) → SubmitsAt room found session number asked old answer new → new.stations ≡ old.stations
-  submitted_stations room None session number asked old new answer said = ap (λ (w : Parts J). w.stations) said.1
-  submitted_stations room (Some desk) session number asked old new answer said = unless_submitted room (refusal_at desk asked old) session number asked desk old new answer said
+  pub submitted_shards : (room : Bool) (found : Option (SessionDesk J)) (session number : ℕ) (asked : Request) (old new : Parts J) (answer : EventAnswer) → SubmitsAt room found session number asked old answer new → new.shards ≡ old.shards
+  submitted_shards room None session number asked old new answer said = ap (λ (w : Parts J). w.shards) said.1
+  submitted_shards room (Some desk) session number asked old new answer said = unless_submitted room (refusal_at desk asked old) session number asked desk old new answer said
 
   -- ---- a message is taken
 
@@ -82,7 +82,7 @@ module _ {J : Type 0} where
   turns_inbox home old new turns = follow_inbox home turns.turned old new turns.follow
 
   pub takes_inbox : (m : Message J) (old new : Parts J) → TakesMessage m old new → new.inbox ≡ old.inbox
-  takes_inbox (Start journey works) old new said = ap (λ (w : Parts J). w.inbox) said
-  takes_inbox (Errand errand) old new said = turns_inbox _ said.0 new said.1.1 ∙ ap (λ (w : Parts J). w.inbox) said.1.0.1.rest
+  takes_inbox (Start flow works) old new said = ap (λ (w : Parts J). w.inbox) said
+  takes_inbox (Act act) old new said = turns_inbox _ said.0 new said.1.1 ∙ ap (λ (w : Parts J). w.inbox) said.1.0.1.rest
   takes_inbox (Settle slot claims) old new said = turns_inbox _ said.0 new said.1.1 ∙ ap (λ (w : Parts J). w.inbox) said.1.0.rest
   takes_inbox (Undo slot claims) old new said = turns_inbox _ said.0 new said.1.1 ∙ ap (λ (w : Parts J). w.inbox) said.1.0.rest

@@ -3,7 +3,7 @@ use Rattle.std.proofs.Common.{◌≡◌, ◌<◌, ℕ, List, length, get_or, ref
 use Rattle.std.specs.Prelude.{Bool, true, false, ◌&&◌, not, nat_lt, Option, Result, is_some, slice_get}
 use Rattle.std.proofs.lemmas.Bool.{lt-leb, lt-ltb}
 use Rattle.std.proofs.lemmas.Option.{slice_get_read}
-use Rattle.commit_log.specs.Passing.{Passing}
+use Rattle.commit_log.specs.PassView.{PassView}
 use Rattle.history.specs.declared.event.EventAnswer.{EventAnswer}
 use Rattle.requests.specs.Check.{check_of}
 use Rattle.requests.specs.declared.refusal.Refusal.{Refusal}
@@ -19,12 +19,12 @@ pub found : {X : Type 0} (xs shown : List X) (place : ℕ) (x : X) → shown ≡
 found {X} xs shown place x is inside read = subst (λ (ys : List X). slice_get ys place ≡ Some x) is (slice_get_read shown (length shown) place x refl inside read)
 
 -- a pass that isn't away is there
-pub is_there : (pass : Option Passing) (away : Bool) → is_some pass ≡ not away → away ≡ false → is_some pass ≡ true
-is_there pass away told here = told ∙ ap not here
+pub is_there : (pass : Option PassView) (away : Bool) → is_some pass ≡ not away → away ≡ false → is_some pass ≡ true
+is_there pass away recorded here = recorded ∙ ap not here
 
 -- nothing speaks against a request whose session's pass is there, that its check accepts, while not as many transactions are
 -- active as can be
-not_refused : (pass : Option Passing) (checked : Result (Unit {0}) Refusal) (accepted : Unit {0}) (active : Bool)
+not_refused : (pass : Option PassView) (checked : Result (Unit {0}) Refusal) (accepted : Unit {0}) (active : Bool)
     → is_some pass ≡ true → checked ≡ Ok accepted → active ≡ false → refuses pass checked active ≡ None
 not_refused None checked accepted active there ok idle = absurd (cc)
 not_refused (Some pass) checked accepted active there ok idle =

@@ -8,36 +8,36 @@ use Rattle.std.specs.declared.alloc.Global.{Global}
 use Rattle.std.proofs.lemmas.List.{map-append, map-set, set-get_or, set-set}
 use Rattle.std.proofs.lemmas.List.Elements.{All-head, All-tail, All-append, All-nil, All-set, Contains-append_right}
 use Rattle.std.proofs.lemmas.Option.{get_or_from_slice_get, slice_get-get_or, slice_get-map, slice_get_within}
-use Rattle.partitions.specs.Parts.{Shared}
+use Rattle.partitions.specs.Parts.{SharedTables}
 use Rattle.schema.specs.Database.{Database}
 use Rattle.history.specs.History.{Step}
-use Rattle.tickets.specs.Claims.{Claiming, all_claims}
+use Rattle.tickets.specs.Claims.{ClaimView, all_claims}
 use Rattle.local_locks.proofs.Members.{contains_here, contains_itself}
 use Rattle.local_locks.proofs.Taken.{map_removed}
-use Rattle.slices.specs.Sliced.{AreOfOneHome, AreSlicesOf, IsClaimAt, SliceKeeps, joined, with_waiters, AreAllHeld, Joined, SlicesKeep}
+use Rattle.slices.specs.SliceView.{AreOfOneHome, AreSlicesOf, IsClaimAt, SliceKeeps, joined, with_waiters, AreAllHeld, JoinedSlices, SlicesKeep}
 use Rattle.transactions.specs.declared.acting.Ran.{Ran}
-use Rattle.transactions.specs.declared.station.Acted.{Acted}
-use Rattle.transactions.specs.declared.station.Acted.TheVariants as acted
-use Rattle.transactions.specs.declared.station.Parked.{Parked}
-use Rattle.transactions.specs.declared.station.Turned.{Turned}
+use Rattle.transactions.specs.declared.shard.Acted.{Acted}
+use Rattle.transactions.specs.declared.shard.Acted.TheVariants as acted
+use Rattle.transactions.specs.declared.shard.Parked.{Parked}
+use Rattle.transactions.specs.declared.shard.Turned.{Turned}
 use Rattle.transactions.specs.Acting.{claims_of_ran}
 use Rattle.transactions.specs.Laws.{TransactionsClaimEachGroupOnce}
-use Rattle.transactions.specs.Stations.{ActsAs, OneTurn, Stationed, parked}
+use Rattle.transactions.specs.Shards.{ActsAs, OneTurn, ShardView, parked}
 use Rattle.transactions.specs.Works.{home_of, home_of_claims}
 use Rattle.transactions.proofs.Reached.{some_actions}
-use Rattle.world.specs.declared.flight.Errand.{Errand as AnyErrand}
+use Rattle.world.specs.declared.flight.Act.{Act as AnyAct}
 use Rattle.world.specs.declared.flight.Carried.{Carried}
 use Rattle.world.specs.declared.flight.Message.{Message}
-use Rattle.world.specs.declared.flight.Message.TheVariants.{Start, Errand, Settle, Undo}
+use Rattle.world.specs.declared.flight.Message.TheVariants.{Start, Act, Settle, Undo}
 use Rattle.world.specs.declared.flight.Item.{Item}
 use Rattle.world.specs.declared.flight.Item.TheVariants as item
 use Rattle.world.specs.declared.world.Parts.{Parts}
 use Rattle.world.specs.Parted.{joined_in}
 use Rattle.world.specs.Flights.{nothing, join, parts, part_message, part_item, InFlight}
-use Rattle.world.specs.Following.{errands_of}
+use Rattle.world.specs.Following.{acts_of}
 use Rattle.world.specs.Sound.{IsSoundWith, IsSoundMessage, IsSoundItem, IsBalanced, flight}
-use Rattle.world.specs.Stations.{HaveToWait, errand_of, message_of, slice_of, slices_in, waiting_at, waiting_in}
-use Rattle.world.specs.Events.{AllTurns, AtStation, GivesBack, TakesMessage, TakesTurn, TurnsFollow, carried_by, holder_of, put_for, report_of}
+use Rattle.world.specs.Shards.{HaveToWait, act_of, message_of, slice_of, slices_in, waiting_at, waiting_in}
+use Rattle.world.specs.Events.{AllTurns, AtShard, GivesBack, TakesMessage, TakesTurn, TurnsFollow, carried_by, holder_of, put_for, report_of}
 use Rattle.world.specs.Worlds.{FitsPart, Fits, IsClaimOf}
 use Rattle.world.proofs.Apart.{others}
 use Rattle.world.proofs.Joins.{IsSame, same-sym}
@@ -48,8 +48,8 @@ use Rattle.world.proofs.Puts.{GoesOn}
 use Rattle.world.proofs.Reordered.{Reordered, fits_in_order, queued, reordered-behind, reordered-cons, reordered-front, reordered-refl, reordered-swap, reordered-sym, reordered-trans, reordered_now, reordered_own, sound_in_order}
 use Rattle.world.proofs.Reporting.{pushes_fits, pushes_sound}
 use Rattle.world.proofs.Older.{dies_of_older, ran_claimed}
-use Rattle.world.proofs.Stationed.{holds, keeps_on, shares, stays_on}
-use Rattle.world.proofs.Works.{Works, errands, settles, starts, undoes, part_errands}
+use Rattle.world.proofs.ShardView.{holds, keeps_on, shares, stays_on}
+use Rattle.world.proofs.Works.{Works, acts, settles, starts, undoes, part_acts}
 use Rattle.tickets.proofs.Committed.{All-front}
 
 -- what stands at a place, put there again
@@ -57,22 +57,22 @@ pub put_again : {X : Type 0} (xs : List X) (place : ℕ) (x : X) → slice_get x
 put_again xs place x is = ap (slice_set xs place) (sym (get_or_from_slice_get xs place x x is)) ∙ set-get_or xs place x
 
 -- claims on groups of one warehouse are at that of the first
-at_home_of : (claims : List Claiming) → AreOfOneHome claims → All (IsClaimAt (home_of_claims claims)) claims
+at_home_of : (claims : List ClaimView) → AreOfOneHome claims → All (IsClaimAt (home_of_claims claims)) claims
 at_home_of [] none = absurd none
 at_home_of (claim ∷ claims) at = at
 
 module _ {J : Type 0} where
   -- what is known of the first message of the inbox, once it is in hand
-  pub message_in_hand : (shared : Shared) (old : Parts J) (message : Message J) (rest : List (Message J)) → old.inbox ≡ message ∷ rest
+  pub message_in_hand : (shared : SharedTables) (old : Parts J) (message : Message J) (rest : List (Message J)) → old.inbox ≡ message ∷ rest
       → IsSoundWith shared nothing old
-      → (h : IsSoundWith shared (part_message message) (record old { inbox = rest })) × IsSoundMessage shared h.under_way message
+      → (h : IsSoundWith shared (part_message message) (record old { inbox = rest })) × IsSoundMessage shared h.in_flight message
   message_in_hand shared old message rest is h =
-      let all = subst (λ ms. All (IsSoundMessage shared h.under_way) ms) is h.inbox in (
+      let all = subst (λ ms. All (IsSoundMessage shared h.in_flight) ms) is h.inbox in (
         record {
           shared_is = h.shared_is;
           slices = h.slices;
-          under_way = h.under_way;
-          inbox = All-tail (IsSoundMessage shared h.under_way) message rest all;
+          in_flight = h.in_flight;
+          inbox = All-tail (IsSoundMessage shared h.in_flight) message rest all;
           outbox = h.outbox;
           slots = h.slots;
           active = h.active;
@@ -82,11 +82,11 @@ module _ {J : Type 0} where
           balance = subst (λ p. IsBalanced old.desk p) (message_taken old message rest is) h.balance;
           held = subst (λ p. AreAllHeld (joined_in old).holdings p.claims) (message_taken old message rest is) h.held;
         },
-        All-head (IsSoundMessage shared h.under_way) message rest all,
+        All-head (IsSoundMessage shared h.in_flight) message rest all,
       )
 
   -- one thing after another
-  pub then_goes_on : (shared : Shared) (hand : InFlight) (first mid last : Parts J) → GoesOn shared hand first mid → GoesOn shared nothing mid last → GoesOn shared hand first last
+  pub then_goes_on : (shared : SharedTables) (hand : InFlight) (first mid last : Parts J) → GoesOn shared hand first mid → GoesOn shared nothing mid last → GoesOn shared hand first last
   then_goes_on shared hand first mid last a b = record { sound = b.sound; fits = λ opening history f. b.fits opening history (a.fits opening history f) }
 
   -- The world as one, while an event has these parts in hand: who waits stands in front of these messages, and what is in the
@@ -94,14 +94,14 @@ module _ {J : Type 0} where
   abbrev pub seen : Parts J → List (Message J) → List (Item J) → Parts J
   seen w ms is = queued w (waiting_in w ++ ms) (is ++ w.outbox)
 
-  -- ---- the stations make way for others
+  -- ---- the shards make way for others
 
-  module _ (shared : Shared) (w : Parts J) (stations : Vec (Stationed (Carried J)) Global) (are : AreSlicesOf w.catalog (map slice_of stations.items)) (same : joined w.catalog (map slice_of stations.items) ≡ joined_in w) where
-    restationed : IsSoundWith shared nothing w → IsSoundWith shared nothing (record w { stations = stations })
-    restationed h = record {
+  module _ (shared : SharedTables) (w : Parts J) (shards : Vec (ShardView (Carried J)) Global) (are : AreSlicesOf w.catalog (map slice_of shards.items)) (same : joined w.catalog (map slice_of shards.items) ≡ joined_in w) where
+    shard_replaced : IsSoundWith shared nothing w → IsSoundWith shared nothing (record w { shards = shards })
+    shard_replaced h = record {
       shared_is = h.shared_is;
       slices = are;
-      under_way = h.under_way;
+      in_flight = h.in_flight;
       inbox = h.inbox;
       outbox = h.outbox;
       slots = h.slots;
@@ -110,15 +110,15 @@ module _ {J : Type 0} where
       seats = h.seats;
       sessions = h.sessions;
       balance = h.balance;
-      held = subst (λ (j : Joined). AreAllHeld j.holdings (flight w).claims) (sym same) h.held;
+      held = subst (λ (j : JoinedSlices). AreAllHeld j.holdings (flight w).claims) (sym same) h.held;
     }
 
-    fits_restationed : (opening : Database) (history : List Step) → Fits opening history w → Fits opening history (record w { stations = stations })
-    fits_restationed opening history f = subst (λ (j : Joined). FitsPart opening history w.log j w.desk.admitted (flight w)) (sym same) f
+    fits_shard_replaced : (opening : Database) (history : List Step) → Fits opening history w → Fits opening history (record w { shards = shards })
+    fits_shard_replaced opening history f = subst (λ (j : JoinedSlices). FitsPart opening history w.log j w.desk.admitted (flight w)) (sym same) f
 
   -- ---- one thing happens
 
-  module _ (once : TransactionsClaimEachGroupOnce) (shared : Shared) (ms : List (Message J)) (is : List (Item J)) where
+  module _ (once : TransactionsClaimEachGroupOnce) (shared : SharedTables) (ms : List (Message J)) (is : List (Item J)) where
     -- the claims that items have are on groups of what was accepted, where those in hand are and all others
     abbrev AreClaimed : Parts J → List (Message J) → Message J → List (Item J) → Type 0
     AreClaimed old ms message items =
@@ -127,15 +127,15 @@ module _ {J : Type 0} where
 
     -- the message in hand is worked on
     worked_on : (old new : Parts J) (ms : List (Message J)) (message : Message J) (items : List (Item J))
-        → (h : IsSoundWith shared (part_message message) (queued old ms (is ++ old.outbox))) → IsSoundMessage shared h.under_way message
-        → new ≡ record old { stations = new.stations; outbox = old.outbox ++ items } → AreSlicesOf old.catalog (slices_in new) → Works shared message (joined_in old) items (joined old.catalog (slices_in new)) → AreClaimed old ms message items
+        → (h : IsSoundWith shared (part_message message) (queued old ms (is ++ old.outbox))) → IsSoundMessage shared h.in_flight message
+        → new ≡ record old { shards = new.shards; outbox = old.outbox ++ items } → AreSlicesOf old.catalog (slices_in new) → Works shared message (joined_in old) items (joined old.catalog (slices_in new)) → AreClaimed old ms message items
         → GoesOn shared (part_message message) (queued old ms (is ++ old.outbox)) (queued new ms (is ++ new.outbox))
     worked_on old new ms message items h fine rest are works claimed =
-        let u = h.under_way in
+        let u = h.in_flight in
         let hand = part_message message in
         let put = parts part_item items in
         let before : Parts J = queued old ms (is ++ old.outbox) in
-        let moved : Parts J = record before { stations = new.stations } in
+        let moved : Parts J = record before { shards = new.shards } in
         let next : Parts J = record moved { outbox = moved.outbox ++ items } in
         let flying = flight before in
         let after : IsSame (join put flying) (flight next) = same-sym _ _ (items_put moved items) in
@@ -144,7 +144,7 @@ module _ {J : Type 0} where
         let sound : IsSoundWith shared nothing next = record {
           shared_is = h.shared_is;
           slices = are;
-          under_way = u;
+          in_flight = u;
           inbox = h.inbox;
           outbox = All-append (IsSoundItem shared u) (is ++ old.outbox) items h.outbox (works.fine u fine);
           slots = h.slots;
@@ -164,21 +164,21 @@ module _ {J : Type 0} where
               (fits_work opening history old.log (joined_in old) (joined_in next) old.desk.admitted hand put flying works.kept works.pending (claimed opening history f) f));
         }
 
-    -- ---- at a station
+    -- ---- at a shard
 
-    module _ (old new : Parts J) (home : ℕ) (items : List (Item J)) (of : Stationed (Carried J) → Stationed (Carried J) → Type 0) (at : AtStation home items of old new) where
-      -- who waits at each station
+    module _ (old new : Parts J) (home : ℕ) (items : List (Item J)) (of : ShardView (Carried J) → ShardView (Carried J) → Type 0) (at : AtShard home items of old new) where
+      -- who waits at each shard
       abbrev lists : List (List (Message J))
-      lists = map waiting_at old.stations.items
+      lists = map waiting_at old.shards.items
 
       abbrev place : ℕ
       place = home - 1
 
-      lists_now : map waiting_at new.stations.items ≡ slice_set lists place (waiting_at at.now)
-      lists_now = ap (map waiting_at) at.stations ∙ map-set waiting_at old.stations.items place at.now
+      lists_now : map waiting_at new.shards.items ≡ slice_set lists place (waiting_at at.now)
+      lists_now = ap (map waiting_at) at.shards ∙ map-set waiting_at old.shards.items place at.now
 
       list_was : slice_get lists place ≡ Some (waiting_at at.was)
-      list_was = slice_get-map waiting_at old.stations.items place ∙ ap (λ (o : Option (Stationed (Carried J))). option_map waiting_at o) at.there
+      list_was = slice_get-map waiting_at old.shards.items place ∙ ap (λ (o : Option (ShardView (Carried J))). option_map waiting_at o) at.there
 
       below : place < length lists
       below = slice_get_within lists place (waiting_at at.was) list_was
@@ -202,7 +202,7 @@ module _ {J : Type 0} where
 
       -- where the same wait, and the message in hand was worked on there
       at_once : (message : Message J) → at.now.parked ≡ at.was.parked
-          → (h : IsSoundWith shared (part_message message) (seen old ms is)) → IsSoundMessage shared h.under_way message
+          → (h : IsSoundWith shared (part_message message) (seen old ms is)) → IsSoundMessage shared h.in_flight message
           → AreSlicesOf old.catalog (slices_in new) → Works shared message (joined_in old) items (joined old.catalog (slices_in new)) → AreClaimed old (waiting_in old ++ ms) message items
           → GoesOn shared (part_message message) (seen old ms is) (seen new ms is)
       at_once message same h fine are works claimed =
@@ -212,48 +212,48 @@ module _ {J : Type 0} where
     -- ---- an action asks
 
     -- it has run, or died
-    ran_on : (old new : Parts J) (errand : AnyErrand J) (one : Ran J) (told : Carried J)
-        → (h : IsSoundWith shared (part_message (Errand errand)) (seen old ms is)) → IsSoundMessage shared h.under_way (Errand errand)
-        → AtStation (home_of errand.work) (put_for errand.place (acted.Ran one told)) (λ was now. ActsAs (holder_of errand) errand.work (carried_by errand) was (acted.Ran one told) now) old new
-        → GoesOn shared (part_message (Errand errand)) (seen old ms is) (seen new ms is)
-    ran_on old new errand one told h fine at =
-        let home = home_of errand.work in
-        let items = put_for errand.place (acted.Ran one told) in
-        let Of : Stationed (Carried J) → Stationed (Carried J) → Type 0 = λ was now. ActsAs (holder_of errand) errand.work (carried_by errand) was (acted.Ran one told) now in
-        let is_told = at.happened.0 in
+    ran_on : (old new : Parts J) (act : AnyAct J) (one : Ran J) (recorded : Carried J)
+        → (h : IsSoundWith shared (part_message (Act act)) (seen old ms is)) → IsSoundMessage shared h.in_flight (Act act)
+        → AtShard (home_of act.work) (put_for act.place (acted.Ran one recorded)) (λ was now. ActsAs (holder_of act) act.work (carried_by act) was (acted.Ran one recorded) now) old new
+        → GoesOn shared (part_message (Act act)) (seen old ms is) (seen new ms is)
+    ran_on old new act one recorded h fine at =
+        let home = home_of act.work in
+        let items = put_for act.place (acted.Ran one recorded) in
+        let Of : ShardView (Carried J) → ShardView (Carried J) → Type 0 = λ was now. ActsAs (holder_of act) act.work (carried_by act) was (acted.Ran one recorded) now in
+        let is_recorded = at.happened.0 in
         let of = at.happened.1 in
         let kept = at.happened.2 in
         let same = at.happened.3 in
-        let both = keeps_on old new h.slices home items Of at at.was.slice.waiters [] (claims_of_ran one) (All-nil (IsClaimAt home)) (ran_at_home (holder_of errand) at.was.slice at.now.slice errand.work one of) kept in
-        let asks : Parts J = record (seen old ms is) { inbox = (seen old ms is).inbox ++ Errand errand ∷ [] } in
-        let asks_there : Contains asks.inbox (Errand errand) = Contains-append_right (seen old ms is).inbox (Errand errand ∷ []) (Errand errand) (contains_itself (Errand errand)) in
-        let older = dies_of_older shared asks (pushes_sound shared (seen old ms is) (Errand errand) h fine) once errand asks_there home at.was.slice.holdings (holds old new h.slices home items Of at) in
-        let works = errands shared errand one at.was.slice at.now.slice (joined_in old) (joined old.catalog (slices_in new)) (shares old new h.slices home items Of at ∙ h.shared_is) older of both.1 in
-        let told_works : Works shared (Errand errand) (joined_in old) items (joined old.catalog (slices_in new)) =
-        subst (λ (c : Carried J). Works shared (Errand errand) (joined_in old) (report_of errand.place c one ∷ []) (joined old.catalog (slices_in new))) (sym is_told) works in
-        let claimed : AreClaimed old (waiting_in old ++ ms) (Errand errand) items = λ opening history f.
-        let P : Claiming → Type 0 = IsClaimOf history in
-        let carried = (part_message (Errand errand)).claims in
+        let both = keeps_on old new h.slices home items Of at at.was.slice.waiters [] (claims_of_ran one) (All-nil (IsClaimAt home)) (ran_at_home (holder_of act) at.was.slice at.now.slice act.work one of) kept in
+        let asks : Parts J = record (seen old ms is) { inbox = (seen old ms is).inbox ++ Act act ∷ [] } in
+        let asks_there : Contains asks.inbox (Act act) = Contains-append_right (seen old ms is).inbox (Act act ∷ []) (Act act) (contains_itself (Act act)) in
+        let older = dies_of_older shared asks (pushes_sound shared (seen old ms is) (Act act) h fine) once act asks_there home at.was.slice.holdings (holds old new h.slices home items Of at) in
+        let works = acts shared act one at.was.slice at.now.slice (joined_in old) (joined old.catalog (slices_in new)) (shares old new h.slices home items Of at ∙ h.shared_is) older of both.1 in
+        let recorded_works : Works shared (Act act) (joined_in old) items (joined old.catalog (slices_in new)) =
+        subst (λ (c : Carried J). Works shared (Act act) (joined_in old) (report_of act.place c one ∷ []) (joined old.catalog (slices_in new))) (sym is_recorded) works in
+        let claimed : AreClaimed old (waiting_in old ++ ms) (Act act) items = λ opening history f.
+        let P : ClaimView → Type 0 = IsClaimOf history in
+        let carried = (part_message (Act act)).claims in
         let put = claims_of_ran one in
-        let of_ran = ran_claimed shared asks (pushes_sound shared (seen old ms is) (Errand errand) h fine) once errand asks_there opening history (pushes_fits opening history (seen old ms is) (Errand errand) f) at.was.slice at.now.slice one of in
+        let of_ran = ran_claimed shared asks (pushes_sound shared (seen old ms is) (Act act) h fine) once act asks_there opening history (pushes_fits opening history (seen old ms is) (Act act) f) at.was.slice at.now.slice one of in
         let all = All-append P (carried ++ put) [] (All-append P carried put (All-front P carried (flight (seen old ms is)).claims f.claimed) of_ran) (All-nil P) in
-        subst (λ (c : Carried J). All P (parts part_item (report_of errand.place c one ∷ [])).claims) (sym is_told) all in
-        at_once old new home items Of at (Errand errand) same h fine both.0 told_works claimed
+        subst (λ (c : Carried J). All P (parts part_item (report_of act.place c one ∷ [])).claims) (sym is_recorded) all in
+        at_once old new home items Of at (Act act) same h fine both.0 recorded_works claimed
 
     -- it waits
-    waits_on : (old new : Parts J) (errand : AnyErrand J)
-        → (h : IsSoundWith shared (part_message (Errand errand)) (seen old ms is)) → IsSoundMessage shared h.under_way (Errand errand)
-        → AtStation (home_of errand.work) [] (λ was now. ActsAs {J = J} (holder_of errand) errand.work (carried_by errand) was acted.Waits now) old new
-        → GoesOn shared (part_message (Errand errand)) (seen old ms is) (seen new ms is)
-    waits_on old new errand h fine at =
-        let home = home_of errand.work in
-        let Of : Stationed (Carried J) → Stationed (Carried J) → Type 0 = λ was now. ActsAs {J = J} (holder_of errand) errand.work (carried_by errand) was acted.Waits now in
-        let message : Message J = Errand errand in
-        let p : Parked (Carried J) = parked (holder_of errand) errand.work (carried_by errand) in
+    waits_on : (old new : Parts J) (act : AnyAct J)
+        → (h : IsSoundWith shared (part_message (Act act)) (seen old ms is)) → IsSoundMessage shared h.in_flight (Act act)
+        → AtShard (home_of act.work) [] (λ was now. ActsAs {J = J} (holder_of act) act.work (carried_by act) was acted.Waits now) old new
+        → GoesOn shared (part_message (Act act)) (seen old ms is) (seen new ms is)
+    waits_on old new act h fine at =
+        let home = home_of act.work in
+        let Of : ShardView (Carried J) → ShardView (Carried J) → Type 0 = λ was now. ActsAs {J = J} (holder_of act) act.work (carried_by act) was acted.Waits now in
+        let message : Message J = Act act in
+        let p : Parked (Carried J) = parked (holder_of act) act.work (carried_by act) in
         let now_is = at.happened.1 in
-        let both = stays_on old new h.slices home [] Of at _ (ap (λ (s : Stationed (Carried J)). s.slice) now_is) in
+        let both = stays_on old new h.slices home [] Of at _ (ap (λ (s : ShardView (Carried J)). s.slice) now_is) in
         let own : waiting_at at.now ≡ waiting_at at.was ++ message ∷ [] = ap waiting_at now_is ∙ map-append message_of at.was.parked (p ∷ []) in
-        let rest = others (home - 1) (map waiting_at old.stations.items) in
+        let rest = others (home - 1) (map waiting_at old.shards.items) in
         let first = was_first old new home [] Of at in
         let last = now_first old new home [] Of at in
         let longer : Reordered part_message (message ∷ waiting_in old) (waiting_in new) =
@@ -270,36 +270,36 @@ module _ {J : Type 0} where
         (reordered-behind part_message ms (message ∷ waiting_in old) (waiting_in new) longer) in
         let items = reordered-refl part_item before.outbox in
         let next : Parts J = queued old (waiting_in new ++ ms) (is ++ old.outbox) in
-        let next_is : seen new ms is ≡ record next { stations = new.stations } =
+        let next_is : seen new ms is ≡ record next { shards = new.shards } =
         ap (λ (w : Parts J). queued w (waiting_in new ++ ms) (is ++ w.outbox)) at.rest
-        ∙ (λ i. record next { stations = new.stations; outbox = ap (λ (o : List (Item J)). is ++ o) (append-nil old.outbox) i }) in
+        ∙ (λ i. record next { shards = new.shards; outbox = ap (λ (o : List (Item J)). is ++ o) (append-nil old.outbox) i }) in
         record {
           sound = subst (λ w. IsSoundWith shared nothing w) (sym next_is)
-              (restationed shared next new.stations both.0 both.1
+              (shard_replaced shared next new.shards both.0 both.1
               (sound_in_order old (before.inbox ++ message ∷ []) (waiting_in new ++ ms) before.outbox before.outbox all items shared nothing (pushes_sound shared before message h fine)));
           fits = λ opening history f.
               subst (λ w. Fits opening history w) (sym next_is)
-              (fits_restationed shared next new.stations both.0 both.1 opening history
+              (fits_shard_replaced shared next new.shards both.0 both.1 opening history
               (fits_in_order old (before.inbox ++ message ∷ []) (waiting_in new ++ ms) before.outbox before.outbox all items opening history (pushes_fits opening history before message f)));
         }
 
-    pub asks_on : (old new : Parts J) (errand : AnyErrand J) (a : Acted J (Carried J))
-        → (h : IsSoundWith shared (part_message (Errand errand)) (seen old ms is)) → IsSoundMessage shared h.under_way (Errand errand)
-        → AtStation (home_of errand.work) (put_for errand.place a) (λ was now. ActsAs (holder_of errand) errand.work (carried_by errand) was a now) old new
-        → GoesOn shared (part_message (Errand errand)) (seen old ms is) (seen new ms is)
-    asks_on old new errand (acted.Ran one told) h fine at = ran_on old new errand one told h fine at
-    asks_on old new errand acted.Waits h fine at = waits_on old new errand h fine at
+    pub asks_on : (old new : Parts J) (act : AnyAct J) (a : Acted J (Carried J))
+        → (h : IsSoundWith shared (part_message (Act act)) (seen old ms is)) → IsSoundMessage shared h.in_flight (Act act)
+        → AtShard (home_of act.work) (put_for act.place a) (λ was now. ActsAs (holder_of act) act.work (carried_by act) was a now) old new
+        → GoesOn shared (part_message (Act act)) (seen old ms is) (seen new ms is)
+    asks_on old new act (acted.Ran one recorded) h fine at = ran_on old new act one recorded h fine at
+    asks_on old new act acted.Waits h fine at = waits_on old new act h fine at
 
     -- ---- claims are given back
 
-    pub gives_on : (old new : Parts J) (message : Message J) (slot : ℕ) (claims : List Claiming) → AreOfOneHome claims
-        → ((was now : Joined) → SlicesKeep claims was [] now → Works shared message was (item.Ended slot ∷ []) now)
-        → (h : IsSoundWith shared (part_message message) (seen old ms is)) → IsSoundMessage shared h.under_way message
+    pub gives_on : (old new : Parts J) (message : Message J) (slot : ℕ) (claims : List ClaimView) → AreOfOneHome claims
+        → ((was now : JoinedSlices) → SlicesKeep claims was [] now → Works shared message was (item.Ended slot ∷ []) now)
+        → (h : IsSoundWith shared (part_message message) (seen old ms is)) → IsSoundMessage shared h.in_flight message
         → GivesBack slot claims old new → GoesOn shared (part_message message) (seen old ms is) (seen new ms is)
     gives_on old new message slot claims together works h fine at =
         let home = home_of_claims claims in
         let items : List (Item J) = item.Ended slot ∷ [] in
-        let Of : Stationed (Carried J) → Stationed (Carried J) → Type 0 = λ was now. SliceKeeps claims was.slice [] now.slice × (now.parked ≡ was.parked) in
+        let Of : ShardView (Carried J) → ShardView (Carried J) → Type 0 = λ was now. SliceKeeps claims was.slice [] now.slice × (now.parked ≡ was.parked) in
         let both = keeps_on old new h.slices home items Of at at.was.slice.waiters claims [] (at_home_of claims together) (All-nil (IsClaimAt home)) at.happened.0 in
         at_once old new home items Of at message at.happened.1 h fine both.0 (works (joined_in old) (joined old.catalog (slices_in new)) both.1) (λ opening history f. All-nil (IsClaimOf history))
 
@@ -308,7 +308,7 @@ module _ {J : Type 0} where
     pub turn_on : (old new : Parts J) (home : ℕ) (turned : Turned J (Carried J)) → IsSoundWith shared nothing (seen old ms is) → TakesTurn home turned old new → GoesOn shared nothing (seen old ms is) (seen new ms is)
     turn_on old new home turned h at =
         let items : List (Item J) = report_of turned.by.place turned.carried turned.ran ∷ [] in
-        let Of : Stationed (Carried J) → Stationed (Carried J) → Type 0 = λ was now. OneTurn was turned now in
+        let Of : ShardView (Carried J) → ShardView (Carried J) → Type 0 = λ was now. OneTurn was turned now in
         let one = at.happened in
         let p : Parked (Carried J) = parked turned.by one.work turned.carried in
         let message : Message J = message_of p in
@@ -316,7 +316,7 @@ module _ {J : Type 0} where
         slice_get-map message_of at.was.parked one.index
         ∙ ap (λ (o : Option (Parked (Carried J))). option_map message_of o) (slice_get-get_or at.was.parked one.index p one.inside ∙ ap (λ (q : Parked (Carried J)). Some q) (one.there p)) in
         let left : remove (waiting_at at.was) one.index ≡ waiting_at at.now = sym (map_removed message_of at.was.parked one.index) ∙ ap (map message_of) (sym one.rest) in
-        let rest = others (home - 1) (map waiting_at old.stations.items) in
+        let rest = others (home - 1) (map waiting_at old.shards.items) in
         let taken : Reordered part_message (waiting_at at.was) (message ∷ waiting_at at.now) =
         subst (λ q. Reordered part_message (waiting_at at.was) (message ∷ q)) left (reordered-front part_message (waiting_at at.was) one.index message there) in
         let fewer : Reordered part_message (waiting_in old) (message ∷ waiting_in new) =
@@ -333,15 +333,15 @@ module _ {J : Type 0} where
         subst (λ n. All (IsClaimAt n) (claims_of_ran turned.ran)) (one.here ∙ at.home_is)
         (ran_at_home turned.by (with_waiters at.now.slice.waiters at.was.slice) at.now.slice one.work turned.ran one.ran) in
         let both = keeps_on old new h.slices home items Of at at.now.slice.waiters [] (claims_of_ran turned.ran) (All-nil (IsClaimAt home)) at_home one.kept in
-        let older = dies_of_older shared first sound once (errand_of p) (contains_here message (waiting_in new ++ ms)) home at.was.slice.holdings (holds old new h.slices home items Of at) in
-        let works = errands shared (errand_of p) turned.ran (with_waiters at.now.slice.waiters at.was.slice) at.now.slice (joined_in old) (joined old.catalog (slices_in new))
+        let older = dies_of_older shared first sound once (act_of p) (contains_here message (waiting_in new ++ ms)) home at.was.slice.holdings (holds old new h.slices home items Of at) in
+        let works = acts shared (act_of p) turned.ran (with_waiters at.now.slice.waiters at.was.slice) at.now.slice (joined_in old) (joined old.catalog (slices_in new))
         (shares old new h.slices home items Of at ∙ h.shared_is) older one.ran both.1 in
         let claimed : AreClaimed old (waiting_in new ++ ms) message items = λ opening history f.
-        let P : Claiming → Type 0 = IsClaimOf history in
+        let P : ClaimView → Type 0 = IsClaimOf history in
         let carried = (part_message message).claims in
         let put = claims_of_ran turned.ran in
         let whole = subst (λ (q : InFlight). FitsPart opening history old.log (joined_in old) old.desk.admitted q) (sym (message_taken first message (waiting_in new ++ ms) refl)) f in
-        let of_ran = ran_claimed shared first sound once (errand_of p) (contains_here message (waiting_in new ++ ms)) opening history whole (with_waiters at.now.slice.waiters at.was.slice) at.now.slice turned.ran one.ran in
+        let of_ran = ran_claimed shared first sound once (act_of p) (contains_here message (waiting_in new ++ ms)) opening history whole (with_waiters at.now.slice.waiters at.was.slice) at.now.slice turned.ran one.ran in
         All-append P (carried ++ put) [] (All-append P carried put (All-front P carried (flight (queued old (waiting_in new ++ ms) (is ++ old.outbox))).claims f.claimed) of_ran) (All-nil P) in
         let goes = worked_on old new (waiting_in new ++ ms) message items hand.0 hand.1 at.rest both.0 works claimed in
         record {
@@ -353,16 +353,16 @@ module _ {J : Type 0} where
 
     turns_on : (home : ℕ) (turned : List (Turned J (Carried J))) (old new : Parts J) → IsSoundWith shared nothing (seen old ms is) → TurnsFollow home turned old new → GoesOn shared nothing (seen old ms is) (seen new ms is)
     turns_on home [] old new h same =
-        let slices : slices_in new ≡ slices_in old = ap (map slice_of) same.stations in
+        let slices : slices_in new ≡ slices_in old = ap (map slice_of) same.shards in
         let are : AreSlicesOf old.catalog (slices_in new) = subst (AreSlicesOf old.catalog) (sym slices) h.slices in
         let joined_is : joined old.catalog (slices_in new) ≡ joined_in old = ap (joined old.catalog) slices in
-        let lists : waiting_in new ≡ waiting_in old = ap (λ (l : List (Stationed (Carried J))). flat_map (λ list. list) (map waiting_at l)) same.stations in
-        let next : Parts J = record (seen old ms is) { stations = new.stations } in
+        let lists : waiting_in new ≡ waiting_in old = ap (λ (l : List (ShardView (Carried J))). flat_map (λ list. list) (map waiting_at l)) same.shards in
+        let next : Parts J = record (seen old ms is) { shards = new.shards } in
         let next_is : seen new ms is ≡ next =
         ap (λ (w : Parts J). queued w (waiting_in new ++ ms) (is ++ w.outbox)) same.rest ∙ (λ i. record next { inbox = lists i ++ ms }) in
         record {
-          sound = subst (λ w. IsSoundWith shared nothing w) (sym next_is) (restationed shared (seen old ms is) new.stations are joined_is h);
-          fits = λ opening history f. subst (λ w. Fits opening history w) (sym next_is) (fits_restationed shared (seen old ms is) new.stations are joined_is opening history f);
+          sound = subst (λ w. IsSoundWith shared nothing w) (sym next_is) (shard_replaced shared (seen old ms is) new.shards are joined_is h);
+          fits = λ opening history f. subst (λ w. Fits opening history w) (sym next_is) (fits_shard_replaced shared (seen old ms is) new.shards are joined_is opening history f);
         }
     turns_on home (one ∷ more) old new h follow =
         let mid = follow.0 in
@@ -375,19 +375,19 @@ module _ {J : Type 0} where
     and_turns home message old mid new first turns =
         then_goes_on shared (part_message message) (seen old ms is) (seen mid ms is) (seen new ms is) first (turns_on home turns.turned mid new first.sound turns.follow)
 
-    pub takes_on : (message : Message J) (old new : Parts J) → (h : IsSoundWith shared (part_message message) (seen old ms is)) → IsSoundMessage shared h.under_way message
+    pub takes_on : (message : Message J) (old new : Parts J) → (h : IsSoundWith shared (part_message message) (seen old ms is)) → IsSoundMessage shared h.in_flight message
         → TakesMessage message old new → GoesOn shared (part_message message) (seen old ms is) (seen new ms is)
-    takes_on (Start journey works) old new h fine takes =
-        let items = errands_of journey works.items in
+    takes_on (Start flow works) old new h fine takes =
+        let items = acts_of flow works.items in
         let next : Parts J = record old { outbox = old.outbox ++ items } in
-        let some : 1 ≤ length works.items = omega (arith, ap (λ (ws : List Work). length ws) fine.works_are, some_actions (h.under_way journey.transaction.slot).progress) in
-        subst (λ w. GoesOn shared (part_message (Start journey works)) (seen old ms is) (seen w ms is)) (sym takes)
-        (worked_on old next (waiting_in old ++ ms) (Start journey works) items h fine refl h.slices (starts shared journey works (joined_in old) some)
+        let some : 1 ≤ length works.items = omega (arith, ap (λ (ws : List Work). length ws) fine.works_are, some_actions (h.in_flight flow.transaction.slot).progress) in
+        subst (λ w. GoesOn shared (part_message (Start flow works)) (seen old ms is) (seen w ms is)) (sym takes)
+        (worked_on old next (waiting_in old ++ ms) (Start flow works) items h fine refl h.slices (starts shared flow works (joined_in old) some)
         (λ opening history f.
-        let held = all_claims journey.transaction.held in
-        subst (λ (p : InFlight). All (IsClaimOf history) p.claims) (sym (part_errands journey works.items some)) (All-front (IsClaimOf history) held (flight (seen old ms is)).claims f.claimed)))
-    takes_on (Errand errand) old new h fine takes =
-        and_turns (home_of errand.work) (Errand errand) old takes.0 new (asks_on old takes.0 errand takes.1.0.0 h fine takes.1.0.1) takes.1.1
+        let held = all_claims flow.transaction.held in
+        subst (λ (p : InFlight). All (IsClaimOf history) p.claims) (sym (part_acts flow works.items some)) (All-front (IsClaimOf history) held (flight (seen old ms is)).claims f.claimed)))
+    takes_on (Act act) old new h fine takes =
+        and_turns (home_of act.work) (Act act) old takes.0 new (asks_on old takes.0 act takes.1.0.0 h fine takes.1.0.1) takes.1.1
     takes_on (Settle slot claims) old new h fine takes =
         and_turns (home_of_claims claims) (Settle slot claims) old takes.0 new
         (gives_on old takes.0 (Settle slot claims) slot claims fine.0.1 (λ was now kept. settles shared slot claims was now kept) h fine takes.1.0) takes.1.1
@@ -397,37 +397,37 @@ module _ {J : Type 0} where
 
   -- ---- all who wait have to
 
-  -- one station has become another, and the others stay
+  -- one shard has become another, and the others stay
   abbrev ChangesOne : ℕ → Parts J → Parts J → Type 0
-  ChangesOne place old new = (now : Stationed (Carried J)) × ((slice_get new.stations.items place ≡ Some now) × (new.stations.items ≡ slice_set old.stations.items place now))
+  ChangesOne place old new = (now : ShardView (Carried J)) × ((slice_get new.shards.items place ≡ Some now) × (new.shards.items ≡ slice_set old.shards.items place now))
 
-  changes_at : (home : ℕ) (items : List (Item J)) (of : Stationed (Carried J) → Stationed (Carried J) → Type 0) (old new : Parts J) → AtStation home items of old new → ChangesOne (home - 1) old new
+  changes_at : (home : ℕ) (items : List (Item J)) (of : ShardView (Carried J) → ShardView (Carried J) → Type 0) (old new : Parts J) → AtShard home items of old new → ChangesOne (home - 1) old new
   changes_at home items of old new at =
       let place = home - 1 in
-      let below = slice_get_within old.stations.items place at.was at.there in
-      (at.now, (ap (λ (l : List (Stationed (Carried J))). slice_get l place) at.stations ∙ got_set old.stations.items place at.now below, at.stations))
+      let below = slice_get_within old.shards.items place at.was at.there in
+      (at.now, (ap (λ (l : List (ShardView (Carried J))). slice_get l place) at.shards ∙ got_set old.shards.items place at.now below, at.shards))
 
   changes_then : (place : ℕ) (old mid new : Parts J) → ChangesOne place old mid → ChangesOne place mid new → ChangesOne place old new
   changes_then place old mid new a b =
-      (b.0, (b.1.0, b.1.1 ∙ ap (λ (l : List (Stationed (Carried J))). slice_set l place b.0) a.1.1 ∙ set-set old.stations.items place a.0 b.0))
+      (b.0, (b.1.0, b.1.1 ∙ ap (λ (l : List (ShardView (Carried J))). slice_set l place b.0) a.1.1 ∙ set-set old.shards.items place a.0 b.0))
 
   turns_change : (home : ℕ) (turned : List (Turned J (Carried J))) (old mid new : Parts J) → ChangesOne (home - 1) old mid → TurnsFollow home turned mid new → ChangesOne (home - 1) old new
   turns_change home [] old mid new one same =
-      (one.0, (ap (λ (l : List (Stationed (Carried J))). slice_get l (home - 1)) same.stations ∙ one.1.0, same.stations ∙ one.1.1))
+      (one.0, (ap (λ (l : List (ShardView (Carried J))). slice_get l (home - 1)) same.shards ∙ one.1.0, same.shards ∙ one.1.1))
   turns_change home (t ∷ more) old mid new one follow =
       let next = follow.0 in
       let here = changes_at home (report_of t.by.place t.carried t.ran ∷ []) (λ was now. OneTurn was t now) mid next follow.1.0 in
       turns_change home more old next new (changes_then (home - 1) old mid next one here) follow.1.1
 
-  over_waits : (home : ℕ) (old mid new : Parts J) → ChangesOne (home - 1) old mid → AllTurns home mid new → All HaveToWait old.stations.items → All HaveToWait new.stations.items
+  over_waits : (home : ℕ) (old mid new : Parts J) → ChangesOne (home - 1) old mid → AllTurns home mid new → All HaveToWait old.shards.items → All HaveToWait new.shards.items
   over_waits home old mid new one turns wait =
       let last = turns_change home turns.turned old mid new one turns.follow in
-      subst (All HaveToWait) (sym last.1.1) (All-set HaveToWait old.stations.items (home - 1) last.0 (turns.over last.0 last.1.0) wait)
+      subst (All HaveToWait) (sym last.1.1) (All-set HaveToWait old.shards.items (home - 1) last.0 (turns.over last.0 last.1.0) wait)
 
-  pub takes_wait : (message : Message J) (old new : Parts J) → TakesMessage message old new → All HaveToWait old.stations.items → All HaveToWait new.stations.items
-  takes_wait (Start journey works) old new takes wait = subst (λ (w : Parts J). All HaveToWait w.stations.items) (sym takes) wait
-  takes_wait (Errand errand) old new takes wait =
-      over_waits (home_of errand.work) old takes.0 new (changes_at (home_of errand.work) (put_for errand.place takes.1.0.0) (λ was now. ActsAs (holder_of errand) errand.work (carried_by errand) was takes.1.0.0 now) old takes.0 takes.1.0.1) takes.1.1 wait
+  pub takes_wait : (message : Message J) (old new : Parts J) → TakesMessage message old new → All HaveToWait old.shards.items → All HaveToWait new.shards.items
+  takes_wait (Start flow works) old new takes wait = subst (λ (w : Parts J). All HaveToWait w.shards.items) (sym takes) wait
+  takes_wait (Act act) old new takes wait =
+      over_waits (home_of act.work) old takes.0 new (changes_at (home_of act.work) (put_for act.place takes.1.0.0) (λ was now. ActsAs (holder_of act) act.work (carried_by act) was takes.1.0.0 now) old takes.0 takes.1.0.1) takes.1.1 wait
   takes_wait (Settle slot claims) old new takes wait =
       over_waits (home_of_claims claims) old takes.0 new (changes_at (home_of_claims claims) (item.Ended slot ∷ []) (λ was now. SliceKeeps claims was.slice [] now.slice × (now.parked ≡ was.parked)) old takes.0 takes.1.0) takes.1.1 wait
   takes_wait (Undo slot claims) old new takes wait =

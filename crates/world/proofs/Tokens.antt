@@ -1,4 +1,4 @@
--- What the tokens that are under way tell of the active transactions.
+-- What the tokens that are in flight tell of the active transactions.
 use Rattle.std.proofs.Common.{◌≡◌, ℕ, ◌+◌, ◌-◌, ◌≤◌, ◌==◌, zero, suc, Bool, true, false, List, [], ◌∷◌, Option, Some, None, replicate, refl, sym, ◌∙◌, ap, subst, cond, arith}
 use Rattle.std.specs.Prelude.{map}
 use Rattle.std.specs.List.{sum_by, slice_get}
@@ -66,9 +66,9 @@ no_ending : (weight : Token → ℕ) (slot : ℕ) → weight (Ending slot) ≡ 0
 no_ending weight slot none zero = refl
 no_ending weight slot none (suc n) = omega (arith, sum_by-cons weight (Ending slot) (replicate n (Ending slot)), none, no_ending weight slot none n)
 
--- ---- what is awaited while a token is under way
+-- ---- what is awaited while a token is in flight
 
--- a token under way weighs among those that are awaited
+-- a token in flight weighs among those that are awaited
 pub is_awaited : (weight : Token → ℕ) (t : Token) (ts awaited : List Token) → weight t ≡ 1 → WeighAlike (t ∷ ts) awaited → 1 ≤ sum_by weight awaited
 is_awaited weight t ts awaited one h = omega (arith, h weight, sum_by-cons weight t ts, one)
 
@@ -166,21 +166,21 @@ module _ {J : Type 0} where
   in_slot : (slot k : ℕ) (slots : List (Option (Active J))) (a : Option (Active J)) → slot ≡ 0 + k → slice_get slots k ≡ Some a → slice_get slots slot ≡ Some a
   in_slot slot k slots a is there = let same : k ≡ slot = omega (arith, is) in subst (λ n. slice_get slots n ≡ Some a) same there
 
-  pub acting_under_way : (slot place : ℕ) (slots : List (Option (Active J))) → 1 ≤ sum_by (weigh_acting slot place) (awaited_by_all 0 slots)
+  pub acting_in_flight : (slot place : ℕ) (slots : List (Option (Active J))) → 1 ≤ sum_by (weigh_acting slot place) (awaited_by_all 0 slots)
       → (first : ℕ) × ((reports : List (Option (Report J))) × ((slice_get slots slot ≡ Some (Some (active.Acting first reports))) × ((first ≤ place) × (slice_get reports (place - first) ≡ Some None))))
-  acting_under_way slot place slots some =
+  acting_in_flight slot place slots some =
       let r = of_one (weigh_acting slot place) slot 0 slots (acting_elsewhere slot place) some in
       let one = acting_one slot place r.0 r.1.1.1.1 in
       (one.0, (one.1.0, (in_slot slot r.1.0 slots r.0 r.1.1.0 r.1.1.1.0 ∙ ap (λ (a : Option (Active J)). Some a) one.1.1.0, one.1.1.1)))
 
-  pub commit_under_way : (slot : ℕ) (slots : List (Option (Active J))) → 1 ≤ sum_by (weigh_committing slot) (awaited_by_all 0 slots) → slice_get slots slot ≡ Some (Some active.Committing)
-  commit_under_way slot slots some =
+  pub commit_in_flight : (slot : ℕ) (slots : List (Option (Active J))) → 1 ≤ sum_by (weigh_committing slot) (awaited_by_all 0 slots) → slice_get slots slot ≡ Some (Some active.Committing)
+  commit_in_flight slot slots some =
       let r = of_one (weigh_committing slot) slot 0 slots (commit_elsewhere slot) some in
       in_slot slot r.1.0 slots r.0 r.1.1.0 r.1.1.1.0 ∙ ap (λ (a : Option (Active J)). Some a) (commit_one slot r.0 r.1.1.1.1)
 
-  pub ending_under_way : (slot : ℕ) (slots : List (Option (Active J))) → 1 ≤ sum_by (weigh_ending slot) (awaited_by_all 0 slots)
+  pub ending_in_flight : (slot : ℕ) (slots : List (Option (Active J))) → 1 ≤ sum_by (weigh_ending slot) (awaited_by_all 0 slots)
       → (left : ℕ) × ((slice_get slots slot ≡ Some (Some (active.Ending left))) × (1 ≤ left))
-  ending_under_way slot slots some =
+  ending_in_flight slot slots some =
       let r = of_one (weigh_ending slot) slot 0 slots (ending_elsewhere slot) some in
       let one = ending_one slot r.0 r.1.1.1.1 in
       (one.0, (in_slot slot r.1.0 slots r.0 r.1.1.0 r.1.1.1.0 ∙ ap (λ (a : Option (Active J)). Some a) one.1.0, one.1.1))

@@ -7,21 +7,21 @@ use Rattle.history.specs.declared.event.Event.{Event}
 use Rattle.history.specs.declared.event.Event.TheVariants.{Submit, Order, Take, Send}
 use Rattle.history.specs.declared.event.EventAnswer.{EventAnswer}
 use Rattle.history.specs.declared.event.EventAnswer.TheVariants.{Nothing}
-use Rattle.range_moves.specs.declared.house.Found.TheVariants.{Here}
+use Rattle.range_moves.specs.declared.placement.Found.TheVariants.{Here}
 use Rattle.range_moves.specs.declared.order.MoveOrder.{MoveOrder}
 use Rattle.range_moves.specs.declared.order.Moving.TheVariants as moving
-use Rattle.range_moves.specs.Housing.{found_by, house_of}
+use Rattle.range_moves.specs.Placements.{found_by, placement_of}
 use Rattle.world.specs.declared.flight.Item.{Item}
 use Rattle.world.specs.declared.flight.Item.TheVariants as item
-use Rattle.world.specs.declared.flight.Letter.{Letter}
+use Rattle.world.specs.declared.flight.Envelope.{Envelope}
 use Rattle.world.specs.declared.flight.Load.{Load}
 use Rattle.world.specs.declared.flight.Load.TheVariants.{Work, Move}
-use Rattle.world.specs.declared.flight.Posted.{Posted}
-use Rattle.world.specs.declared.flight.Posted.TheVariants as posted
+use Rattle.world.specs.declared.flight.Outgoing.{Outgoing}
+use Rattle.world.specs.declared.flight.Outgoing.TheVariants as outgoing
 use Rattle.world.specs.declared.world.Core.{Core}
 use Rattle.world.specs.Following.{entry_of}
 use Rattle.world.specs.Happening.{begins_at}
-use Rattle.world.specs.Letters.{home_of_message, letter, parked_for}
+use Rattle.world.specs.Envelopes.{home_of_message, envelope, parked_for}
 use Rattle.world.specs.Queues.{queue_of}
 
 -- ---- queues
@@ -51,9 +51,9 @@ pub record HasTurned {X : Type 0} (executor : ℕ) (first : X) (more : List X) (
 module _ {J : Type 0} where
   -- ---- a submission
 
-  -- The desk changes; and one letter more, or none, stands at the end of the inbox of the executor where the request begins.
+  -- The desk changes; and one envelope more, or none, stands at the end of the inbox of the executor where the request begins.
   pub record SubmitChanges (asked : Request) (old new : Core J) : Type 0 where
-    pub more : List (Letter J)
+    pub more : List (Envelope J)
     pub one : length more ≤ 1
     pub inbox : HasMore (begins_at asked old) more old.inboxes new.inboxes
     pub rest : new ≡ record old { parts = record old.parts { desk = new.parts.desk }; inboxes = new.inboxes }
@@ -62,42 +62,42 @@ module _ {J : Type 0} where
 
   -- How many reports are awaited changes; and the order stands at the end of the inbox of its destination.
   pub record OrderChanges (order : MoveOrder) (old new : Core J) : Type 0 where
-    pub inbox : HasMore order.to (letter order.to (Move (moving.Order order)) ∷ []) old.inboxes new.inboxes
-    pub rest : new ≡ record old { houses = record old.houses { awaited = new.houses.awaited }; inboxes = new.inboxes }
+    pub inbox : HasMore order.to (envelope order.to (Move (moving.Order order)) ∷ []) old.inboxes new.inboxes
+    pub rest : new ≡ record old { placements = record old.placements { awaited = new.placements.awaited }; inboxes = new.inboxes }
 
-  -- ---- a letter is taken
+  -- ---- an envelope is taken
 
-  -- The letter is about this warehouse: its message is worked on there, its slice is fetched or brought, or its range has it.
+  -- The envelope is about this warehouse: its message is worked on there, its slice is fetched or brought, or its range has it.
   abbrev pub IsAbout : Load J → ℕ → Type 0
   IsAbout (Work message) w_id = w_id ≡ home_of_message message
   IsAbout (Move (moving.Order order)) w_id = (order.lo ≤ w_id) × (w_id ≤ order.hi)
   IsAbout (Move (moving.Fetch moved to)) w_id = w_id ≡ moved
   IsAbout (Move (moving.Parcel moved)) w_id = w_id ≡ moved
 
-  -- the station of this warehouse is as it was: its slice, with its rows, claims and those who wait, and the actions parked there
-  abbrev pub IsStationAsBefore : ℕ → Core J → Core J → Type 0
-  IsStationAsBefore w_id old new = slice_get new.parts.stations.items (w_id - 1) ≡ slice_get old.parts.stations.items (w_id - 1)
+  -- the shard of this warehouse is as it was: its slice, with its rows, claims and those who wait, and the actions parked there
+  abbrev pub IsShardAsBefore : ℕ → Core J → Core J → Type 0
+  IsShardAsBefore w_id old new = slice_get new.parts.shards.items (w_id - 1) ≡ slice_get old.parts.shards.items (w_id - 1)
 
-  -- all that there is of this warehouse is as it was: its station, where its slice is, and what is parked for it
+  -- all that there is of this warehouse is as it was: its shard, where its slice is, and what is parked for it
   pub record IsAsBefore (w_id : ℕ) (old new : Core J) : Type 0 where
-    pub station : IsStationAsBefore w_id old new
-    pub house : house_of new.houses w_id ≡ house_of old.houses w_id
+    pub shard : IsShardAsBefore w_id old new
+    pub placement : placement_of new.placements w_id ≡ placement_of old.placements w_id
     pub parked : parked_for w_id new.parked ≡ parked_for w_id old.parked
 
-  -- The first letter of the executor's own inbox is gone, and its own outbox has more at its end. No station changes of a warehouse
-  -- whose slice the executor has not got, and nothing of a warehouse that the letter is not about.
+  -- The first envelope of the executor's own inbox is gone, and its own outbox has more at its end. No shard changes of a warehouse
+  -- whose slice the executor has not got, and nothing of a warehouse that the envelope is not about.
   pub record TakeChanges (executor : ℕ) (old new : Core J) : Type 0 where
-    pub taken : Letter J
-    pub more : List (Posted J)
+    pub taken : Envelope J
+    pub more : List (Outgoing J)
     pub inbox : HasLost executor taken old.inboxes new.inboxes
     pub outbox : HasMore executor more old.outboxes new.outboxes
-    pub elsewhere : (w_id : ℕ) → 1 ≤ w_id → found_by old.houses executor w_id ≢ Here → IsStationAsBefore w_id old new
+    pub elsewhere : (w_id : ℕ) → 1 ≤ w_id → found_by old.placements executor w_id ≢ Here → IsShardAsBefore w_id old new
     pub others : (w_id : ℕ) → 1 ≤ w_id → ¬ IsAbout taken.load w_id → IsAsBefore w_id old new
-    pub many : length new.parts.stations.items ≡ length old.parts.stations.items
+    pub many : length new.parts.shards.items ≡ length old.parts.shards.items
     pub rest : new
         ≡ record old {
-          parts = record old.parts { stations = new.parts.stations };
-          houses = record old.houses { houses = new.houses.houses };
+          parts = record old.parts { shards = new.parts.shards };
+          placements = record old.placements { placements = new.placements.placements };
           parked = new.parked;
           inboxes = new.inboxes;
           outboxes = new.outboxes;
@@ -105,10 +105,10 @@ module _ {J : Type 0} where
 
   -- ---- what stands in an outbox is sent
 
-  -- A letter comes to the end of the inbox of the executor to which it is, and nothing more is to be sent; or no inbox changes, and it
+  -- An envelope comes to the end of the inbox of the executor to which it is, and nothing more is to be sent; or no inbox changes, and it
   -- is to be sent again.
-  abbrev pub Comes : Letter J → List (Posted J) → Core J → Core J → Type 0
-  Comes l more old new = (HasMore l.to (l ∷ []) old.inboxes new.inboxes × (more ≡ [])) ⊎ ((new.inboxes ≡ old.inboxes) × (more ≡ posted.Letter l ∷ []))
+  abbrev pub Comes : Envelope J → List (Outgoing J) → Core J → Core J → Type 0
+  Comes l more old new = (HasMore l.to (l ∷ []) old.inboxes new.inboxes × (more ≡ [])) ⊎ ((new.inboxes ≡ old.inboxes) × (more ≡ outgoing.Envelope l ∷ []))
 
   -- only a commit puts an entry into the log: its own, at the end
   abbrev pub MayLog : Item J → List Entry → List Entry → Type 0
@@ -116,21 +116,21 @@ module _ {J : Type 0} where
   MayLog (item.Push message) old new = new ≡ old
   MayLog (item.Report report) old new = new ≡ old
   MayLog (item.Ended slot) old new = new ≡ old
-  MayLog (item.Reply told) old new = new ≡ old
+  MayLog (item.Reply recorded) old new = new ≡ old
 
-  -- What changes beside the outbox: by a letter an inbox alone, by an item the desk and the log, and by a report of a slice that has arrived
+  -- What changes beside the outbox: by an envelope an inbox alone, by an item the desk and the log, and by a report of a slice that has arrived
   -- how many are awaited.
-  abbrev pub ChangesBySent : Posted J → List (Posted J) → Core J → Core J → Type 0
-  ChangesBySent (posted.Letter l) more old new = Comes l more old new × (new ≡ record old { inboxes = new.inboxes; outboxes = new.outboxes })
-  ChangesBySent (posted.Item i) more old new =
+  abbrev pub ChangesBySent : Outgoing J → List (Outgoing J) → Core J → Core J → Type 0
+  ChangesBySent (outgoing.Envelope l) more old new = Comes l more old new × (new ≡ record old { inboxes = new.inboxes; outboxes = new.outboxes })
+  ChangesBySent (outgoing.Item i) more old new =
       MayLog i old.parts.log new.parts.log × (new ≡ record old { parts = record old.parts { desk = new.parts.desk; log = new.parts.log }; outboxes = new.outboxes })
-  ChangesBySent posted.Arrived more old new = (more ≡ []) × (new ≡ record old { houses = record old.houses { awaited = new.houses.awaited }; outboxes = new.outboxes })
+  ChangesBySent outgoing.Arrived more old new = (more ≡ []) × (new ≡ record old { placements = record old.placements { awaited = new.placements.awaited }; outboxes = new.outboxes })
 
   -- The first of the executor's own outbox is gone, with more at its end, and no other outbox changes; beside it, what was sent
   -- changes.
   pub record SendChanges (executor : ℕ) (old new : Core J) : Type 0 where
-    pub sent : Posted J
-    pub more : List (Posted J)
+    pub sent : Outgoing J
+    pub more : List (Outgoing J)
     pub outbox : HasTurned executor sent more old.outboxes new.outboxes
     pub rest : ChangesBySent sent more old new
 

@@ -1,23 +1,23 @@
 -- What one event does.
 use Rattle.std.specs.Prelude.{◌≡◌, ◌<◌, ◌≤◌, ℕ, ◌+◌, ◌-◌, Bool, true, false, List, [], ◌∷◌, ◌++◌, Option, Some, None, Result, Ok, Err, All, nat_lt, length, map, replicate, slice_set, ◌⊎◌}
 use Rattle.std.specs.List.{slice_get}
-use Rattle.partitions.specs.Parts.{Shared}
+use Rattle.partitions.specs.Parts.{SharedTables}
 use Rattle.schema.specs.Database.{Database}
 use Rattle.requests.specs.declared.request.Request.{Request}
 use Rattle.requests.specs.declared.refusal.Refusal.{Refusal}
 use Rattle.requests.specs.declared.refusal.Refusal.TheVariants as refusal
 use Rattle.requests.specs.Check.{IsAccepted}
-use Rattle.tickets.specs.Claims.{Claiming, all_claims}
+use Rattle.tickets.specs.Claims.{ClaimView, all_claims}
 use Rattle.commit_log.specs.declared.entry.Entry.{Entry}
 use Rattle.commit_log.specs.Claimed.{IsCarriedOut}
 use Rattle.history.specs.declared.event.EventAnswer.{EventAnswer}
 use Rattle.history.specs.declared.event.EventAnswer.TheVariants.{Sent, Full, Logged, Answered}
 use Rattle.wait_die.specs.declared.deciding.Holder.{Holder}
-use Rattle.slices.specs.Sliced.{SliceKeeps}
-use Rattle.transactions.specs.declared.station.Acted.{Acted}
-use Rattle.transactions.specs.declared.station.Acted.TheVariants as acted
-use Rattle.transactions.specs.declared.station.Turned.{Turned}
-use Rattle.transactions.specs.Stations.{ActsAs, OneTurn, Stationed}
+use Rattle.slices.specs.SliceView.{SliceKeeps}
+use Rattle.transactions.specs.declared.shard.Acted.{Acted}
+use Rattle.transactions.specs.declared.shard.Acted.TheVariants as acted
+use Rattle.transactions.specs.declared.shard.Turned.{Turned}
+use Rattle.transactions.specs.Shards.{ActsAs, OneTurn, ShardView}
 use Rattle.transactions.specs.Works.{HaveAllDone, CanDo, home_of, home_of_claims}
 use Rattle.transactions.specs.Progresses.{FollowsFrom, IsReached, works_of}
 use Rattle.transactions.specs.declared.laws.TheConstants.{MOST_ACTIONS}
@@ -33,80 +33,80 @@ use Rattle.rendezvous.specs.Awaited.{awaited_from}
 use Rattle.world.specs.declared.desk.Active.TheVariants.{Acting, Ending}
 use Rattle.world.specs.declared.desk.SessionDesk.{SessionDesk}
 use Rattle.world.specs.declared.flight.Transaction.{Transaction}
-use Rattle.world.specs.declared.flight.Journey.{Journey}
-use Rattle.world.specs.declared.flight.Errand.{Errand as AnyErrand}
+use Rattle.world.specs.declared.flight.Flow.{Flow}
+use Rattle.world.specs.declared.flight.Act.{Act as AnyAct}
 use Rattle.world.specs.declared.flight.Carried.{Carried}
 use Rattle.world.specs.declared.flight.Message.{Message}
-use Rattle.world.specs.declared.flight.Message.TheVariants.{Start, Errand, Settle, Undo}
+use Rattle.world.specs.declared.flight.Message.TheVariants.{Start, Act, Settle, Undo}
 use Rattle.world.specs.declared.flight.Report.{Report}
 use Rattle.world.specs.declared.flight.Commit.{Commit}
-use Rattle.world.specs.declared.flight.Told.{Told}
+use Rattle.world.specs.declared.flight.SessionAnswer.{SessionAnswer}
 use Rattle.world.specs.declared.flight.Item.{Item}
 use Rattle.world.specs.declared.flight.Item.TheVariants as item
 use Rattle.world.specs.declared.world.Parts.{Parts}
-use Rattle.world.specs.Stations.{HaveToWait}
-use Rattle.world.specs.Following.{CarriesFirst, errands_of, committing, ending, entry_of, found_in, held_in, holding, refusal_of, refused, release, releasing, putting, with_active}
+use Rattle.world.specs.Shards.{HaveToWait}
+use Rattle.world.specs.Following.{CarriesFirst, acts_of, committing, ending, entry_of, found_in, held_in, holding, refusal_of, refused, release, releasing, putting, with_active}
 
 -- a commit is answered by the place of its entry, or, where the log refused it, as any item that was sent
-abbrev pub told_of : Result ℕ Refusal → EventAnswer
-told_of (Ok place) = Logged place
-told_of (Err why) = Sent
+abbrev pub recorded_of : Result ℕ Refusal → EventAnswer
+recorded_of (Ok place) = Logged place
+recorded_of (Err why) = Sent
 
 -- A request has come so far, and the actions of its phase have done their work, and found this.
 abbrev pub HasMet : Progress → List Found → Type 0
 HasMet progress found =
-    (shared : Shared) × (asked : Request) × (held : List (List Claiming)) × (claims : List (List Claiming))
+    (shared : SharedTables) × (asked : Request) × (held : List (List ClaimView)) × (claims : List (List ClaimView))
     × IsReached shared asked progress held × HaveAllDone shared (works_of progress) found claims
 
 module _ {J : Type 0} where
   -- ---- a message is worked on
 
-  -- At the station of this warehouse this happens, and at no other; these items stand at the outbox's end; and nothing else
+  -- At the shard of this warehouse this happens, and at no other; these items stand at the outbox's end; and nothing else
   -- changes.
-  pub record AtStation (home : ℕ) (items : List (Item J)) (of : Stationed (Carried J) → Stationed (Carried J) → Type 0) (old new : Parts J) : Type 0 where
-    pub was : Stationed (Carried J)
-    pub now : Stationed (Carried J)
+  pub record AtShard (home : ℕ) (items : List (Item J)) (of : ShardView (Carried J) → ShardView (Carried J) → Type 0) (old new : Parts J) : Type 0 where
+    pub was : ShardView (Carried J)
+    pub now : ShardView (Carried J)
     pub home_is : was.slice.home ≡ home
-    pub there : slice_get old.stations.items (home - 1) ≡ Some was
-    pub stations : new.stations.items ≡ slice_set old.stations.items (home - 1) now
-    pub rest : new ≡ record old { stations = new.stations; outbox = old.outbox ++ items }
+    pub there : slice_get old.shards.items (home - 1) ≡ Some was
+    pub shards : new.shards.items ≡ slice_set old.shards.items (home - 1) now
+    pub rest : new ≡ record old { shards = new.shards; outbox = old.outbox ++ items }
     pub happened : of was now
 
   -- who an action is to the lock tables: its transaction, by its age, and its place in it
-  abbrev pub holder_of : AnyErrand J → Holder
-  holder_of errand = record { age = errand.age; place = errand.place }
+  abbrev pub holder_of : AnyAct J → Holder
+  holder_of act = record { age = act.age; place = act.place }
 
   -- what an action keeps with it beside its work
-  abbrev pub carried_by : AnyErrand J → Carried J
-  carried_by errand = record { slot = errand.slot; journey = errand.journey }
+  abbrev pub carried_by : AnyAct J → Carried J
+  carried_by act = record { slot = act.slot; flow = act.flow }
 
   -- the report of an action of this place, which carries this, with what came of it
   abbrev pub report_of : ℕ → Carried J → Ran J → Item J
-  report_of place carried ran = item.Report (record { place = place; slot = carried.slot; journey = carried.journey; ran = ran })
+  report_of place carried ran = item.Report (record { place = place; slot = carried.slot; flow = carried.flow; ran = ran })
 
   -- what is put for an action that asked: its report, or nothing while it waits
   abbrev pub put_for : ℕ → Acted J (Carried J) → List (Item J)
   put_for place (acted.Ran ran carried) = report_of place carried ran ∷ []
   put_for place acted.Waits = []
 
-  -- An action asks at the station of its warehouse. It reports that it has done its work, or that it died of somebody who is not
+  -- An action asks at the shard of its warehouse. It reports that it has done its work, or that it died of somebody who is not
   -- younger, or that there was no memory; or it waits there, since all who are in its way are younger (`ActsAs` of transactions).
-  abbrev pub Asks : AnyErrand J → Parts J → Parts J → Type 0
-  Asks errand old new = (acted : Acted J (Carried J)) × AtStation (home_of errand.work) (put_for errand.place acted) (λ was now. ActsAs (holder_of errand) errand.work (carried_by errand) was acted now) old new
+  abbrev pub Asks : AnyAct J → Parts J → Parts J → Type 0
+  Asks act old new = (acted : Acted J (Carried J)) × AtShard (home_of act.work) (put_for act.place acted) (λ was now. ActsAs (holder_of act) act.work (carried_by act) was acted now) old new
 
   -- The claims of an action are given back to the slice of their warehouse, which keeps what is committed; nobody's waiting changes.
-  abbrev pub GivesBack : ℕ → List Claiming → Parts J → Parts J → Type 0
+  abbrev pub GivesBack : ℕ → List ClaimView → Parts J → Parts J → Type 0
   GivesBack slot claims old new =
-      AtStation (home_of_claims claims) (item.Ended slot ∷ []) (λ was now. SliceKeeps claims was.slice [] now.slice × (now.parked ≡ was.parked)) old new
+      AtShard (home_of_claims claims) (item.Ended slot ∷ []) (λ was now. SliceKeeps claims was.slice [] now.slice × (now.parked ≡ was.parked)) old new
 
-  -- One who waits at the station of this warehouse has its turn, and reports (`OneTurn` of transactions).
+  -- One who waits at the shard of this warehouse has its turn, and reports (`OneTurn` of transactions).
   abbrev pub TakesTurn : ℕ → Turned J (Carried J) → Parts J → Parts J → Type 0
-  TakesTurn home turned old new = AtStation home (report_of turned.by.place turned.carried turned.ran ∷ []) (λ was now. OneTurn was turned now) old new
+  TakesTurn home turned old new = AtShard home (report_of turned.by.place turned.carried turned.ran ∷ []) (λ was now. OneTurn was turned now) old new
 
-  -- nothing changes: the same stations are there
+  -- nothing changes: the same shards are there
   pub record Stays (old new : Parts J) : Type 0 where
-    pub stations : new.stations.items ≡ old.stations.items
-    pub rest : new ≡ record old { stations = new.stations }
+    pub shards : new.shards.items ≡ old.shards.items
+    pub rest : new ≡ record old { shards = new.shards }
 
   -- these have their turns there, one after another
   abbrev pub TurnsFollow : ℕ → List (Turned J (Carried J)) → Parts J → Parts J → Type 0
@@ -117,20 +117,20 @@ module _ {J : Type 0} where
   pub record AllTurns (home : ℕ) (old new : Parts J) : Type 0 where
     pub turned : List (Turned J (Carried J))
     pub follow : TurnsFollow home turned old new
-    pub over : (s : Stationed (Carried J)) → slice_get new.stations.items (home - 1) ≡ Some s → HaveToWait s
+    pub over : (s : ShardView (Carried J)) → slice_get new.shards.items (home - 1) ≡ Some s → HaveToWait s
 
   -- What a message does: the actions of a first phase are put, in the order of their places; an action asks, or claims are given
-  -- back, at the station of their warehouse, and then come the turns of those who waited there.
+  -- back, at the shard of their warehouse, and then come the turns of those who waited there.
   abbrev pub TakesMessage : Message J → Parts J → Parts J → Type 0
-  TakesMessage (Start journey works) old new = new ≡ record old { outbox = old.outbox ++ errands_of journey works.items }
-  TakesMessage (Errand errand) old new = (mid : Parts J) × (Asks errand old mid × AllTurns (home_of errand.work) mid new)
+  TakesMessage (Start flow works) old new = new ≡ record old { outbox = old.outbox ++ acts_of flow works.items }
+  TakesMessage (Act act) old new = (mid : Parts J) × (Asks act old mid × AllTurns (home_of act.work) mid new)
   TakesMessage (Settle slot claims) old new = (mid : Parts J) × (GivesBack slot claims old mid × AllTurns (home_of_claims claims) mid new)
   TakesMessage (Undo slot claims) old new = (mid : Parts J) × (GivesBack slot claims old mid × AllTurns (home_of_claims claims) mid new)
 
   -- what is asked of a message that is worked on
-  abbrev pub CanWork : Shared → Message J → Type 0
-  CanWork shared (Start journey works) = (1 ≤ length works.items) × ((length journey.transaction.held + length works.items ≤ MOST_ACTIONS) × All (CanDo shared) works.items)
-  CanWork shared (Errand errand) = CanDo shared errand.work
+  abbrev pub CanWork : SharedTables → Message J → Type 0
+  CanWork shared (Start flow works) = (1 ≤ length works.items) × ((length flow.transaction.held + length works.items ≤ MOST_ACTIONS) × All (CanDo shared) works.items)
+  CanWork shared (Act act) = CanDo shared act.work
   CanWork shared (Settle slot claims) = CanAllBeSettled claims
   CanWork shared (Undo slot claims) = CanAllBeUndone claims
 
@@ -146,7 +146,7 @@ module _ {J : Type 0} where
   -- The actions of the next phase are put, and nothing is reported yet; or the transaction is to be logged.
   abbrev pub goes_on : Transaction J → Gathered → Parts J → Parts J
   goes_on t (Next progress) old =
-      putting (errands_of (record { transaction = t; progress = progress }) (works_of progress)) t.slot (Some (Acting (length t.held) (replicate (length (works_of progress)) None))) old
+      putting (acts_of (record { transaction = t; progress = progress }) (works_of progress)) t.slot (Some (Acting (length t.held) (replicate (length (works_of progress)) None))) old
   goes_on t (Finish shown) old = committing t shown old
 
   -- What follows of what was found is done, unless there is no memory for it: then the transaction is refused.
@@ -155,20 +155,20 @@ module _ {J : Type 0} where
       (new ≡ releasing false (refused t refusal.NoMemory) old) ⊎ ((g : Gathered) × (FollowsFrom progress found g × (new ≡ goes_on t g old)))
 
   -- One action has died or found no memory, and the transaction is refused; or all have done their work.
-  abbrev pub MeetsUnless : Option Refusal → List (Report J) → Journey J → Parts J → Parts J → Type 0
-  MeetsUnless (Some why) reports journey old new = new ≡ releasing false (refused (holding journey.transaction (held_in reports)) why) old
-  MeetsUnless None reports journey old new =
-      GathersInto journey.progress (found_in reports) (holding journey.transaction (held_in reports)) old new
+  abbrev pub MeetsUnless : Option Refusal → List (Report J) → Flow J → Parts J → Parts J → Type 0
+  MeetsUnless (Some why) reports flow old new = new ≡ releasing false (refused (holding flow.transaction (held_in reports)) why) old
+  MeetsUnless None reports flow old new =
+      GathersInto flow.progress (found_in reports) (holding flow.transaction (held_in reports)) old new
 
   -- All actions of a phase have reported this, by place.
   abbrev pub MeetsAs : List (Report J) → Parts J → Parts J → Type 0
-  MeetsAs reports old new = CarriesFirst reports (λ journey. MeetsUnless (refusal_of None reports) reports journey old new)
+  MeetsAs reports old new = CarriesFirst reports (λ flow. MeetsUnless (refusal_of None reports) reports flow old new)
 
   -- what is asked of them
-  pub record CanMeetFor (reports : List (Report J)) (journey : Journey J) : Type 0 where
-    pub slot : journey.transaction.slot < 64
-    pub room : length journey.transaction.held + length reports ≤ MOST_ACTIONS
-    pub done : refusal_of None reports ≡ None → HasMet journey.progress (found_in reports)
+  pub record CanMeetFor (reports : List (Report J)) (flow : Flow J) : Type 0 where
+    pub slot : flow.transaction.slot < 64
+    pub room : length flow.transaction.held + length reports ≤ MOST_ACTIONS
+    pub done : refusal_of None reports ≡ None → HasMet flow.progress (found_in reports)
 
   -- what is asked of the reports of a phase, by the transaction that the first of them carries
   abbrev pub CanMeet : List (Report J) → Type 0
@@ -180,7 +180,7 @@ module _ {J : Type 0} where
       ((1 ≤ length (awaited_from 0 slots)) × (new ≡ with_active slot (Some (Acting first slots)) old))
       ⊎ ((reports : List (Report J)) × ((map Some reports ≡ slots) × MeetsAs reports old new))
 
-  -- the phase that is under way in this slot: the place of its first action, and what has been reported, from that place on
+  -- the phase that is in flight in this slot: the place of its first action, and what has been reported, from that place on
   abbrev pub OfPhase : ℕ → Parts J → (ℕ → List (Option (Report J)) → Type 0) → Type 0
   OfPhase slot w P = (first : ℕ) × ((slots : List (Option (Report J))) × ((slice_get w.desk.active slot ≡ Some (Some (Acting first slots))) × P first slots))
 
@@ -195,9 +195,9 @@ module _ {J : Type 0} where
   pub record Commits (commit : Commit J) (old : Parts J) (answer : EventAnswer) (new : Parts J) : Type 0 where
     pub logged : AnyLogged J
     pub log : List Entry
-    pub held : List (List Claiming)
+    pub held : List (List ClaimView)
     pub logs : Logs (entry_of commit) commit.transaction.pass old.log commit.transaction.held logged log held
-    pub answered : answer ≡ told_of logged.answer
+    pub answered : answer ≡ recorded_of logged.answer
     pub over : new ≡ releasing logged.is_settled (release commit.transaction logged.pass logged.answer held) (record old { log = log })
 
   -- What is asked of a commit: the request was carried out under the transaction's claims with this reply.
@@ -214,15 +214,15 @@ module _ {J : Type 0} where
   -- nothing but the sessions changes
   abbrev pub with_sessions : Parts J → List (SessionDesk J) → Parts J → Type 0
   with_sessions old sessions new =
-      (new.catalog ≡ old.catalog) × ((new.stations ≡ old.stations) × ((new.inbox ≡ old.inbox) × ((new.outbox ≡ old.outbox) × ((new.log ≡ old.log)
+      (new.catalog ≡ old.catalog) × ((new.shards ≡ old.shards) × ((new.inbox ≡ old.inbox) × ((new.outbox ≡ old.outbox) × ((new.log ≡ old.log)
       × ((new.desk.admitted ≡ old.desk.admitted) × ((new.desk.active ≡ old.desk.active) × (new.desk.sessions.items ≡ sessions)))))))
 
   -- the session's pass is at the desk again
-  abbrev pub Replies : Told J → Parts J → EventAnswer → Parts J → Type 0
-  Replies told old answer new =
-      (answer ≡ Answered told.pass.session told.number told.answer)
-      × ((desk : SessionDesk J) × ((slice_get old.desk.sessions.items told.pass.session ≡ Some desk)
-      × with_sessions old (slice_set old.desk.sessions.items told.pass.session (record desk { pass = Some told.pass })) new))
+  abbrev pub Replies : SessionAnswer J → Parts J → EventAnswer → Parts J → Type 0
+  Replies recorded old answer new =
+      (answer ≡ Answered recorded.pass.session recorded.number recorded.answer)
+      × ((desk : SessionDesk J) × ((slice_get old.desk.sessions.items recorded.pass.session ≡ Some desk)
+      × with_sessions old (slice_set old.desk.sessions.items recorded.pass.session (record desk { pass = Some recorded.pass })) new))
 
   -- ---- all items
 
@@ -235,10 +235,10 @@ module _ {J : Type 0} where
   CanSend opening (item.Push message) w = Unit {0}
   CanSend opening (item.Report r) w =
       (r.slot < 64) × OfPhase r.slot w (λ first slots. (first ≤ r.place) × ((slice_get slots (r.place - first) ≡ Some None)
-      × ((reports : List (Report J)) → map Some reports ≡ slice_set slots (r.place - first) (Some r) → CanMeet reports × CarriesFirst reports (λ journey. journey.transaction.slot ≡ r.slot))))
+      × ((reports : List (Report J)) → map Some reports ≡ slice_set slots (r.place - first) (Some r) → CanMeet reports × CarriesFirst reports (λ flow. flow.transaction.slot ≡ r.slot))))
   CanSend opening (item.Ended slot) w = (slot < 64) × OfEnding slot w (λ left. 1 ≤ left)
   CanSend opening (item.Commit commit) w = CanCommit opening commit
-  CanSend opening (item.Reply told) w = (desk : SessionDesk J) × (slice_get w.desk.sessions.items told.pass.session ≡ Some desk)
+  CanSend opening (item.Reply recorded) w = (desk : SessionDesk J) × (slice_get w.desk.sessions.items recorded.pass.session ≡ Some desk)
 
   -- What an item does when it is sent, by its kind.
   abbrev pub SendsItem : Item J → Parts J → EventAnswer → Parts J → Type 0
@@ -246,4 +246,4 @@ module _ {J : Type 0} where
   SendsItem (item.Report r) old answer new = (answer ≡ Sent) × Reports r old new
   SendsItem (item.Ended slot) old answer new = (answer ≡ Sent) × OfEnding slot old (λ left. new ≡ with_active slot (ending (left - 1)) old)
   SendsItem (item.Commit commit) old answer new = Commits commit old answer new
-  SendsItem (item.Reply told) old answer new = Replies told old answer new
+  SendsItem (item.Reply recorded) old answer new = Replies recorded old answer new

@@ -1,16 +1,16 @@
--- What is under way: which claims, which transactions without an answer, and which tokens messages, reports and items have.
+-- What is in flight: which claims, which transactions without an answer, and which tokens messages, reports and items have.
 use Rattle.std.specs.Prelude.{ℕ, ◌+◌, List, [], ◌∷◌, ◌++◌, Option, Some, None, Result, Ok, Err, length}
 use Rattle.requests.specs.declared.refusal.Refusal.{Refusal}
-use Rattle.tickets.specs.Claims.{Claiming, all_claims}
-use Rattle.history.specs.History.{Unanswered}
+use Rattle.tickets.specs.Claims.{ClaimView, all_claims}
+use Rattle.history.specs.History.{UnansweredTransaction}
 use Rattle.transactions.specs.declared.work.Work.{Work}
 use Rattle.transactions.specs.Acting.{claims_of_ran}
 use Rattle.world.specs.declared.flight.Transaction.{Transaction}
-use Rattle.world.specs.declared.flight.Journey.{Journey}
+use Rattle.world.specs.declared.flight.Flow.{Flow}
 use Rattle.world.specs.declared.flight.Message.{Message}
-use Rattle.world.specs.declared.flight.Message.TheVariants.{Start, Errand, Settle, Undo}
+use Rattle.world.specs.declared.flight.Message.TheVariants.{Start, Act, Settle, Undo}
 use Rattle.world.specs.declared.flight.Report.{Report}
-use Rattle.world.specs.declared.flight.Told.{Told}
+use Rattle.world.specs.declared.flight.SessionAnswer.{SessionAnswer}
 use Rattle.world.specs.declared.flight.Item.{Item}
 use Rattle.world.specs.declared.flight.Item.TheVariants as item
 
@@ -23,17 +23,17 @@ pub data Token : Type 0 where
   Committing : ℕ → Token
   Ending : ℕ → Token
 
--- What a part of what is under way has with it.
+-- What a part of what is in flight has with it.
 pub record InFlight : Type 0 where
-  pub claims : List Claiming
-  pub pending : List Unanswered
+  pub claims : List ClaimView
+  pub pending : List UnansweredTransaction
   pub tokens : List Token
 
 -- these claims, transactions and tokens
-abbrev pub part : List Claiming → List Unanswered → List Token → InFlight
+abbrev pub part : List ClaimView → List UnansweredTransaction → List Token → InFlight
 part claims pending tokens = record { claims = claims; pending = pending; tokens = tokens }
 
--- nothing is under way
+-- nothing is in flight
 abbrev pub nothing : InFlight
 nothing = part [] [] []
 
@@ -52,7 +52,7 @@ acting_from slot place [] = []
 acting_from slot place (work ∷ works) = Acting slot place ∷ acting_from slot (place + 1) works
 
 -- the claims of an action, which are to be given back
-abbrev pub part_held : ℕ → List Claiming → InFlight
+abbrev pub part_held : ℕ → List ClaimView → InFlight
 part_held slot claims = part claims [] (Ending slot ∷ [])
 
 -- the place of the entry that an answer names
@@ -64,7 +64,7 @@ module _ {J : Type 0} where
   -- ---- transactions
 
   -- a transaction, which has no entry yet
-  abbrev pub unanswered_transaction : Transaction J → Unanswered
+  abbrev pub unanswered_transaction : Transaction J → UnansweredTransaction
   unanswered_transaction t = record {
     age = t.age;
     session = t.pass.session;
@@ -74,13 +74,13 @@ module _ {J : Type 0} where
   }
 
   -- the transaction of an answer on its way
-  abbrev pub unanswered_reply : Told J → Unanswered
-  unanswered_reply told = record {
-    age = told.age;
-    session = told.pass.session;
-    number = told.pass.asks.number;
-    request = told.pass.asks.request;
-    entry = place_answered told.answer;
+  abbrev pub unanswered_reply : SessionAnswer J → UnansweredTransaction
+  unanswered_reply recorded = record {
+    age = recorded.age;
+    session = recorded.pass.session;
+    number = recorded.pass.asks.number;
+    request = recorded.pass.asks.request;
+    entry = place_answered recorded.answer;
   }
 
   -- ---- parts
@@ -90,28 +90,28 @@ module _ {J : Type 0} where
   part_transaction t tokens = part (all_claims t.held) (unanswered_transaction t ∷ []) tokens
 
   -- what is carried, if it is
-  abbrev pub part_carried : Option (Journey J) → InFlight
+  abbrev pub part_carried : Option (Flow J) → InFlight
   part_carried None = nothing
-  part_carried (Some journey) = part_transaction journey.transaction []
+  part_carried (Some flow) = part_transaction flow.transaction []
 
   -- what a message has with it
   abbrev pub part_message : Message J → InFlight
-  part_message (Start journey works) = part_transaction journey.transaction (acting_from journey.transaction.slot (length journey.transaction.held) works.items)
-  part_message (Errand errand) = part (part_carried errand.journey).claims (part_carried errand.journey).pending (Acting errand.slot errand.place ∷ [])
+  part_message (Start flow works) = part_transaction flow.transaction (acting_from flow.transaction.slot (length flow.transaction.held) works.items)
+  part_message (Act act) = part (part_carried act.flow).claims (part_carried act.flow).pending (Acting act.slot act.place ∷ [])
   part_message (Settle slot claims) = part_held slot claims
   part_message (Undo slot claims) = part_held slot claims
 
   -- what is carried comes before what the action holds
-  abbrev pub claims_reported : Report J → List Claiming
-  claims_reported r = (part_carried r.journey).claims ++ claims_of_ran r.ran
+  abbrev pub claims_reported : Report J → List ClaimView
+  claims_reported r = (part_carried r.flow).claims ++ claims_of_ran r.ran
 
   -- a report on its way to where its phase meets, and there: no token is left of it then
   abbrev pub part_report : Report J → InFlight
-  part_report r = part (claims_reported r) (part_carried r.journey).pending (Acting r.slot r.place ∷ [])
+  part_report r = part (claims_reported r) (part_carried r.flow).pending (Acting r.slot r.place ∷ [])
 
   -- what a report that has met has with it: its token has come back
   abbrev pub part_met : Report J → InFlight
-  part_met r = part (claims_reported r) (part_carried r.journey).pending []
+  part_met r = part (claims_reported r) (part_carried r.flow).pending []
 
   -- what an item has with it
   abbrev pub part_item : Item J → InFlight
@@ -119,4 +119,4 @@ module _ {J : Type 0} where
   part_item (item.Report r) = part_report r
   part_item (item.Ended slot) = part [] [] (Ending slot ∷ [])
   part_item (item.Commit commit) = part_transaction commit.transaction (Committing commit.transaction.slot ∷ [])
-  part_item (item.Reply told) = part [] (unanswered_reply told ∷ []) []
+  part_item (item.Reply recorded) = part [] (unanswered_reply recorded ∷ []) []

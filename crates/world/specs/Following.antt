@@ -2,9 +2,9 @@
 use Rattle.std.specs.Prelude.{ℕ, ◌+◌, Bool, true, false, zero, suc, List, [], ◌∷◌, ◌++◌, Option, Some, None, Result, Err, map, length, slice_set}
 use Rattle.requests.specs.declared.reply.Reply.{Reply}
 use Rattle.requests.specs.declared.refusal.Refusal.{Refusal}
-use Rattle.tickets.specs.Claims.{Claiming}
+use Rattle.tickets.specs.Claims.{ClaimView}
 use Rattle.commit_log.specs.declared.entry.Entry.{Entry}
-use Rattle.commit_log.specs.Passing.{Passing}
+use Rattle.commit_log.specs.PassView.{PassView}
 use Rattle.transactions.specs.declared.work.Work.{Work}
 use Rattle.transactions.specs.declared.work.Found.{Found}
 use Rattle.transactions.specs.declared.acting.Ran.{Ran}
@@ -12,8 +12,8 @@ use Rattle.transactions.specs.SortedOut as sorted
 use Rattle.world.specs.declared.desk.Active.{Active}
 use Rattle.world.specs.declared.desk.Active.TheVariants.{Acting, Committing, Ending}
 use Rattle.world.specs.declared.flight.Transaction.{Transaction}
-use Rattle.world.specs.declared.flight.Journey.{Journey}
-use Rattle.world.specs.declared.flight.Message.TheVariants.{Errand, Settle, Undo}
+use Rattle.world.specs.declared.flight.Flow.{Flow}
+use Rattle.world.specs.declared.flight.Message.TheVariants.{Act, Settle, Undo}
 use Rattle.world.specs.declared.flight.Report.{Report}
 use Rattle.world.specs.declared.flight.Commit.{Commit}
 use Rattle.world.specs.declared.flight.Item.{Item}
@@ -25,14 +25,14 @@ module _ {J : Type 0} where
   -- ---- the actions of a phase
 
   -- the actions from this place on; the first of them carries this
-  abbrev pub errands_from : ℕ → ℕ → ℕ → Option (Journey J) → List Work → List (Item J)
-  errands_from place age slot carried [] = []
-  errands_from place age slot carried (work ∷ works) =
-      item.Push (Errand (record { place = place; age = age; slot = slot; work = work; journey = carried })) ∷ errands_from (place + 1) age slot None works
+  abbrev pub acts_from : ℕ → ℕ → ℕ → Option (Flow J) → List Work → List (Item J)
+  acts_from place age slot carried [] = []
+  acts_from place age slot carried (work ∷ works) =
+      item.Push (Act (record { place = place; age = age; slot = slot; work = work; flow = carried })) ∷ acts_from (place + 1) age slot None works
 
   -- all actions of a phase, whose places come after those of the phases before: the first carries the transaction
-  abbrev pub errands_of : Journey J → List Work → List (Item J)
-  errands_of journey works = errands_from (length journey.transaction.held) journey.transaction.age journey.transaction.slot (Some journey) works
+  abbrev pub acts_of : Flow J → List Work → List (Item J)
+  acts_of flow works = acts_from (length flow.transaction.held) flow.transaction.age flow.transaction.slot (Some flow) works
 
   -- ---- what they report
 
@@ -41,7 +41,7 @@ module _ {J : Type 0} where
   rans_of reports = map (λ r. r.ran) reports
 
   -- the claims of those that have done their work, by place, those of each together
-  abbrev pub held_in : List (Report J) → List (List Claiming)
+  abbrev pub held_in : List (Report J) → List (List ClaimView)
   held_in reports = sorted.held_in (rans_of reports)
 
   -- what they found, by place
@@ -53,17 +53,17 @@ module _ {J : Type 0} where
   refusal_of why reports = sorted.refusal_of why (rans_of reports)
 
   -- what is carried is there, and this is so of it
-  abbrev pub IfCarried : Option (Journey J) → (Journey J → Type 0) → Type 0
+  abbrev pub IfCarried : Option (Flow J) → (Flow J → Type 0) → Type 0
   IfCarried None P = ⊥
-  IfCarried (Some journey) P = P journey
+  IfCarried (Some flow) P = P flow
 
   -- the first of them carries a transaction, of which this is so
-  abbrev pub CarriesFirst : List (Report J) → (Journey J → Type 0) → Type 0
+  abbrev pub CarriesFirst : List (Report J) → (Flow J → Type 0) → Type 0
   CarriesFirst [] P = ⊥
-  CarriesFirst (r ∷ reports) P = IfCarried r.journey P
+  CarriesFirst (r ∷ reports) P = IfCarried r.flow P
 
   -- the transaction with these claims more
-  abbrev pub holding : Transaction J → List (List Claiming) → Transaction J
+  abbrev pub holding : Transaction J → List (List ClaimView) → Transaction J
   holding t more = record t { held = t.held ++ more }
 
   -- ---- the active transactions
@@ -76,7 +76,7 @@ module _ {J : Type 0} where
   abbrev pub putting : List (Item J) → ℕ → Option (Active J) → Parts J → Parts J
   putting items slot active w = record w { outbox = w.outbox ++ items; desk = record w.desk { active = slice_set w.desk.active slot active } }
 
-  -- a phase is under way
+  -- a phase is in flight
   abbrev pub IsActing : Active J → Type 0
   IsActing (Acting first meeting) = Unit {0}
   IsActing Committing = ⊥
@@ -94,7 +94,7 @@ module _ {J : Type 0} where
   -- ---- a transaction that is over
 
   -- what a transaction that is over gives back: its pass, with this answer, which is the place of its entry or why it was refused, and what its actions hold
-  abbrev pub release : Transaction J → Passing → Result ℕ Refusal → List (List Claiming) → Release J
+  abbrev pub release : Transaction J → PassView → Result ℕ Refusal → List (List ClaimView) → Release J
   release t pass answer held = record { age = t.age; slot = t.slot; number = t.number; pass = pass; answer = answer; held = held }
 
   -- so where it is refused
@@ -102,7 +102,7 @@ module _ {J : Type 0} where
   refused t why = release t t.pass (Err why) t.held
 
   -- its claims are settled, or what was done under them is taken back
-  abbrev pub push_of : Bool → ℕ → List Claiming → Item J
+  abbrev pub push_of : Bool → ℕ → List ClaimView → Item J
   push_of true slot claims = item.Push (Settle slot claims)
   push_of false slot claims = item.Push (Undo slot claims)
 

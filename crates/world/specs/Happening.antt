@@ -2,41 +2,41 @@
 use Rattle.std.specs.Prelude.{IsTrue, is_some, ◌≡◌, ◌⊎◌, ℕ, zero, suc, ◌+◌, ◌-◌, ◌<◌, ◌&&◌, Bool, true, false, nat_lt, nat_le, List, [], ◌∷◌, ◌++◌, Option, Some, None, Result, Ok, Err, Vec, length, map, replicate, slice_set}
 use Rattle.std.specs.List.{slice_get}
 use Rattle.std.specs.declared.alloc.Global.{Global}
-use Rattle.partitions.specs.Parts.{Shared}
+use Rattle.partitions.specs.Parts.{SharedTables}
 use Rattle.requests.specs.declared.request.Request.{Request}
 use Rattle.requests.specs.declared.refusal.Refusal.{Refusal}
 use Rattle.requests.specs.declared.refusal.Refusal.TheVariants as refusal
 use Rattle.requests.specs.Check.{IsAccepted, check_of}
 use Rattle.commit_log.specs.Asks.{asking}
-use Rattle.commit_log.specs.Passing.{Passing, with_asks, seating}
+use Rattle.commit_log.specs.PassView.{PassView, with_asks, session_seat_view}
 use Rattle.history.specs.declared.event.Event.{Event}
 use Rattle.history.specs.declared.event.Event.TheVariants.{Submit, Order, Take, Send}
 use Rattle.history.specs.declared.event.EventAnswer.{EventAnswer}
 use Rattle.history.specs.declared.event.EventAnswer.TheVariants.{Accepted, Ordered, Took, Sent, Full, Moved, Answered, Nothing}
-use Rattle.range_moves.specs.declared.house.Found.{Found}
-use Rattle.range_moves.specs.declared.house.Found.TheVariants.{Here, Went, Unknown}
+use Rattle.range_moves.specs.declared.placement.Found.{Found}
+use Rattle.range_moves.specs.declared.placement.Found.TheVariants.{Here, Went, Unknown}
 use Rattle.range_moves.specs.declared.order.MoveOrder.{MoveOrder}
 use Rattle.range_moves.specs.declared.order.Moving.{Moving}
 use Rattle.range_moves.specs.declared.order.Moving.TheVariants as moving
-use Rattle.range_moves.specs.Housing.{Housing, fetched_from, found_by, house_installed, house_moved, house_of, house_taken, place_of, route_of, with_house}
+use Rattle.range_moves.specs.Placements.{PlacementsView, fetched_from, found_by, placement_installed, placement_moved, placement_of, placement_taken, place_of, route_of, with_placement}
 use Rattle.range_moves.specs.Orders.{IsWithin, size_of}
 use Rattle.transactions.specs.declared.work.Work.{Work as AnyWork}
 use Rattle.transactions.specs.Progresses.{IsReached, works_of}
 use Rattle.transactions.specs.Works.{home_of_request}
 use Rattle.world.specs.declared.desk.Active.TheVariants.{Acting}
 use Rattle.world.specs.declared.desk.SessionDesk.{SessionDesk}
-use Rattle.world.specs.declared.flight.Journey.{Journey}
-use Rattle.world.specs.declared.flight.Letter.{Letter}
+use Rattle.world.specs.declared.flight.Flow.{Flow}
+use Rattle.world.specs.declared.flight.Envelope.{Envelope}
 use Rattle.world.specs.declared.flight.Load.{Load}
 use Rattle.world.specs.declared.flight.Load.TheVariants.{Work, Move}
 use Rattle.world.specs.declared.flight.Message.{Message}
 use Rattle.world.specs.declared.flight.Message.TheVariants as message
-use Rattle.world.specs.declared.flight.Posted.{Posted}
-use Rattle.world.specs.declared.flight.Posted.TheVariants as posted
+use Rattle.world.specs.declared.flight.Outgoing.{Outgoing}
+use Rattle.world.specs.declared.flight.Outgoing.TheVariants as outgoing
 use Rattle.world.specs.declared.world.Parts.{Parts}
 use Rattle.world.specs.declared.world.Core.{Core}
 use Rattle.world.specs.Events.{SendsItem, TakesMessage}
-use Rattle.world.specs.Letters.{home_of_message, is_for_slice, letter, parked_else, parked_for, posted_by, to_itself}
+use Rattle.world.specs.Envelopes.{home_of_message, is_for_slice, envelope, parked_else, parked_for, outgoing_by, to_itself}
 use Rattle.world.specs.Queues.{put_into, queue_of}
 use Rattle.world.specs.Slots.{count_active}
 use Rattle.world.specs.Sound.{IsSessionOf}
@@ -45,7 +45,7 @@ use Rattle.world.specs.Sound.{IsSessionOf}
 
 -- Why the desk refuses a request at once: its session has a transaction without an answer, its check refuses it, or as many
 -- transactions are active as can be.
-abbrev pub refuses : Option Passing → Result (Unit {0}) Refusal → Bool → Option Refusal
+abbrev pub refuses : Option PassView → Result (Unit {0}) Refusal → Bool → Option Refusal
 refuses None checked full = Some refusal.SessionBusy
 refuses (Some pass) (Err why) full = Some why
 refuses (Some pass) (Ok accepted) true = Some refusal.Busy
@@ -58,9 +58,9 @@ is_full slots = nat_le 64 (count_active slots)
 -- ---- moves
 
 -- so many warehouses, from this one on, begin to move to an executor
-abbrev pub houses_begun : ℕ → ℕ → ℕ → Housing → Housing
-houses_begun zero w_id to h = h
-houses_begun (suc more) w_id to h = houses_begun more (w_id + 1) to (with_house h w_id (house_moved (house_of h w_id) to))
+abbrev pub placements_begun : ℕ → ℕ → ℕ → PlacementsView → PlacementsView
+placements_begun zero w_id to h = h
+placements_begun (suc more) w_id to h = placements_begun more (w_id + 1) to (with_placement h w_id (placement_moved (placement_of h w_id) to))
 
 -- what is answered of a slice that has arrived, where so many more are awaited then
 abbrev pub answer_arrived : ℕ → EventAnswer
@@ -81,27 +81,27 @@ module _ {J : Type 0} where
   -- A transaction more is admitted, and active, in a slot that was free: the actions of its first phase stand at the inbox's
   -- end, and the session's pass goes with them.
   pub record Admits (session number : ℕ) (asked : Request) (desk : SessionDesk J) (old new : Parts J) : Type 0 where
-    pub journey : Journey J
+    pub flow : Flow J
     pub works : Vec AnyWork Global
-    pub pass : Passing
-    pub age : journey.transaction.age ≡ old.desk.admitted
-    pub number_is : journey.transaction.number ≡ number
-    pub request : journey.transaction.request ≡ asked
-    pub held : journey.transaction.held ≡ []
-    pub free : slice_get old.desk.active journey.transaction.slot ≡ Some None
-    pub begins : (shared : Shared) → IsAccepted shared.scale asked → IsReached shared asked journey.progress []
+    pub pass : PassView
+    pub age : flow.transaction.age ≡ old.desk.admitted
+    pub number_is : flow.transaction.number ≡ number
+    pub request : flow.transaction.request ≡ asked
+    pub held : flow.transaction.held ≡ []
+    pub free : slice_get old.desk.active flow.transaction.slot ≡ Some None
+    pub begins : (shared : SharedTables) → IsAccepted shared.scale asked → IsReached shared asked flow.progress []
     pub here : desk.pass ≡ Some pass
-    pub pass_is : journey.transaction.pass ≡ with_asks pass (asking number asked pass.seen pass.mine)
-    pub works_are : works.items ≡ works_of journey.progress
+    pub pass_is : flow.transaction.pass ≡ with_asks pass (asking number asked pass.seen pass.mine)
+    pub works_are : works.items ≡ works_of flow.progress
     pub catalog : new.catalog ≡ old.catalog
-    pub stations : new.stations ≡ old.stations
-    pub inbox : new.inbox ≡ old.inbox ++ message.Start journey works ∷ []
+    pub shards : new.shards ≡ old.shards
+    pub inbox : new.inbox ≡ old.inbox ++ message.Start flow works ∷ []
     pub outbox : new.outbox ≡ old.outbox
     pub log : new.log ≡ old.log
     pub admitted : new.desk.admitted ≡ old.desk.admitted + 1
-    pub active : new.desk.active ≡ slice_set old.desk.active journey.transaction.slot (Some (Acting 0 (replicate (length works.items) None)))
+    pub active : new.desk.active ≡ slice_set old.desk.active flow.transaction.slot (Some (Acting 0 (replicate (length works.items) None)))
     pub sessions : new.desk.sessions.items
-        ≡ slice_set old.desk.sessions.items session (record { seat = seating desk.seat.session journey.transaction.pass.asks; pass = None })
+        ≡ slice_set old.desk.sessions.items session (record { seat = session_seat_view desk.seat.session flow.transaction.pass.asks; pass = None })
 
   -- what is asked of a world to which a request is submitted: each session stands at its place
   abbrev pub CanSubmit : Parts J → Type 0
@@ -114,9 +114,9 @@ module _ {J : Type 0} where
 
   -- the event is answered so, and nothing changes
   abbrev pub StaysAt : EventAnswer → Parts J → EventAnswer → Parts J → Type 0
-  StaysAt told old answer new = (answer ≡ told) × (new ≡ old)
+  StaysAt recorded old answer new = (answer ≡ recorded) × (new ≡ old)
 
-  -- It can't be admitted, or it is refused for want of memory, or it is admitted.
+  -- It can't be admitted, or it is refused for lack of memory, or it is admitted.
   abbrev pub SubmitsInto : Bool → ℕ → ℕ → Request → SessionDesk J → Parts J → EventAnswer → Parts J → Type 0
   SubmitsInto false session number asked desk old answer new = StaysAt Nothing old answer new
   SubmitsInto true session number asked desk old answer new =
@@ -145,28 +145,28 @@ module _ {J : Type 0} where
   has_room executor w = nat_lt (length (queue_of executor w.inboxes)) 1024
 
   -- these stand at the end of an executor's outbox
-  abbrev pub posting : ℕ → List (Posted J) → Core J → Core J
+  abbrev pub posting : ℕ → List (Outgoing J) → Core J → Core J
   posting executor more w = record w { outboxes = put_into executor more w.outboxes }
 
   -- An event has brought the parts so far: the items that it put stand at the end of the executor's outbox.
   abbrev pub bringing : ℕ → Parts J → Core J → Core J
-  bringing executor parts w = posting executor (map (posted_by w.houses) parts.outbox) (record w { parts = record parts { outbox = [] } })
+  bringing executor parts w = posting executor (map (outgoing_by w.placements) parts.outbox) (record w { parts = record parts { outbox = [] } })
 
   -- ---- one event
 
   -- the event is answered so, and nothing changes
   abbrev pub StaysAs : EventAnswer → Core J → EventAnswer → Core J → Type 0
-  StaysAs told old answer new = (answer ≡ told) × (new ≡ old)
+  StaysAs recorded old answer new = (answer ≡ recorded) × (new ≡ old)
 
   -- the executor to which messages go for the warehouse whose terminal asks
   abbrev pub begins_at : Request → Core J → ℕ
-  begins_at asked w = route_of w.houses (home_of_request asked)
+  begins_at asked w = route_of w.placements (home_of_request asked)
 
   -- what a submission has put goes into an executor's inbox
   abbrev pub beginning_at : ℕ → Parts J → Core J → Core J
   beginning_at to parts w = record w {
     parts = record parts { inbox = [] };
-    inboxes = put_into to (map (λ (m : Message J). letter to (Work m)) parts.inbox) w.inboxes;
+    inboxes = put_into to (map (λ (m : Message J). envelope to (Work m)) parts.inbox) w.inboxes;
   }
 
   -- A submission: the request begins in the inbox of the executor to which messages for its warehouse go.
@@ -177,22 +177,22 @@ module _ {J : Type 0} where
 
   -- there can be this move, no other is outstanding, and there is room in the inbox of its destination
   pub record CanOrder (order : MoveOrder) (w : Core J) : Type 0 where
-    pub none : w.houses.awaited ≡ 0
-    pub within : IsWithin (length w.houses.houses) w.houses.executors order
+    pub none : w.placements.awaited ≡ 0
+    pub within : IsWithin (length w.placements.placements) w.placements.executors order
     pub room : length (queue_of order.to w.inboxes) < 1024
 
   -- the move is outstanding, and its order stands in the inbox of its destination
   abbrev pub ordering : MoveOrder → Core J → Core J
   ordering order w = record w {
-    houses = record w.houses { awaited = size_of order };
-    inboxes = put_into order.to (letter order.to (Move (moving.Order order)) ∷ []) w.inboxes;
+    placements = record w.placements { awaited = size_of order };
+    inboxes = put_into order.to (envelope order.to (Move (moving.Order order)) ∷ []) w.inboxes;
   }
 
   -- A move is ordered, exactly where it can be.
   abbrev pub Orders : MoveOrder → Core J → EventAnswer → Core J → Type 0
   Orders order old answer new = (CanOrder order old × ((answer ≡ Ordered) × (new ≡ ordering order old))) ⊎ ((¬ CanOrder order old) × StaysAs Nothing old answer new)
 
-  -- ---- a letter is opened
+  -- ---- an envelope is opened
 
   -- A message is worked on.
   abbrev pub WorksOn : ℕ → Message J → Core J → Core J → Type 0
@@ -201,67 +201,67 @@ module _ {J : Type 0} where
   -- A message for a slice is worked on where the slice is; it is sent on where it went; and else it is parked.
   abbrev pub FindsSlice : Found → ℕ → Message J → Core J → Core J → Type 0
   FindsSlice Here executor message old new = WorksOn executor message old new
-  FindsSlice (Went to) executor message old new = new ≡ posting executor (posted.Letter (letter to (Work message)) ∷ []) old
+  FindsSlice (Went to) executor message old new = new ≡ posting executor (outgoing.Envelope (envelope to (Work message)) ∷ []) old
   FindsSlice Unknown executor message old new = new ≡ record old { parked = old.parked ++ message ∷ [] }
 
   -- the start of a transaction needs no slice
   abbrev pub WorksIfHere : Bool → ℕ → Message J → Core J → Core J → Type 0
   WorksIfHere false executor message old new = WorksOn executor message old new
-  WorksIfHere true executor message old new = FindsSlice (found_by old.houses executor (home_of_message message)) executor message old new
+  WorksIfHere true executor message old new = FindsSlice (found_by old.placements executor (home_of_message message)) executor message old new
 
   -- what a move puts for a warehouse, as it begins: a fetch to the executor that has the slice, or, if that is itself, that it has arrived
-  abbrev pub posted_for : Option ℕ → ℕ → ℕ → Posted J
-  posted_for None w_id to = posted.Arrived
-  posted_for (Some from) w_id to = posted.Letter (letter from (Move (moving.Fetch w_id to)))
+  abbrev pub outgoing_for : Option ℕ → ℕ → ℕ → Outgoing J
+  outgoing_for None w_id to = outgoing.Arrived
+  outgoing_for (Some from) w_id to = outgoing.Envelope (envelope from (Move (moving.Fetch w_id to)))
 
-  abbrev pub posts_begun : ℕ → ℕ → ℕ → Housing → List (Posted J)
+  abbrev pub posts_begun : ℕ → ℕ → ℕ → PlacementsView → List (Outgoing J)
   posts_begun zero w_id to h = []
   posts_begun (suc more) w_id to h =
-      posted_for (fetched_from (place_of h w_id) to) w_id to ∷ posts_begun more (w_id + 1) to (with_house h w_id (house_moved (house_of h w_id) to))
+      outgoing_for (fetched_from (place_of h w_id) to) w_id to ∷ posts_begun more (w_id + 1) to (with_placement h w_id (placement_moved (placement_of h w_id) to))
 
   -- A move begins: each slice of its range is fetched, or is there. A slice is taken out, and goes as a parcel. A slice is installed:
   -- it has arrived, and what was parked for it is sent to its executor again.
   abbrev pub moves : ℕ → Moving → Core J → Core J
   moves executor (moving.Order order) w =
-      posting executor (posts_begun (size_of order) order.lo order.to w.houses) (record w { houses = houses_begun (size_of order) order.lo order.to w.houses })
+      posting executor (posts_begun (size_of order) order.lo order.to w.placements) (record w { placements = placements_begun (size_of order) order.lo order.to w.placements })
   moves executor (moving.Fetch w_id to) w =
-      posting executor (posted.Letter (letter to (Move (moving.Parcel w_id))) ∷ []) (record w { houses = with_house w.houses w_id (house_taken (house_of w.houses w_id) executor to) })
+      posting executor (outgoing.Envelope (envelope to (Move (moving.Parcel w_id))) ∷ []) (record w { placements = with_placement w.placements w_id (placement_taken (placement_of w.placements w_id) executor to) })
   moves executor (moving.Parcel w_id) w =
-      posting executor (posted.Arrived ∷ to_itself executor (parked_for w_id w.parked))
-      (record w { houses = with_house w.houses w_id (house_installed (house_of w.houses w_id) executor); parked = parked_else w_id w.parked })
+      posting executor (outgoing.Arrived ∷ to_itself executor (parked_for w_id w.parked))
+      (record w { placements = with_placement w.placements w_id (placement_installed (placement_of w.placements w_id) executor); parked = parked_else w_id w.parked })
 
-  -- What an executor does with what a letter brings.
+  -- What an executor does with what an envelope brings.
   abbrev pub Opens : ℕ → Load J → Core J → Core J → Type 0
   Opens executor (Work message) old new = WorksIfHere (is_for_slice message) executor message old new
   Opens executor (Move m) old new = new ≡ moves executor m old
 
-  -- The first letter of an executor's inbox is opened, where there is one.
-  abbrev pub TakesFirst : ℕ → List (Letter J) → Core J → EventAnswer → Core J → Type 0
+  -- The first envelope of an executor's inbox is opened, where there is one.
+  abbrev pub TakesFirst : ℕ → List (Envelope J) → Core J → EventAnswer → Core J → Type 0
   TakesFirst executor [] old answer new = StaysAs Nothing old answer new
   TakesFirst executor (l ∷ rest) old answer new = (answer ≡ Took) × Opens executor l.load (record old { inboxes = slice_set old.inboxes executor rest }) new
 
   -- ---- what stands in an outbox is sent
 
-  -- A letter goes to the end of its executor's inbox, or, where that has its 1,024, back to the end of the outbox.
-  abbrev pub Delivers : Bool → ℕ → Letter J → Core J → EventAnswer → Core J → Type 0
+  -- An envelope goes to the end of its executor's inbox, or, where that has its 1,024, back to the end of the outbox.
+  abbrev pub Delivers : Bool → ℕ → Envelope J → Core J → EventAnswer → Core J → Type 0
   Delivers true executor l old answer new = (answer ≡ Sent) × (new ≡ record old { inboxes = put_into l.to (l ∷ []) old.inboxes })
-  Delivers false executor l old answer new = (answer ≡ Full) × (new ≡ posting executor (posted.Letter l ∷ []) old)
+  Delivers false executor l old answer new = (answer ≡ Full) × (new ≡ posting executor (outgoing.Envelope l ∷ []) old)
 
   -- What comes of it, by its kind.
-  abbrev pub SendsPosted : ℕ → Posted J → Core J → EventAnswer → Core J → Type 0
-  SendsPosted executor (posted.Letter l) old answer new = Delivers (has_room l.to old) executor l old answer new
-  SendsPosted executor (posted.Item i) old answer new = (parts : Parts J) × (SendsItem i old.parts answer parts × (new ≡ bringing executor parts old))
-  SendsPosted executor posted.Arrived old answer new =
-      let left = old.houses.awaited - 1 in (answer ≡ answer_arrived left) × (new ≡ record old { houses = record old.houses { awaited = left } })
+  abbrev pub SendsOutgoing : ℕ → Outgoing J → Core J → EventAnswer → Core J → Type 0
+  SendsOutgoing executor (outgoing.Envelope l) old answer new = Delivers (has_room l.to old) executor l old answer new
+  SendsOutgoing executor (outgoing.Item i) old answer new = (parts : Parts J) × (SendsItem i old.parts answer parts × (new ≡ bringing executor parts old))
+  SendsOutgoing executor outgoing.Arrived old answer new =
+      let left = old.placements.awaited - 1 in (answer ≡ answer_arrived left) × (new ≡ record old { placements = record old.placements { awaited = left } })
 
   -- The first of an executor's outbox is sent, where there is one.
-  abbrev pub SendsFirst : ℕ → List (Posted J) → Core J → EventAnswer → Core J → Type 0
+  abbrev pub SendsFirst : ℕ → List (Outgoing J) → Core J → EventAnswer → Core J → Type 0
   SendsFirst executor [] old answer new = StaysAs Nothing old answer new
-  SendsFirst executor (p ∷ rest) old answer new = SendsPosted executor p (record old { outboxes = slice_set old.outboxes executor rest }) answer new
+  SendsFirst executor (p ∷ rest) old answer new = SendsOutgoing executor p (record old { outboxes = slice_set old.outboxes executor rest }) answer new
 
   -- ---- events
 
-  -- What an event is answered, and all that it changes. An executor that there isn't has no letter, and nothing to send.
+  -- What an event is answered, and all that it changes. An executor that there isn't has no envelope, and nothing to send.
   abbrev pub Happens : Event → Core J → EventAnswer → Core J → Type 0
   Happens (Submit session number asked) old answer new = Submits session number asked old answer new
   Happens (Order order) old answer new = Orders order old answer new

@@ -1,8 +1,8 @@
 pub mod Queues
-pub mod Letters
+pub mod Envelopes
 pub mod Slots
 pub mod Flights
-pub mod Stations
+pub mod Shards
 pub mod Parted
 pub mod Sound
 pub mod Following

@@ -3,12 +3,12 @@ use Rattle.std.specs.Prelude.{◌≡◌, ◌⊎◌, ◌<◌, ℕ, zero, suc, Lis
 use Rattle.schema.specs.Database.{Database}
 use Rattle.partitions.specs.Parts.{parts_of, shared_of}
 use Rattle.consistency.specs.Broken.{BreaksFirst}
-use Rattle.range_moves.specs.Housing.{IsOpenedBy}
+use Rattle.range_moves.specs.Placements.{IsOpenedBy}
 use Rattle.tickets.specs.declared.group_names.GroupNames.{Ghosts as GroupNames}
 use Rattle.tickets.specs.Openings.{AreNamed}
 use Rattle.commit_log.specs.declared.log_names.LogNames.{Ghosts as LogNames}
 use Rattle.commit_log.specs.LogTables.{table_of}
-use Rattle.commit_log.specs.Passing.{Passing, Seating, new_pass, new_seat}
+use Rattle.commit_log.specs.PassView.{PassView, SessionSeatView, new_pass, new_seat}
 use Rattle.history.specs.History.{Step}
 use Rattle.history.specs.declared.schedule.Scheduled.{Scheduled}
 use Rattle.history.specs.Schedules.{Plays}
@@ -17,13 +17,13 @@ use Rattle.slices.specs.Openings.{AreOpenedFor}
 use Rattle.world.specs.declared.opening.Opening.{Opening}
 use Rattle.world.specs.declared.opening.OpenFault.{OpenFault}
 use Rattle.world.specs.declared.opening.OpenFault.TheVariants.{NoMemory, BadExecutors, NotConsistent}
-use Rattle.slices.specs.Sliced.{AreSlicesOf, all_at_rest, at_rest}
+use Rattle.slices.specs.SliceView.{AreSlicesOf, all_at_rest, at_rest}
 use Rattle.world.specs.declared.simulating.Simulation.{Simulation}
 use Rattle.world.specs.declared.world.GatherFault.{GatherFault}
 use Rattle.world.specs.declared.world.GatherFault.TheVariants as gather
 use Rattle.world.specs.declared.world.Core.{Core}
 use Rattle.world.specs.Parted.{joined_in}
-use Rattle.world.specs.Stations.{slices_in, station_of, waiting_in}
+use Rattle.world.specs.Shards.{slices_in, shard_of, waiting_in}
 use Rattle.world.specs.Together.{together}
 use Rattle.world.specs.Worlds.{Fits, HappenInTurn, IsNeverStuck, count_busy, tables_now}
 
@@ -51,27 +51,27 @@ IsGathered zero tables gathered = (gathered ≡ Ok tables) ⊎ (gathered ≡ Err
 IsGathered (suc busy) tables gathered = gathered ≡ Err gather.NotIdle
 
 -- the passes and the seats of 64 sessions that have asked, seen and logged nothing, by the sessions' numbers
-pub record AreNewLanes (lanes : List (Passing × Seating)) : Type 0 where
+pub record AreNewLanes (lanes : List (PassView × SessionSeatView)) : Type 0 where
   pub many : length lanes ≡ 64
   pub each : (session : ℕ) → session < 64 → slice_get lanes session ≡ Some (new_pass session, new_seat session)
 
 module _ {J : Type 0} where
   -- the session as the desk knows it, whose pass is here
-  abbrev pub session_with : Passing × Seating → SessionDesk J
+  abbrev pub session_with : PassView × SessionSeatView → SessionDesk J
   session_with lane = record { seat = lane.1; pass = Some lane.0 }
 
-  -- A world of so many executors on these tables in which nothing has happened: its stations have the rows of the tables, those of
-  -- each warehouse in a slice of its own, no claim is out, and nobody waits, at a station or in a lock table; the slices of the
+  -- A world of so many executors on these tables in which nothing has happened: its shards have the rows of the tables, those of
+  -- each warehouse in a slice of its own, no claim is out, and nobody waits, at a shard or in a lock table; the slices of the
   -- warehouses are where they are dealt out to, no move is outstanding and nothing parked; the queues of each executor and the log are
   -- empty, and nothing is in hand, neither a message nor a reply nor any other item; no transaction was admitted or is active, and each
   -- of 64 sessions has its pass at the desk and has asked nothing.
   pub record IsNew (tables : Database) (executors : ℕ) (w : Core J) : Type 0 where
     pub catalog : w.parts.catalog ≡ shared_of tables
-    pub stations : w.parts.stations.items ≡ map station_of (map at_rest (parts_of tables))
+    pub shards : w.parts.shards.items ≡ map shard_of (map at_rest (parts_of tables))
     pub slices : AreSlicesOf w.parts.catalog (slices_in w.parts)
     pub none_waits : waiting_in w.parts ≡ []
     pub rows : joined_in w.parts ≡ all_at_rest tables
-    pub houses : IsOpenedBy (record { warehouses = tables.scale.warehouses; executors = executors }) w.houses
+    pub placements : IsOpenedBy (record { warehouses = tables.scale.warehouses; executors = executors }) w.placements
     pub parked : w.parked ≡ []
     pub inboxes : w.inboxes ≡ replicate executors []
     pub outboxes : w.outboxes ≡ replicate executors []

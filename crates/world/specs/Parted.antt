@@ -1,8 +1,8 @@
 -- The slices of a world as one.
-use Rattle.slices.specs.Sliced.{Joined, joined}
+use Rattle.slices.specs.SliceView.{JoinedSlices, joined}
 use Rattle.world.specs.declared.world.Parts.{Parts}
-use Rattle.world.specs.Stations.{slices_in}
+use Rattle.world.specs.Shards.{slices_in}
 
 -- what all slices have together
-abbrev pub joined_in : {J : Type 0} → Parts J → Joined
+abbrev pub joined_in : {J : Type 0} → Parts J → JoinedSlices
 joined_in w = joined w.catalog (slices_in w)

@@ -1,7 +1,7 @@
--- What is known of each thing that is under way, and what a world keeps.
+-- What is known of each thing that is in flight, and what a world keeps.
 use Rattle.std.specs.Prelude.{◌≡◌, ℕ, ◌+◌, ◌<◌, ◌≤◌, Bool, zero, suc, List, [], ◌∷◌, ◌++◌, Option, Some, None, Result, Ok, Err, All, Contains, map, length, replicate, count_by, is_some, if◌then◌else◌}
 use Rattle.std.specs.List.{slice_get, sum_by}
-use Rattle.partitions.specs.Parts.{Shared, shared_of}
+use Rattle.partitions.specs.Parts.{SharedTables, shared_of}
 use Rattle.schema.specs.Database.{Database}
 use Rattle.requests.specs.declared.group.Group.{Group}
 use Rattle.requests.specs.declared.request.Request.{Request}
@@ -9,15 +9,15 @@ use Rattle.requests.specs.declared.refusal.Refusal.{Refusal}
 use Rattle.requests.specs.declared.refusal.Refusal.TheVariants as refusal
 use Rattle.requests.specs.Check.{IsAccepted}
 use Rattle.groups.specs.Footprint.{footprint, groups_of}
-use Rattle.tickets.specs.Claims.{Claiming, all_claims}
-use Rattle.slices.specs.Sliced.{AreAllHeld, AreSlicesOf}
+use Rattle.tickets.specs.Claims.{ClaimView, all_claims}
+use Rattle.slices.specs.SliceView.{AreAllHeld, AreSlicesOf}
 use Rattle.commit_log.specs.Claimed.{IsCarriedOut}
-use Rattle.commit_log.specs.Passing.{Passing}
+use Rattle.commit_log.specs.PassView.{PassView}
 use Rattle.history.specs.History.{is_of}
 use Rattle.transactions.specs.declared.work.Work.{Work}
 use Rattle.transactions.specs.declared.acting.Ran.{Ran}
 use Rattle.transactions.specs.declared.acting.Ran.TheVariants as ran
-use Rattle.transactions.specs.Works.{CanDo, HasDone, wishes_of}
+use Rattle.transactions.specs.Works.{CanDo, HasDone, group_wants_of}
 use Rattle.transactions.specs.declared.progress.Progress.{Progress}
 use Rattle.transactions.specs.Progresses.{IsReached, works_of}
 use Rattle.transactions.specs.declared.laws.TheConstants.{MOST_ACTIONS}
@@ -28,19 +28,19 @@ use Rattle.world.specs.declared.desk.Active.TheVariants as active
 use Rattle.world.specs.declared.desk.Desk.{Desk}
 use Rattle.world.specs.declared.desk.SessionDesk.{SessionDesk}
 use Rattle.world.specs.declared.flight.Transaction.{Transaction}
-use Rattle.world.specs.declared.flight.Journey.{Journey}
-use Rattle.world.specs.declared.flight.Errand.{Errand}
+use Rattle.world.specs.declared.flight.Flow.{Flow}
+use Rattle.world.specs.declared.flight.Act.{Act}
 use Rattle.world.specs.declared.flight.Message.{Message}
 use Rattle.world.specs.declared.flight.Message.TheVariants as message
 use Rattle.world.specs.declared.flight.Report.{Report}
 use Rattle.world.specs.declared.flight.Commit.{Commit}
-use Rattle.world.specs.declared.flight.Told.{Told}
+use Rattle.world.specs.declared.flight.SessionAnswer.{SessionAnswer}
 use Rattle.world.specs.declared.flight.Item.{Item}
 use Rattle.world.specs.declared.flight.Item.TheVariants as item
 use Rattle.world.specs.declared.world.Parts.{Parts}
 use Rattle.world.specs.Flights.{Token, Acting, Committing, Ending, InFlight, join, parts, part_message, part_item, part_met}
 use Rattle.world.specs.Parted.{joined_in}
-use Rattle.world.specs.Stations.{slices_in}
+use Rattle.world.specs.Shards.{slices_in}
 
 -- A refusal that tells of a death names one of these groups, and an age that is less than this one.
 abbrev pub NamesOlder : List Group → ℕ → Refusal → Type 0
@@ -53,7 +53,7 @@ AnswersOlder groups age (Ok place) = Unit {0}
 AnswersOlder groups age (Err why) = NamesOlder groups age why
 
 -- a pass that is there is of this session
-abbrev pub IsPassOf : ℕ → Option Passing → Type 0
+abbrev pub IsPassOf : ℕ → Option PassView → Type 0
 IsPassOf number None = Unit {0}
 IsPassOf number (Some pass) = pass.session ≡ number
 
@@ -61,23 +61,23 @@ IsPassOf number (Some pass) = pass.session ≡ number
 abbrev pub WeighAlike : List Token → List Token → Type 0
 WeighAlike some others = (weight : Token → ℕ) → sum_by weight some ≡ sum_by weight others
 
--- A transaction that is under way: what was asked, how far it has come, what its earlier phases hold, and its age.
-pub record UnderWay : Type 0 where
+-- A transaction that is in flight: what was asked, how far it has come, what its earlier phases hold, and its age.
+pub record ActiveTransaction : Type 0 where
   pub request : Request
   pub progress : Progress
-  pub held : List (List Claiming)
+  pub held : List (List ClaimView)
   pub age : ℕ
 
 -- how far the transaction in each slot has come
-abbrev pub Courses : Type 0
-Courses = ℕ → UnderWay
+abbrev pub ActiveTransactions : Type 0
+ActiveTransactions = ℕ → ActiveTransaction
 
 -- the action of this number of its phase, from 0, does this
-abbrev pub IsWorkAt : UnderWay → ℕ → Work → Type 0
+abbrev pub IsWorkAt : ActiveTransaction → ℕ → Work → Type 0
 IsWorkAt u number work = slice_get (works_of u.progress) number ≡ Some work
 
 -- and has this place, after the actions of the phases before
-abbrev pub IsPlaceOf : UnderWay → ℕ → ℕ → Type 0
+abbrev pub IsPlaceOf : ActiveTransaction → ℕ → ℕ → Type 0
 IsPlaceOf u number place = place ≡ length u.held + number
 
 module _ {J : Type 0} where
@@ -91,63 +91,63 @@ module _ {J : Type 0} where
     pub request : t.pass.asks.request ≡ t.request
 
   -- the transaction is the one in this slot, and has come so far
-  pub record IsSoundJourney (slot : ℕ) (u : UnderWay) (journey : Journey J) : Type 0 where
-    pub asked : IsAskedBy journey.transaction
-    pub slot_is : journey.transaction.slot ≡ slot
-    pub request : journey.transaction.request ≡ u.request
-    pub held : journey.transaction.held ≡ u.held
-    pub progress : journey.progress ≡ u.progress
-    pub age : journey.transaction.age ≡ u.age
+  pub record IsSoundFlow (slot : ℕ) (u : ActiveTransaction) (flow : Flow J) : Type 0 where
+    pub asked : IsAskedBy flow.transaction
+    pub slot_is : flow.transaction.slot ≡ slot
+    pub request : flow.transaction.request ≡ u.request
+    pub held : flow.transaction.held ≡ u.held
+    pub progress : flow.progress ≡ u.progress
+    pub age : flow.transaction.age ≡ u.age
 
   -- the transaction goes with the first action of its phase, and with no other
-  abbrev pub IsCarriedAt : ℕ → UnderWay → ℕ → Option (Journey J) → Type 0
+  abbrev pub IsCarriedAt : ℕ → ActiveTransaction → ℕ → Option (Flow J) → Type 0
   IsCarriedAt slot u zero None = ⊥
-  IsCarriedAt slot u zero (Some journey) = IsSoundJourney slot u journey
+  IsCarriedAt slot u zero (Some flow) = IsSoundFlow slot u flow
   IsCarriedAt slot u (suc number) None = Unit {0}
-  IsCarriedAt slot u (suc number) (Some journey) = ⊥
+  IsCarriedAt slot u (suc number) (Some flow) = ⊥
 
-  -- ---- one thing that is under way
+  -- ---- one thing that is in flight
 
   -- a beginning has the works of the first phase, which are few and can all be done
-  pub record IsSoundStart (shared : Shared) (u : UnderWay) (journey : Journey J) (works : List Work) : Type 0 where
-    pub journey_is : IsSoundJourney journey.transaction.slot u journey
+  pub record IsSoundStart (shared : SharedTables) (u : ActiveTransaction) (flow : Flow J) (works : List Work) : Type 0 where
+    pub flow_is : IsSoundFlow flow.transaction.slot u flow
     pub works_are : works ≡ works_of u.progress
     pub can : All (CanDo shared) works
-    pub few : length journey.transaction.held + length works ≤ MOST_ACTIONS
+    pub few : length flow.transaction.held + length works ≤ MOST_ACTIONS
 
   -- an action does the work of its place, which can be done, and is of its transaction's age
-  pub record IsSoundErrand (shared : Shared) (u : UnderWay) (errand : Errand J) : Type 0 where
+  pub record IsSoundAct (shared : SharedTables) (u : ActiveTransaction) (act : Act J) : Type 0 where
     pub number : ℕ
-    pub place : IsPlaceOf u number errand.place
-    pub journey : IsCarriedAt errand.slot u number errand.journey
-    pub work : IsWorkAt u number errand.work
-    pub can : CanDo shared errand.work
-    pub age : errand.age ≡ u.age
+    pub place : IsPlaceOf u number act.place
+    pub flow : IsCarriedAt act.slot u number act.flow
+    pub work : IsWorkAt u number act.work
+    pub can : CanDo shared act.work
+    pub age : act.age ≡ u.age
 
   -- a message is sound, by its kind, with how far its transaction has come
-  abbrev pub IsSoundMessage : Shared → Courses → Message J → Type 0
-  IsSoundMessage shared at (message.Start journey works) = IsSoundStart shared (at journey.transaction.slot) journey works.items
-  IsSoundMessage shared at (message.Errand errand) = IsSoundErrand shared (at errand.slot) errand
+  abbrev pub IsSoundMessage : SharedTables → ActiveTransactions → Message J → Type 0
+  IsSoundMessage shared at (message.Start flow works) = IsSoundStart shared (at flow.transaction.slot) flow works.items
+  IsSoundMessage shared at (message.Act act) = IsSoundAct shared (at act.slot) act
   IsSoundMessage shared at (message.Settle slot claims) = AreSettledBy (at slot).age claims
   IsSoundMessage shared at (message.Undo slot claims) = AreUndoneBy (at slot).age claims
 
   -- An action that ran did the work of its number under claims of its transaction, and all of it can be taken back; one that died
   -- names a group that it claims for its work, and an age that is less than its transaction's.
-  abbrev pub IsSoundRan : Shared → UnderWay → ℕ → Ran J → Type 0
+  abbrev pub IsSoundRan : SharedTables → ActiveTransaction → ℕ → Ran J → Type 0
   IsSoundRan shared u number (ran.Done claims found) = (work : Work) × (IsWorkAt u number work × (HasDone shared work found claims × AreUndoneBy u.age claims))
-  IsSoundRan shared u number (ran.Died group holder) = (work : Work) × (IsWorkAt u number work × (Contains (groups_of (wishes_of work)) group × (holder < u.age)))
+  IsSoundRan shared u number (ran.Died group holder) = (work : Work) × (IsWorkAt u number work × (Contains (groups_of (group_wants_of work)) group × (holder < u.age)))
   IsSoundRan shared u number ran.NoMemory = Unit {0}
 
   -- a report is of its place, and what it tells of was done as the phase has it
-  pub record IsSoundReport (shared : Shared) (u : UnderWay) (r : Report J) : Type 0 where
+  pub record IsSoundReport (shared : SharedTables) (u : ActiveTransaction) (r : Report J) : Type 0 where
     pub number : ℕ
     pub place : IsPlaceOf u number r.place
-    pub journey : IsCarriedAt r.slot u number r.journey
+    pub flow : IsCarriedAt r.slot u number r.flow
     pub ran : IsSoundRan shared u number r.ran
 
   -- A commit is of a request that its check accepts, and that was carried out under the transaction's claims with this
   -- reply, from any opening; and all can be undone.
-  pub record IsSoundCommit (shared : Shared) (u : UnderWay) (commit : Commit J) : Type 0 where
+  pub record IsSoundCommit (shared : SharedTables) (u : ActiveTransaction) (commit : Commit J) : Type 0 where
     pub asked : IsAskedBy commit.transaction
     pub accepted : IsAccepted shared.scale commit.transaction.request
     pub carried_out : (opening : Database) → shared_of opening ≡ shared → IsCarriedOut opening commit.transaction.request (all_claims commit.transaction.held) commit.reply
@@ -155,16 +155,16 @@ module _ {J : Type 0} where
     pub few : length commit.transaction.held ≤ MOST_ACTIONS
 
   -- An answer is for one of 64 sessions, which asks its number; and a death is of somebody older, on a group of what was asked.
-  abbrev pub IsSoundReply : Told J → Type 0
-  IsSoundReply told = (told.pass.session < 64) × ((told.pass.asks.number ≡ told.number) × AnswersOlder (groups_of (footprint told.pass.asks.request)) told.age told.answer)
+  abbrev pub IsSoundReply : SessionAnswer J → Type 0
+  IsSoundReply recorded = (recorded.pass.session < 64) × ((recorded.pass.asks.number ≡ recorded.number) × AnswersOlder (groups_of (footprint recorded.pass.asks.request)) recorded.age recorded.answer)
 
   -- an item is sound, by its kind
-  abbrev pub IsSoundItem : Shared → Courses → Item J → Type 0
+  abbrev pub IsSoundItem : SharedTables → ActiveTransactions → Item J → Type 0
   IsSoundItem shared at (item.Push message) = IsSoundMessage shared at message
   IsSoundItem shared at (item.Report r) = IsSoundReport shared (at r.slot) r
   IsSoundItem shared at (item.Ended slot) = Unit {0}
   IsSoundItem shared at (item.Commit commit) = IsSoundCommit shared (at commit.transaction.slot) commit
-  IsSoundItem shared at (item.Reply told) = IsSoundReply told
+  IsSoundItem shared at (item.Reply recorded) = IsSoundReply recorded
 
   -- ---- the active transactions
 
@@ -192,10 +192,10 @@ module _ {J : Type 0} where
   awaited_by_all slot [] = []
   awaited_by_all slot (a ∷ active) = awaited slot a ++ awaited_by_all (suc slot) active
 
-  -- A phase that is under way, of the transaction in this slot: its first place comes after those of the phases before; the request has come so far under what
+  -- A phase that is in flight, of the transaction in this slot: its first place comes after those of the phases before; the request has come so far under what
   -- these hold, all of which can be taken back; each of its actions has its place; what was reported is sound; and some action
   -- has not reported.
-  pub record IsSoundPhase (shared : Shared) (slot : ℕ) (u : UnderWay) (first : ℕ) (slots : List (Option (Report J))) : Type 0 where
+  pub record IsSoundPhase (shared : SharedTables) (slot : ℕ) (u : ActiveTransaction) (first : ℕ) (slots : List (Option (Report J))) : Type 0 where
     pub first_is : first ≡ length u.held
     pub reached : IsReached shared u.request u.progress u.held
     pub undo : All (AreUndoneBy u.age) u.held
@@ -204,23 +204,23 @@ module _ {J : Type 0} where
     pub awaits : 1 ≤ length (awaited_from 0 slots)
 
   -- the transaction in a slot is sound, by how far it has come
-  abbrev pub IsSoundActive : Shared → ℕ → UnderWay → Option (Active J) → Type 0
+  abbrev pub IsSoundActive : SharedTables → ℕ → ActiveTransaction → Option (Active J) → Type 0
   IsSoundActive shared slot u None = Unit {0}
   IsSoundActive shared slot u (Some (active.Acting first places)) = IsSoundPhase shared slot u first places
   IsSoundActive shared slot u (Some active.Committing) = Unit {0}
   IsSoundActive shared slot u (Some (active.Ending left)) = (1 ≤ left) × (left ≤ MOST_ACTIONS)
 
   -- and each, from this slot on
-  abbrev pub AreSoundActive : Shared → Courses → ℕ → List (Option (Active J)) → Type 0
+  abbrev pub AreSoundActive : SharedTables → ActiveTransactions → ℕ → List (Option (Active J)) → Type 0
   AreSoundActive shared at slot [] = Unit {0}
   AreSoundActive shared at slot (a ∷ active) = IsSoundActive shared slot (at slot) a × AreSoundActive shared at (suc slot) active
 
   -- the transaction in some slot is active, and of this age
-  abbrev pub IsActiveAt : Courses → List (Option (Active J)) → ℕ → Type 0
+  abbrev pub IsActiveAt : ActiveTransactions → List (Option (Active J)) → ℕ → Type 0
   IsActiveAt at slots age = (slot : ℕ) × ((a : Active J) × ((slice_get slots slot ≡ Some (Some a)) × (age ≡ (at slot).age)))
 
   -- each active transaction has an age that was admitted, and no two have the same
-  pub record HaveTheirAges (at : Courses) (admitted : ℕ) (slots : List (Option (Active J))) : Type 0 where
+  pub record HaveTheirAges (at : ActiveTransactions) (admitted : ℕ) (slots : List (Option (Active J))) : Type 0 where
     pub before : (slot : ℕ) (a : Active J) → slice_get slots slot ≡ Some (Some a) → (at slot).age < admitted
     pub apart : (slot other : ℕ) (a b : Active J) → slice_get slots slot ≡ Some (Some a) → slice_get slots other ≡ Some (Some b) → (at slot).age ≡ (at other).age → slot ≡ other
 
@@ -236,30 +236,30 @@ module _ {J : Type 0} where
 
   -- ---- the world
 
-  -- all that is under way: messages, items, and reports that have met
+  -- all that is in flight: messages, items, and reports that have met
   abbrev pub flight : Parts J → InFlight
   flight w = join (parts part_message w.inbox) (join (parts part_item w.outbox) (parts part_met (reported_to_all w.desk.active)))
 
   -- Of the active transactions there is just what has to come back, whatever the tokens weigh; a session's pass is at the desk
   -- exactly while the session has no transaction without an answer; and there are 64 sessions.
-  pub record IsBalanced (desk : Desk J) (under_way : InFlight) : Type 0 where
-    pub tokens : WeighAlike under_way.tokens (awaited_by_all 0 desk.active)
+  pub record IsBalanced (desk : Desk J) (in_flight : InFlight) : Type 0 where
+    pub tokens : WeighAlike in_flight.tokens (awaited_by_all 0 desk.active)
     pub alone : (number : ℕ) (session : SessionDesk J) → slice_get desk.sessions.items number ≡ Some session
-        → count_by (is_of number) under_way.pending + (if is_here session then 1 else 0) ≡ 1
-    pub many : length under_way.pending + count_by is_here desk.sessions.items ≡ 64
+        → count_by (is_of number) in_flight.pending + (if is_here session then 1 else 0) ≡ 1
+    pub many : length in_flight.pending + count_by is_here desk.sessions.items ≡ 64
 
   -- What the world keeps, with this in hand: there is a slice for each warehouse of this scale, in order, which share these items; and each thing under
   -- way is sound, by how far its transaction has come; there are 64 slots, and those who are active have their ages; and the claims
-  -- that the lock tables have out are those under way.
-  pub record IsSoundWith (shared : Shared) (hand : InFlight) (w : Parts J) : Type 0 where
+  -- that the lock tables have out are those in flight.
+  pub record IsSoundWith (shared : SharedTables) (hand : InFlight) (w : Parts J) : Type 0 where
     pub shared_is : w.catalog ≡ shared
     pub slices : AreSlicesOf w.catalog (slices_in w)
-    pub under_way : Courses
-    pub inbox : All (IsSoundMessage shared under_way) w.inbox
-    pub outbox : All (IsSoundItem shared under_way) w.outbox
+    pub in_flight : ActiveTransactions
+    pub inbox : All (IsSoundMessage shared in_flight) w.inbox
+    pub outbox : All (IsSoundItem shared in_flight) w.outbox
     pub slots : length w.desk.active ≡ 64
-    pub active : AreSoundActive shared under_way 0 w.desk.active
-    pub ages : HaveTheirAges under_way w.desk.admitted w.desk.active
+    pub active : AreSoundActive shared in_flight 0 w.desk.active
+    pub ages : HaveTheirAges in_flight w.desk.admitted w.desk.active
     pub seats : length w.desk.sessions.items ≡ 64
     pub sessions : (number : ℕ) (session : SessionDesk J) → slice_get w.desk.sessions.items number ≡ Some session → IsSessionOf number session
     pub balance : IsBalanced w.desk (join hand (flight w))

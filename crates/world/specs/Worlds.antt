@@ -8,7 +8,7 @@ use Rattle.requests.specs.declared.refusal.Refusal.{Refusal}
 use Rattle.requests.specs.declared.refusal.Refusal.TheVariants as refusal
 use Rattle.groups.specs.Content.{content}
 use Rattle.groups.specs.Footprint.{footprint, groups_of}
-use Rattle.tickets.specs.Claims.{Claiming}
+use Rattle.tickets.specs.Claims.{ClaimView}
 use Rattle.tickets.specs.Committed.{AreCommitted}
 use Rattle.machine.specs.Machine.{tables_after}
 use Rattle.commit_log.specs.declared.entry.Entry.{Entry}
@@ -17,34 +17,34 @@ use Rattle.history.specs.declared.event.Event.{Event}
 use Rattle.history.specs.declared.event.Event.TheVariants.{Submit, Order, Take, Send}
 use Rattle.history.specs.declared.event.EventAnswer.{EventAnswer}
 use Rattle.history.specs.declared.event.EventAnswer.TheVariants.{Accepted, Answered, Nothing}
-use Rattle.history.specs.History.{Step, Unanswered, step, is_of}
+use Rattle.history.specs.History.{Step, UnansweredTransaction, step, is_of}
 use Rattle.history.specs.Fits.{Fits as HistoryFits}
 use Rattle.history.specs.Laws.{IsAnswerTo}
 use Rattle.history.specs.Schedules.{IsIdle, Round}
 use Rattle.local_locks.specs.Conflicts.{Blocks}
 use Rattle.local_locks.specs.Laws.{Path}
-use Rattle.local_locks.specs.Locking.{Holding, Waiting}
-use Rattle.slices.specs.Sliced.{AreAllHeld, Joined, all_standing, everywhere}
+use Rattle.local_locks.specs.LockTableView.{HeldClaim, WaitingAction}
+use Rattle.slices.specs.SliceView.{AreAllHeld, JoinedSlices, all_standing, everywhere}
 use Rattle.transactions.specs.declared.acting.Ran.{Ran}
 use Rattle.transactions.specs.declared.acting.Ran.TheVariants as ran
-use Rattle.transactions.specs.Stations.{Stationed}
+use Rattle.transactions.specs.Shards.{ShardView}
 use Rattle.world.specs.declared.flight.Carried.{Carried}
 use Rattle.world.specs.declared.flight.Item.{Item}
 use Rattle.world.specs.declared.flight.Item.TheVariants as item
-use Rattle.world.specs.declared.flight.Posted.{Posted}
+use Rattle.world.specs.declared.flight.Outgoing.{Outgoing}
 use Rattle.world.specs.declared.world.Parts.{Parts}
 use Rattle.world.specs.declared.world.Core.{Core}
 use Rattle.world.specs.Slots.{count_active}
 use Rattle.world.specs.Flights.{InFlight, nothing}
 use Rattle.world.specs.Parted.{joined_in}
-use Rattle.world.specs.Stations.{waiting_in}
-use Rattle.world.specs.Sound.{Courses, IsActiveAt, IsSoundWith, flight}
+use Rattle.world.specs.Shards.{waiting_in}
+use Rattle.world.specs.Sound.{ActiveTransactions, IsActiveAt, IsSoundWith, flight}
 use Rattle.world.specs.Changes.{ChangesOnly}
 use Rattle.world.specs.Happening.{CanOrder, CannotSubmit, Happens, begins_at, has_room}
 use Rattle.range_moves.specs.Traffic.{AreOwned}
-use Rattle.world.specs.Letters.{items_in, sent_in}
+use Rattle.world.specs.Envelopes.{items_in, sent_in}
 use Rattle.world.specs.Queues.{all_of, queue_of}
-use Rattle.world.specs.Together.{letters_of_all, together}
+use Rattle.world.specs.Together.{envelopes_of_all, together}
 
 -- ---- the history
 
@@ -57,22 +57,22 @@ abbrev pub WasAccepted : List Step → ℕ → Request → Type 0
 WasAccepted history age request = (session : ℕ) × ((number : ℕ) × Contains history (step (Submit session number request) (Accepted age)))
 
 -- so it tells of a transaction without an answer
-abbrev pub IsAcceptedIn : List Step → Unanswered → Type 0
+abbrev pub IsAcceptedIn : List Step → UnansweredTransaction → Type 0
 IsAcceptedIn history u = WasAccepted history u.age u.request
 
 -- the claim is on a group of the footprint of the request that was accepted with its age
-abbrev pub IsClaimOf : List Step → Claiming → Type 0
+abbrev pub IsClaimOf : List Step → ClaimView → Type 0
 IsClaimOf history claim = (asked : Request) × (WasAccepted history claim.by.age asked × Contains (groups_of (footprint asked)) claim.group)
 
--- A history fits an opening, a log and what is under way: so it does by the log alone; the tables that the machine leaves are
+-- A history fits an opening, a log and what is in flight: so it does by the log alone; the tables that the machine leaves are
 -- the committed ones while these claims are out; these are all that are out, as the lock tables have it; each transaction without an
 -- answer was accepted; and each claim is on a group of the footprint of the request that was accepted with its age.
-pub record FitsPart (opening : Database) (history : List Step) (log : List Entry) (slices : Joined) (admitted : ℕ) (under_way : InFlight) : Type 0 where
-  pub told : HistoryFits opening history log (tables_now opening log) admitted under_way.pending
-  pub committed : AreCommitted everywhere (content (tables_now opening log)) (all_standing slices) under_way.claims
-  pub held : AreAllHeld slices.holdings under_way.claims
-  pub accepted : All (IsAcceptedIn history) under_way.pending
-  pub claimed : All (IsClaimOf history) under_way.claims
+pub record FitsPart (opening : Database) (history : List Step) (log : List Entry) (slices : JoinedSlices) (admitted : ℕ) (in_flight : InFlight) : Type 0 where
+  pub recorded : HistoryFits opening history log (tables_now opening log) admitted in_flight.pending
+  pub committed : AreCommitted everywhere (content (tables_now opening log)) (all_standing slices) in_flight.claims
+  pub held : AreAllHeld slices.holdings in_flight.claims
+  pub accepted : All (IsAcceptedIn history) in_flight.pending
+  pub claimed : All (IsClaimOf history) in_flight.claims
   pub scale : slices.tables.scale ≡ opening.scale
   pub items : slices.tables.items ≡ opening.items
 
@@ -84,17 +84,17 @@ steps_of (event ∷ events) (answer ∷ answers) = step event answer ∷ steps_o
 
 -- so it is told whether nothing could happen in a round
 abbrev pub IsIdleExactly : Bool → Round → Type 0
-IsIdleExactly told r = IsTrue told ↔ IsIdle r
+IsIdleExactly recorded r = IsTrue recorded ↔ IsIdle r
 
 -- Of a transaction without an answer: it is the session's, with this number; and what is told is the place of its entry, or, where
 -- it has none, why it is refused.
-pub record IsAnsweredSo (session number : ℕ) (told : Result ℕ Refusal) (u : Unanswered) : Type 0 where
+pub record IsAnsweredSo (session number : ℕ) (recorded : Result ℕ Refusal) (u : UnansweredTransaction) : Type 0 where
   pub session_is : u.session ≡ session
   pub number_is : u.number ≡ number
-  pub answer_is : IsAnswerTo u told
+  pub answer_is : IsAnswerTo u recorded
 
 -- of a transaction without an answer: it is the session's, with this number; the group is one of its footprint, and the holder is older
-pub record IsRefusedFor (session number : ℕ) (group : Group) (holder : ℕ) (u : Unanswered) : Type 0 where
+pub record IsRefusedFor (session number : ℕ) (group : Group) (holder : ℕ) (u : UnansweredTransaction) : Type 0 where
   pub session_is : u.session ≡ session
   pub number_is : u.number ≡ number
   pub of_footprint : Contains (groups_of (footprint u.request)) group
@@ -114,25 +114,25 @@ module _ {J : Type 0} where
   -- This was asked. A submission is told at once, by its own number, why it is refused; and who is told anything later has a
   -- transaction without an answer, with this number, and is told of that one.
   abbrev pub WasAsked : Event → Core J → ℕ → ℕ → Result ℕ Refusal → Type 0
-  WasAsked (Submit asking mine asked) w session number told = (session ≡ asking) × ((number ≡ mine) × ((why : Refusal) × (told ≡ Err why)))
-  WasAsked event w session number told = (u : Unanswered) × (Contains (flight (together w)).pending u × IsAnsweredSo session number told u)
+  WasAsked (Submit asking mine asked) w session number recorded = (session ≡ asking) × ((number ≡ mine) × ((why : Refusal) × (recorded ≡ Err why)))
+  WasAsked event w session number recorded = (u : UnansweredTransaction) × (Contains (flight (together w)).pending u × IsAnsweredSo session number recorded u)
 
   -- whoever is answered had asked
   abbrev pub AnswersWhoAsked : Event → Core J → EventAnswer → Type 0
-  AnswersWhoAsked event w answer = (session number : ℕ) (told : Result ℕ Refusal) → answer ≡ Answered session number told → WasAsked event w session number told
+  AnswersWhoAsked event w answer = (session number : ℕ) (recorded : Result ℕ Refusal) → answer ≡ Answered session number recorded → WasAsked event w session number recorded
 
   -- ---- deaths
 
   -- A session that is told of a death had a transaction without an answer, with the number that it is told: a group of that one's
   -- footprint is named, and the age of an older one.
-  abbrev pub TellsOfOlder : Core J → EventAnswer → Type 0
-  TellsOfOlder w answer =
+  abbrev pub RecordsOfOlder : Core J → EventAnswer → Type 0
+  RecordsOfOlder w answer =
       (session number : ℕ) (group : Group) (holder : ℕ) → answer ≡ Answered session number (Err (refusal.Died group holder))
-      → (u : Unanswered) × (Contains (flight (together w)).pending u × IsRefusedFor session number group holder u)
+      → (u : UnansweredTransaction) × (Contains (flight (together w)).pending u × IsRefusedFor session number group holder u)
 
   -- The transaction in this slot dies on this group of one of this age, who is older, is active, and has a claim on the group, as a
   -- lock table has it. The group is of the footprints of both, by the requests that the history tells were accepted with their ages.
-  pub record DiesOf (history : List Step) (w : Parts J) (at : Courses) (slot : ℕ) (group : Group) (holder : ℕ) : Type 0 where
+  pub record DiesOf (history : List Step) (w : Parts J) (at : ActiveTransactions) (slot : ℕ) (group : Group) (holder : ℕ) : Type 0 where
     pub accepted : WasAccepted history (at slot).age (at slot).request
     pub of_footprint : Contains (groups_of (footprint (at slot).request)) group
     pub older : holder < (at slot).age
@@ -141,30 +141,30 @@ module _ {J : Type 0} where
     pub holder_accepted : WasAccepted history holder asked
     pub of_holder : Contains (groups_of (footprint asked)) group
     pub w_id : ℕ
-    pub holding : Holding
+    pub holding : HeldClaim
     pub out : Contains ((joined_in w).holdings w_id) holding
     pub on : holding.group ≡ group
     pub by : holding.by.age ≡ holder
 
   -- an action of the transaction in this slot, if it has died, died of such a one
-  abbrev pub DiedOfOlder : List Step → Parts J → Courses → ℕ → Ran J → Type 0
+  abbrev pub DiedOfOlder : List Step → Parts J → ActiveTransactions → ℕ → Ran J → Type 0
   DiedOfOlder history w at slot (ran.Done claims found) = Unit {0}
   DiedOfOlder history w at slot (ran.Died group holder) = DiesOf history w at slot group holder
   DiedOfOlder history w at slot ran.NoMemory = Unit {0}
 
   -- the item, if it is a report of a death, tells of such a one
-  abbrev pub TellsWhom : List Step → Parts J → Courses → Item J → Type 0
-  TellsWhom history w at (item.Report report) = DiedOfOlder history w at report.slot report.ran
-  TellsWhom history w at item = Unit {0}
+  abbrev pub RecordsWhom : List Step → Parts J → ActiveTransactions → Item J → Type 0
+  RecordsWhom history w at (item.Report report) = DiedOfOlder history w at report.slot report.ran
+  RecordsWhom history w at item = Unit {0}
 
   -- Who dies as an executor works on a message, dies of somebody older who is active: each report that is put tells so. What slot has
-  -- which transaction is known by the courses by which all that is under way is sound: there are such, and it is so by whichever
+  -- which transaction is known by the courses by which all that is in flight is sound: there are such, and it is so by whichever
   -- they are.
   abbrev pub DieOfOlder : List Step → Event → Core J → Core J → Type 0
   DieOfOlder history (Take executor) old new =
       IsSoundWith new.parts.catalog nothing (together new)
-      × ((known : IsSoundWith new.parts.catalog nothing (together new)) (posts : List (Posted J)) → queue_of executor new.outboxes ≡ queue_of executor old.outboxes ++ posts
-      → All (TellsWhom history (together new) known.under_way) (items_in posts))
+      × ((known : IsSoundWith new.parts.catalog nothing (together new)) (posts : List (Outgoing J)) → queue_of executor new.outboxes ≡ queue_of executor old.outboxes ++ posts
+      → All (RecordsWhom history (together new) known.in_flight) (items_in posts))
   DieOfOlder history event old new = Unit {0}
 
   -- so it is by every history that fits the world after the event
@@ -175,7 +175,7 @@ module _ {J : Type 0} where
 
   -- How many transactions are active, and how many reports the move lacks that is outstanding: nothing is where neither is.
   abbrev pub count_busy : Core J → ℕ
-  count_busy w = count_active w.parts.desk.active + w.houses.awaited
+  count_busy w = count_active w.parts.desk.active + w.placements.awaited
 
   -- no executor can take anything, or send anything
   abbrev pub IsAtRest : Core J → Type 0
@@ -206,43 +206,43 @@ module _ {J : Type 0} where
   HasNotDied ran.NoMemory = Unit {0}
 
   -- the item, if it is a report, tells of no death
-  abbrev pub TellsNoDeath : Item J → Type 0
-  TellsNoDeath (item.Report report) = HasNotDied report.ran
-  TellsNoDeath item = Unit {0}
+  abbrev pub RecordsNoDeath : Item J → Type 0
+  RecordsNoDeath (item.Report report) = HasNotDied report.ran
+  RecordsNoDeath item = Unit {0}
 
   -- No action dies as an executor works on a message: no report that is put tells of a death.
   abbrev pub NoneDies : Event → Core J → Core J → Type 0
   NoneDies (Take executor) old new =
-      (posts : List (Posted J)) → queue_of executor new.outboxes ≡ queue_of executor old.outboxes ++ posts → All TellsNoDeath (items_in posts)
+      (posts : List (Outgoing J)) → queue_of executor new.outboxes ≡ queue_of executor old.outboxes ++ posts → All RecordsNoDeath (items_in posts)
   NoneDies event old new = Unit {0}
 
   -- ---- where slices are
 
   -- The slice of each warehouse is at one executor, and no parcel of it is on its way; or it is in just one parcel.
   abbrev pub IsOwned : Core J → Type 0
-  IsOwned w = AreOwned w.houses (sent_in (letters_of_all w))
+  IsOwned w = AreOwned w.placements (sent_in (envelopes_of_all w))
 
   -- ---- never stuck
 
-  -- one of age t waits, at some station, for a group on which one of age u has a claim that is in its way
+  -- one of age t waits, at some shard, for a group on which one of age u has a claim that is in its way
   pub record WaitsFor (w : Parts J) (t u : ℕ) : Type 0 where
-    pub station : Stationed (Carried J)
-    pub there : Contains w.stations.items station
-    pub waiting : Waiting
-    pub waits : Contains station.slice.waiters waiting
+    pub shard : ShardView (Carried J)
+    pub there : Contains w.shards.items shard
+    pub waiting : WaitingAction
+    pub waits : Contains shard.slice.waiters waiting
     pub age : waiting.by.age ≡ t
-    pub holding : Holding
-    pub blocks : Blocks station.slice.holdings waiting.wants holding
+    pub holding : HeldClaim
+    pub blocks : Blocks shard.slice.holdings waiting.wants holding
     pub holder : holding.by.age ≡ u
 
-  -- No transaction is active, nothing is under way, nobody waits, no lock table has a claim out, no move is outstanding, and nothing is
+  -- No transaction is active, nothing is in flight, nobody waits, no lock table has a claim out, no move is outstanding, and nothing is
   -- parked.
   pub record IsIdleAt (w : Core J) : Type 0 where
     pub active : count_active w.parts.desk.active ≡ 0
     pub claims : (flight (together w)).claims ≡ []
     pub waiting : waiting_in w.parts ≡ []
     pub holdings : (w_id : ℕ) → (joined_in w.parts).holdings w_id ≡ []
-    pub awaited : w.houses.awaited ≡ 0
+    pub awaited : w.placements.awaited ≡ 0
     pub parked : w.parked ≡ []
 
   -- No world is stuck. Who waits is older than each that it waits for, and so none waits for itself, through any others; and where
@@ -266,9 +266,9 @@ module _ {J : Type 0} where
     pub nothing : (s.answer ≡ Nothing) ↔ CannotHappen s.event old
     pub busy : IsBusyExactly s.event old s.answer
     pub asked : AnswersWhoAsked s.event old s.answer
-    pub died : TellsOfOlder old s.answer
+    pub died : RecordsOfOlder old s.answer
     pub dies : AllDieOfOlder s.event old new
-    pub executors : new.houses.executors ≡ old.houses.executors
+    pub executors : new.placements.executors ≡ old.placements.executors
     pub owned : IsOwned new
     pub never_stuck : IsNeverStuck new
     pub alone : (opening : Database) (history : List Step) → Fits opening history (together old) → count_active old.parts.desk.active ≡ 1 → NoneDies s.event old new

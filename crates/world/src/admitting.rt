@@ -1,13 +1,13 @@
 //! A session submits a request.
 ghost use Rattle.std.specs.Prelude.{◌≡◌, ◌<◌, [], Err, IfOk, IfSome, OnOk, OnErr, IsTrue, is_some, None, Some, slice_get};
 ghost use Rattle.commit_log.specs.Asks.{asking};
-ghost use Rattle.commit_log.specs.Passing.{seating, with_asks};
+ghost use Rattle.commit_log.specs.PassView.{session_seat_view, with_asks};
 ghost use Rattle.world.specs.declared.desk.SessionDesk.{SessionDesk as AnyDesk};
 ghost use Rattle.world.specs.Happening.{Admits, CanAsk, CanSubmit, SubmitsAt};
 
 use crate::beginning::Phase;
 use crate::desk::{Active, SessionDesk};
-use crate::flight::{Journey, Message, Transaction};
+use crate::flight::{Flow, Message, Transaction};
 use crate::world::Parts;
 use commit_log::{Names, Pass};
 use history::EventAnswer;
@@ -84,11 +84,11 @@ impl<J: Names> Parts<J> {
             pass,
             held,
         };
-        let journey = Journey {
+        let flow = Flow {
             transaction,
             progress,
         };
-        self.inbox.put(Message::Start(journey, works));
+        self.inbox.put(Message::Start(flow, works));
         self.desk.admitted = age + 1;
         let acting = Active::Acting { first: 0, meeting };
         self.desk.active.put(slot, Some(acting));
@@ -111,7 +111,7 @@ fn ask<J: Names>(desk: &mut SessionDesk<J>, number: u32, request: &Request) -> P
     requires here { IsTrue (is_some desk.old.pass) }
     requires session { IfSome desk.old.pass (λ pass. pass.session ≡ desk.old.seat.session) }
     ensures pass { IfSome desk.old.pass (λ pass. result ≡ with_asks pass (asking number request.now pass.seen pass.mine)) }
-    ensures seat { desk.new.seat ≡ seating desk.old.seat.session result.asks }
+    ensures seat { desk.new.seat ≡ session_seat_view desk.old.seat.session result.asks }
     ensures away { desk.new.pass ≡ None }
 {
     let Some(mut pass) = desk.pass.take() else {

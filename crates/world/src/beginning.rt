@@ -1,9 +1,9 @@
 //! A phase begins.
 ghost use Rattle.std.specs.Prelude.{◌≡◌, ◌≤◌, ◌+◌, ◌++◌, length, replicate, IfOk, None, Some};
 ghost use Rattle.transactions.specs.Progresses.{works_of};
-ghost use Rattle.world.specs.Following.{errands_of};
+ghost use Rattle.world.specs.Following.{acts_of};
 
-use crate::flight::{Errand, Item, Journey, Message, Report};
+use crate::flight::{Act, Item, Flow, Message, Report};
 use crate::world::Parts;
 use commit_log::Names;
 use rendezvous::Meeting;
@@ -34,22 +34,22 @@ impl<J: Names> Phase<J> {
 impl<J: Names> Parts<J> {
     // Puts the actions of a phase at the end of the outbox, by place, after those of the phases before. The
     // first carries the transaction.
-    pub(crate) fn put_errands(&mut self, journey: Journey<J>, works: Vec<Work>)
+    pub(crate) fn put_acts(&mut self, flow: Flow<J>, works: Vec<Work>)
         requires room { length self.old.outbox + length works.items ≤ 4096 }
-        requires held { length journey.transaction.held ≤ MOST_ACTIONS }
-        ensures { self.new ≡ record self.old { outbox = self.old.outbox ++ errands_of journey works.items } }
+        requires held { length flow.transaction.held ≤ MOST_ACTIONS }
+        ensures { self.new ≡ record self.old { outbox = self.old.outbox ++ acts_of flow works.items } }
     {
-        let age = journey.transaction.age;
-        let slot = journey.transaction.slot;
-        let mut place = journey.transaction.held.len();
-        let mut carried = Some(journey);
+        let age = flow.transaction.age;
+        let slot = flow.transaction.slot;
+        let mut place = flow.transaction.held.len();
+        let mut carried = Some(flow);
         for work in works {
-            self.outbox.put(Item::Push(Message::Errand(Errand {
+            self.outbox.put(Item::Push(Message::Act(Act {
                 place,
                 age,
                 slot,
                 work,
-                journey: carried.take(),
+                flow: carried.take(),
             })));
             place += 1;
         }

@@ -47,13 +47,13 @@ impl<J: Names> Parts<J> {
             held,
         };
         self.release(over, is_settled);
-        told_of(answer)
+        recorded_of(answer)
     }
 }
 
 // A commit is answered by the place of its entry, or, where the log refused it, as any item that was sent.
-fn told_of(answer: Result<u32, Refusal>) -> EventAnswer
-    ensures { result ≡ spec.told_of answer }
+fn recorded_of(answer: Result<u32, Refusal>) -> EventAnswer
+    ensures { result ≡ spec.recorded_of answer }
 {
     match answer {
         Ok(place) => EventAnswer::Logged { place },

@@ -1,15 +1,15 @@
-//! What executors have in their inboxes and outboxes: letters are opened, and what stands in an outbox is sent.
+//! What executors have in their inboxes and outboxes: envelopes are opened, and what stands in an outbox is sent.
 ghost use Rattle.std.specs.Prelude.{◌≡◌, ◌≤◌, ◌<◌, ◌+◌, All, length};
 ghost use Rattle.partitions.specs.Parts.{shared_of};
 ghost use Rattle.world.specs.declared.flight.Load.TheVariants.{Work};
-ghost use Rattle.world.specs.Happening.{Delivers, Opens, SendsPosted, WorksIfHere, WorksOn, beginning_at, bringing, has_room, posting};
-ghost use Rattle.world.specs.Letters.{HasHome, HasHomeIn, home_of_message, is_for_slice, letter, posted_by as posted_by_spec};
-ghost use Rattle.world.specs.InHand.{Opening, Sending};
+ghost use Rattle.world.specs.Happening.{Delivers, Opens, SendsOutgoing, WorksIfHere, WorksOn, beginning_at, bringing, has_room, posting};
+ghost use Rattle.world.specs.Envelopes.{HasHome, HasHomeIn, home_of_message, is_for_slice, envelope, outgoing_by as outgoing_by_spec};
+ghost use Rattle.world.specs.InHand.{EnvelopeInHand, OutgoingInHand};
 ghost use Rattle.world.specs.Queues.{queue_of};
 ghost use Rattle.transactions.specs.Laws.{TransactionsClaimEachGroupOnce};
-ghost use Rattle.world.specs.Stations.{IsStationOf};
+ghost use Rattle.world.specs.Shards.{IsShardOf};
 
-use crate::flight::{Item, Letter, Load, Message, Posted};
+use crate::flight::{Item, Envelope, Load, Message, Outgoing};
 use crate::homes::{home_of_message as home_of, is_for_slice as needs_slice};
 use crate::world::{Core, INBOX};
 use commit_log::Names;
@@ -18,15 +18,15 @@ use range_moves::{Found, Moving};
 use std::alloc::Global;
 
 impl<J: Names> Core<J> {
-    // ---- a letter is opened
+    // ---- an envelope is opened
 
-    // An executor does what a letter brings.
-    pub(crate) fn open_letter(&mut self, alloc: Global, executor: u32, load: Load<J>)
+    // An executor does what an envelope brings.
+    pub(crate) fn open_envelope(&mut self, alloc: Global, executor: u32, load: Load<J>)
         requires warehouses { J.warehouses ≡ J.opening.scale.warehouses }
         requires once { TransactionsClaimEachGroupOnce }
-        requires opening { Opening (shared_of J.opening) executor load self.old }
+        requires opening { EnvelopeInHand (shared_of J.opening) executor load self.old }
         ensures opens { Opens executor load self.old self.new }
-        ensures stations { All (IsStationOf J.warehouses) self.new.parts.stations.items }
+        ensures shards { All (IsShardOf J.warehouses) self.new.parts.shards.items }
     {
         match load {
             Load::Work(message) => self.work(alloc, executor, message),
@@ -41,22 +41,22 @@ impl<J: Names> Core<J> {
     fn work(&mut self, alloc: Global, executor: u32, message: Message<J>)
         requires warehouses { J.warehouses ≡ J.opening.scale.warehouses }
         requires once { TransactionsClaimEachGroupOnce }
-        requires opening { Opening (shared_of J.opening) executor (Work message) self.old }
+        requires opening { EnvelopeInHand (shared_of J.opening) executor (Work message) self.old }
         ensures works { WorksIfHere (is_for_slice message) executor message self.old self.new }
-        ensures stations { All (IsStationOf J.warehouses) self.new.parts.stations.items }
+        ensures shards { All (IsShardOf J.warehouses) self.new.parts.shards.items }
     {
         if !needs_slice(&message) {
             self.work_on(alloc, executor, message);
             return;
         }
-        match self.houses.find(executor, home_of(&message)) {
+        match self.placements.find(executor, home_of(&message)) {
             Found::Here => self.work_on(alloc, executor, message),
             Found::Went(to) => {
-                let letter = Letter {
+                let envelope = Envelope {
                     to,
                     load: Load::Work(message),
                 };
-                self.outboxes.put(executor as usize, Posted::Letter(letter));
+                self.outboxes.put(executor as usize, Outgoing::Envelope(envelope));
             }
             Found::Unknown => self.parked.put(message),
         }
@@ -66,9 +66,9 @@ impl<J: Names> Core<J> {
     fn work_on(&mut self, alloc: Global, executor: u32, message: Message<J>)
         requires warehouses { J.warehouses ≡ J.opening.scale.warehouses }
         requires once { TransactionsClaimEachGroupOnce }
-        requires opening { Opening (shared_of J.opening) executor (Work message) self.old }
+        requires opening { EnvelopeInHand (shared_of J.opening) executor (Work message) self.old }
         ensures works { WorksOn executor message self.old self.new }
-        ensures stations { All (IsStationOf J.warehouses) self.new.parts.stations.items }
+        ensures shards { All (IsShardOf J.warehouses) self.new.parts.shards.items }
     {
         self.parts.work(alloc, message);
         self.post_all(executor);
@@ -77,43 +77,43 @@ impl<J: Names> Core<J> {
     // ---- what stands in an outbox is sent
 
     // What stood first in an executor's outbox is sent.
-    pub(crate) fn send_posted(
+    pub(crate) fn send_outgoing(
         &mut self,
         alloc: Global,
         executor: u32,
-        posted: Posted<J>,
+        outgoing: Outgoing<J>,
     ) -> EventAnswer
-        requires sending { Sending (shared_of J.opening) executor posted self.old }
-        ensures { SendsPosted executor posted self.old result self.new }
+        requires sending { OutgoingInHand (shared_of J.opening) executor outgoing self.old }
+        ensures { SendsOutgoing executor outgoing self.old result self.new }
     {
-        match posted {
-            Posted::Letter(letter) => self.deliver(executor, letter),
-            Posted::Item(item) => self.send_item(alloc, executor, item),
-            Posted::Arrived => self.arrive(),
+        match outgoing {
+            Outgoing::Envelope(envelope) => self.deliver(executor, envelope),
+            Outgoing::Item(item) => self.send_item(alloc, executor, item),
+            Outgoing::Arrived => self.arrive(),
         }
     }
 
-    // A letter goes to its executor's inbox, if there is room.
-    fn deliver(&mut self, executor: u32, letter: Letter<J>) -> EventAnswer
+    // An envelope goes to its executor's inbox, if there is room.
+    fn deliver(&mut self, executor: u32, envelope: Envelope<J>) -> EventAnswer
         requires there { executor < length self.old.outboxes }
-        requires to { letter.to < length self.old.inboxes }
+        requires to { envelope.to < length self.old.inboxes }
         requires room { length (queue_of executor self.old.outboxes) < 4096 }
-        ensures { Delivers (has_room letter.to self.old) executor letter self.old result self.new }
+        ensures { Delivers (has_room envelope.to self.old) executor envelope self.old result self.new }
     {
-        let to = letter.to as usize;
+        let to = envelope.to as usize;
         if self.inboxes.waiting(to) < INBOX {
-            self.inboxes.put(to, letter);
+            self.inboxes.put(to, envelope);
             EventAnswer::Sent
         } else {
-            self.outboxes.put(executor as usize, Posted::Letter(letter));
+            self.outboxes.put(executor as usize, Outgoing::Envelope(envelope));
             EventAnswer::Full
         }
     }
 
     // An item is sent, and what it brings stands in the executor's outbox.
     fn send_item(&mut self, alloc: Global, executor: u32, item: Item<J>) -> EventAnswer
-        requires sending { Sending (shared_of J.opening) executor (Posted.Item item) self.old }
-        ensures { SendsPosted executor (Posted.Item item) self.old result self.new }
+        requires sending { OutgoingInHand (shared_of J.opening) executor (Outgoing.Item item) self.old }
+        ensures { SendsOutgoing executor (Outgoing.Item item) self.old result self.new }
     {
         let answer = self.parts.send_item(alloc, item);
         self.post_all(executor);
@@ -130,25 +130,25 @@ impl<J: Names> Core<J> {
         ensures { self.new ≡ bringing executor self.old.parts self.old }
     {
         while let Some(item) = self.parts.outbox.take() {
-            let posted = self.posted_by(item);
-            self.outboxes.put(executor as usize, posted);
+            let outgoing = self.outgoing_by(item);
+            self.outboxes.put(executor as usize, outgoing);
         }
     }
 
     // An item as it stands in an outbox: where a push goes is read from the routing now.
-    fn posted_by(&self, item: Item<J>) -> Posted<J>
+    fn outgoing_by(&self, item: Item<J>) -> Outgoing<J>
         requires { HasHomeIn item }
-        ensures { result ≡ posted_by_spec self.now.houses item }
+        ensures { result ≡ outgoing_by_spec self.now.placements item }
     {
         match item {
             Item::Push(message) => {
-                let to = self.houses.route(home_of(&message));
-                Posted::Letter(Letter {
+                let to = self.placements.route(home_of(&message));
+                Outgoing::Envelope(Envelope {
                     to,
                     load: Load::Work(message),
                 })
             }
-            Item::Report(_) | Item::Ended(_) | Item::Commit(_) | Item::Reply(_) => Posted::Item(
+            Item::Report(_) | Item::Ended(_) | Item::Commit(_) | Item::Reply(_) => Outgoing::Item(
                 item,
             ),
         }
@@ -162,11 +162,11 @@ impl<J: Names> Core<J> {
         ensures { self.new ≡ beginning_at to self.old.parts self.old }
     {
         if let Some(message) = self.parts.inbox.take() {
-            let letter = Letter {
+            let envelope = Envelope {
                 to,
                 load: Load::Work(message),
             };
-            self.inboxes.put(to as usize, letter);
+            self.inboxes.put(to as usize, envelope);
         }
     }
 }

@@ -1,4 +1,4 @@
-//! The admission desk: who has a transaction under way.
+//! The admission desk: who has a transaction in flight.
 use crate::Report;
 use crate::slots::Slots;
 use commit_log::{Names, Pass, SessionSeat};
@@ -15,7 +15,7 @@ pub struct SessionDesk<J: Names> {
 /// How far a transaction has come that is active.
 #[derive(Drop)]
 pub enum Active<J: Names> {
-    /// The actions of a phase are under way, and meet here: each by its place, less that of the first.
+    /// The actions of a phase are in flight, and meet here: each by its place, less that of the first.
     Acting {
         first: usize,
         meeting: Meeting<Report<J>>,

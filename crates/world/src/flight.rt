@@ -1,4 +1,4 @@
-//! What is under way: messages to an executor, and items of its outbox.
+//! What is in flight: messages to an executor, and items of its outbox.
 use commit_log::{Names, Pass};
 use range_moves::Moving;
 use requests::{Refusal, Reply, Request};
@@ -22,14 +22,14 @@ pub struct Transaction<J: Names> {
 
 /// A transaction, and how far it has come. It goes with the action of its phase's least place.
 #[derive(Drop)]
-pub struct Journey<J: Names> {
+pub struct Flow<J: Names> {
     pub transaction: Transaction<J>,
     pub progress: Progress,
 }
 
 /// An action of a phase.
 #[derive(Drop)]
-pub struct Errand<J: Names> {
+pub struct Act<J: Names> {
     /// Its place among all actions of its transaction, those of earlier phases before it, from 0.
     pub place: usize,
     /// Those of its transaction.
@@ -37,7 +37,7 @@ pub struct Errand<J: Names> {
     pub slot: usize,
     pub work: Work,
     /// With the least place of its phase, and no other.
-    pub journey: Option<Journey<J>>,
+    pub flow: Option<Flow<J>>,
 }
 
 /// What an action that waits keeps with it beside its work.
@@ -45,15 +45,15 @@ pub struct Errand<J: Names> {
 pub struct Carried<J: Names> {
     /// The slot of its transaction.
     pub slot: usize,
-    pub journey: Option<Journey<J>>,
+    pub flow: Option<Flow<J>>,
 }
 
 /// A message in the executor's inbox.
 #[derive(Drop)]
 pub enum Message<J: Names> {
     /// The first phase of a transaction, with what its actions do, by place.
-    Start(Journey<J>, Vec<Work>),
-    Errand(Errand<J>),
+    Start(Flow<J>, Vec<Work>),
+    Act(Act<J>),
     /// Give the claims of an action back: what they left is committed. The transaction has this slot.
     Settle(usize, Claims<J>),
     /// Take back what an action did, and give its claims back.
@@ -66,7 +66,7 @@ pub struct Report<J: Names> {
     /// Those of the action.
     pub place: usize,
     pub slot: usize,
-    pub journey: Option<Journey<J>>,
+    pub flow: Option<Flow<J>>,
     pub ran: Ran<J>,
 }
 
@@ -80,7 +80,7 @@ pub struct Commit<J: Names> {
 /// An answer on its way to its session, with the session's pass: the place of the entry in the log, or why the request was
 /// refused.
 #[derive(Drop)]
-pub struct Told<J: Names> {
+pub struct SessionAnswer<J: Names> {
     pub age: u64,
     pub number: u32,
     pub pass: Pass<J>,
@@ -99,18 +99,18 @@ pub enum Item<J: Names> {
     /// To the log.
     Commit(Commit<J>),
     /// To the session.
-    Reply(Told<J>),
+    Reply(SessionAnswer<J>),
 }
 
 /// What comes into an executor's inbox.
 #[derive(Drop)]
-pub struct Letter<J: Names> {
+pub struct Envelope<J: Names> {
     /// The executor to which it goes.
     pub to: u32,
     pub load: Load<J>,
 }
 
-/// What a letter brings.
+/// What an envelope brings.
 #[derive(Drop)]
 pub enum Load<J: Names> {
     /// Something to do for a transaction.
@@ -121,9 +121,9 @@ pub enum Load<J: Names> {
 
 /// What stands in an executor's outbox.
 #[derive(Drop)]
-pub enum Posted<J: Names> {
+pub enum Outgoing<J: Names> {
     /// To an executor's inbox. Where it goes was read from the routing as it was made.
-    Letter(Letter<J>),
+    Envelope(Envelope<J>),
     /// Anything but a push.
     Item(Item<J>),
     /// The slice of a warehouse has come to where its move takes it.

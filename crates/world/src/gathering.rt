@@ -7,7 +7,7 @@ ghost use Rattle.world.specs.Events.{CanMeet, MeetsAs, goes_on};
 
 use crate::beginning::Phase;
 use crate::desk::Active;
-use crate::flight::{Commit, Item, Journey, Report, Transaction};
+use crate::flight::{Commit, Item, Flow, Report, Transaction};
 use crate::sending::Release;
 use crate::world::Parts;
 use commit_log::Names;
@@ -17,7 +17,7 @@ use std::alloc::Global;
 use transactions::{Gathered, MOST_ACTIONS, Ran, Sorted};
 
 impl<J: Names> Parts<J> {
-    // All actions of a phase have reported. The first death by place is answered, and else want of memory;
+    // All actions of a phase have reported. The first death by place is answered, and else lack of memory;
     // where there is none, what they found is gathered: the next phase begins, or the transaction is to be logged.
     pub(crate) fn follow(&mut self, alloc: Global, results: Results<Report<J>>)
         requires room { length self.old.outbox + (MOST_ACTIONS + 1) ≤ 4096 }
@@ -25,15 +25,15 @@ impl<J: Names> Parts<J> {
         ensures { MeetsAs results self.old self.new }
     {
         let start = Sorted::start(alloc, results.len());
-        let (journey, sorted) = sort_out(results, start);
-        let Journey {
+        let (flow, sorted) = sort_out(results, start);
+        let Flow {
             transaction,
             progress,
-        } = journey;
+        } = flow;
         match sorted.follow(alloc, progress) {
             Ok(Gathered::Next(progress)) => self.go_on(
                 alloc,
-                Journey {
+                Flow {
                     transaction,
                     progress,
                 },
@@ -44,23 +44,23 @@ impl<J: Names> Parts<J> {
     }
 
     // The transaction's next phase begins, unless there is no memory for it.
-    fn go_on(&mut self, alloc: Global, journey: Journey<J>)
+    fn go_on(&mut self, alloc: Global, flow: Flow<J>)
         requires room { length self.old.outbox + (MOST_ACTIONS + 1) ≤ 4096 }
-        requires held { length journey.transaction.held ≤ MOST_ACTIONS }
-        requires slot { journey.transaction.slot < 64 }
-        requires few { length (works_of journey.progress) ≤ MOST_ACTIONS }
-        ensures { (self.new ≡ releasing false (refused journey.transaction Refusal.NoMemory) self.old)
-            ⊎ (self.new ≡ goes_on journey.transaction (Gathered.Next journey.progress) self.old) }
+        requires held { length flow.transaction.held ≤ MOST_ACTIONS }
+        requires slot { flow.transaction.slot < 64 }
+        requires few { length (works_of flow.progress) ≤ MOST_ACTIONS }
+        ensures { (self.new ≡ releasing false (refused flow.transaction Refusal.NoMemory) self.old)
+            ⊎ (self.new ≡ goes_on flow.transaction (Gathered.Next flow.progress) self.old) }
     {
-        match Phase::begin(alloc, &journey.progress) {
+        match Phase::begin(alloc, &flow.progress) {
             Ok(Phase { works, meeting }) => {
-                let first = journey.transaction.held.len();
+                let first = flow.transaction.held.len();
                 let acting = Active::Acting { first, meeting };
-                self.desk.active.put(journey.transaction.slot, Some(acting));
-                self.put_errands(journey, works);
+                self.desk.active.put(flow.transaction.slot, Some(acting));
+                self.put_acts(flow, works);
             }
             Err(_) => self.release(
-                Release::refused(journey.transaction, Refusal::NoMemory),
+                Release::refused(flow.transaction, Refusal::NoMemory),
                 false,
             ),
         }
@@ -81,10 +81,10 @@ impl<J: Names> Parts<J> {
 
 // The transaction, which came with the first report, holds what its actions hold, and what they found stands in
 // order, unless it is refused.
-fn sort_out<J: Names>(mut results: Results<Report<J>>, mut sorted: Sorted) -> (Journey<J>, Sorted)
+fn sort_out<J: Names>(mut results: Results<Report<J>>, mut sorted: Sorted) -> (Flow<J>, Sorted)
     requires can { CanMeet results }
     requires found { sorted.refusal ≡ None → (sorted.found.items ≡ []) × (length results ≤ vec_capacity sorted.found) }
-    ensures journey { CarriesFirst results (λ journey. result.0 ≡ record journey { transaction = holding journey.transaction (held_in results) }) }
+    ensures flow { CarriesFirst results (λ flow. result.0 ≡ record flow { transaction = holding flow.transaction (held_in results) }) }
     ensures refusal { result.1.refusal ≡ refusal_of sorted.refusal results }
     ensures found { result.1.refusal ≡ None → result.1.found.items ≡ found_in results }
 {
@@ -94,17 +94,17 @@ fn sort_out<J: Names>(mut results: Results<Report<J>>, mut sorted: Sorted) -> (J
     let Report {
         place: _,
         slot: _,
-        journey,
+        flow,
         ran,
     } = first;
-    let Some(mut journey) = journey else {
+    let Some(mut flow) = flow else {
         unreachable!()
     };
-    sorted.sort_one(ran, &mut journey.transaction.held);
+    sorted.sort_one(ran, &mut flow.transaction.held);
     while let Some(report) = results.next() {
-        sorted.sort_one(ran_of(report), &mut journey.transaction.held);
+        sorted.sort_one(ran_of(report), &mut flow.transaction.held);
     }
-    (journey, sorted)
+    (flow, sorted)
 }
 
 // What came of an action whose report is not the first of its phase: no transaction goes with it.

@@ -41,14 +41,14 @@ impl<J: Names> Core<J> {
         ensures advances { Advances (together self.old) (one_step (Event.Submit session number request.now) result ∷ []) (together self.new) }
         ensures happens { Happens (Event.Submit session number request.now) self.old result self.new }
     {
-        let to = self.houses.route(home_of_request(request));
+        let to = self.placements.route(home_of_request(request));
         let has_room = self.inboxes.waiting(to as usize) < INBOX;
         let answer = self.parts.submit(alloc, has_room, session, number, request);
         self.hand_out(to);
         answer
     }
 
-    // An executor takes the first letter of its inbox.
+    // An executor takes the first envelope of its inbox.
     fn take(&mut self, alloc: Global, executor: u32) -> EventAnswer
         requires warehouses { J.warehouses ≡ J.opening.scale.warehouses }
         requires sound { IsSound (shared_of J.opening) self.old }
@@ -56,13 +56,13 @@ impl<J: Names> Core<J> {
         ensures advances { Advances (together self.old) (one_step (Event.Take executor) result ∷ []) (together self.new) }
         ensures happens { Happens (Event.Take executor) self.old result self.new }
     {
-        self.houses.are_kept();
-        let Some(letter) = self.inboxes.take(executor as usize) else {
+        self.placements.are_kept();
+        let Some(envelope) = self.inboxes.take(executor as usize) else {
             return EventAnswer::Nothing;
         };
         // Actions of one transaction never meet, and so none dies of its own.
         claims_are_of_the_footprint();
-        self.open_letter(alloc, executor, letter.load);
+        self.open_envelope(alloc, executor, envelope.load);
         EventAnswer::Took
     }
 
@@ -73,10 +73,10 @@ impl<J: Names> Core<J> {
         ensures advances { Advances (together self.old) (one_step (Event.Send executor) result ∷ []) (together self.new) }
         ensures happens { Happens (Event.Send executor) self.old result self.new }
     {
-        self.houses.are_kept();
-        let Some(posted) = self.outboxes.take(executor as usize) else {
+        self.placements.are_kept();
+        let Some(outgoing) = self.outboxes.take(executor as usize) else {
             return EventAnswer::Nothing;
         };
-        self.send_posted(alloc, executor, posted)
+        self.send_outgoing(alloc, executor, outgoing)
     }
 }

@@ -1,7 +1,7 @@
 //! The warehouse by which a message finds its executor.
 ghost use Rattle.std.specs.Prelude.{◌≡◌};
-ghost use Rattle.world.specs.Letters as spec;
-ghost use Rattle.world.specs.Letters.{HasHome};
+ghost use Rattle.world.specs.Envelopes as spec;
+ghost use Rattle.world.specs.Envelopes.{HasHome};
 
 use crate::flight::Message;
 use commit_log::Names;
@@ -13,8 +13,8 @@ pub(crate) fn home_of_message<J: Names>(message: &Message<J>) -> u32
     ensures { result ≡ spec.home_of_message message.now }
 {
     match message {
-        Message::Start(journey, _) => home_of_request(&journey.transaction.request),
-        Message::Errand(errand) => errand.work.home(),
+        Message::Start(flow, _) => home_of_request(&flow.transaction.request),
+        Message::Act(act) => act.work.home(),
         Message::Settle(_, claims) => claims.home(),
         Message::Undo(_, claims) => claims.home(),
     }

@@ -25,13 +25,13 @@ mod queues;
 mod sending;
 mod simulating;
 mod slots;
-mod stations;
+mod shards;
 mod working;
 mod world;
 
 pub use desk::{Active, Desk, SessionDesk};
 pub use flight::{
-    Carried, Commit, Errand, Item, Journey, Letter, Load, Message, Posted, Report, Told,
+    Carried, Commit, Act, Item, Flow, Envelope, Load, Message, Outgoing, Report, SessionAnswer,
     Transaction,
 };
 pub use opening::{OpenFault, Opening};

@@ -6,13 +6,13 @@ ghost use Rattle.history.specs.History.{step as one_step};
 ghost use Rattle.std.specs.Prelude.{[], ◌∷◌};
 ghost use Rattle.range_moves.specs.declared.order.Moving.TheVariants as moving;
 ghost use Rattle.world.specs.declared.flight.Load.TheVariants.{Move};
-ghost use Rattle.world.specs.declared.flight.Posted.TheVariants as posted;
-ghost use Rattle.world.specs.Happening.{Happens, SendsPosted, moves};
-ghost use Rattle.world.specs.InHand.{Opening, Sending};
+ghost use Rattle.world.specs.declared.flight.Outgoing.TheVariants as outgoing;
+ghost use Rattle.world.specs.Happening.{Happens, SendsOutgoing, moves};
+ghost use Rattle.world.specs.InHand.{EnvelopeInHand, OutgoingInHand};
 ghost use Rattle.world.specs.Together.{IsSound, together};
 ghost use Rattle.world.specs.Worlds.{Advances};
 
-use crate::flight::{Letter, Load, Posted};
+use crate::flight::{Envelope, Load, Outgoing};
 use crate::homes::home_of_message;
 use crate::world::{Core, INBOX};
 use commit_log::Names;
@@ -28,69 +28,69 @@ impl<J: Names> Core<J> {
         ensures happens { Happens (event.Order order.now) self.old result self.new }
     {
         let to = order.to;
-        if !self.houses.can_order(order) || self.inboxes.waiting(to as usize) >= INBOX {
+        if !self.placements.can_order(order) || self.inboxes.waiting(to as usize) >= INBOX {
             return EventAnswer::Nothing;
         }
-        self.houses.order(order);
-        let letter = Letter {
+        self.placements.order(order);
+        let envelope = Envelope {
             to,
             load: Load::Move(Moving::Order(*order)),
         };
-        self.inboxes.put(to as usize, letter);
+        self.inboxes.put(to as usize, envelope);
         EventAnswer::Ordered
     }
 
     // A move begins at its destination: each slice of its range is fetched from the executor that has it, unless it is there.
     pub(crate) fn begin_move(&mut self, executor: u32, order: &MoveOrder)
-        requires { Opening (shared_of J.opening) executor (Move (moving.Order order.now)) self.old }
+        requires { EnvelopeInHand (shared_of J.opening) executor (Move (moving.Order order.now)) self.old }
         ensures { self.new ≡ moves executor (moving.Order order.now) self.old }
     {
         let to = order.to;
         for before in 0..order.size() {
             let w_id = order.lo + before;
-            let posted = match self.houses.move_to(w_id, to) {
-                None => Posted::Arrived,
-                Some(from) => Posted::Letter(Letter {
+            let outgoing = match self.placements.move_to(w_id, to) {
+                None => Outgoing::Arrived,
+                Some(from) => Outgoing::Envelope(Envelope {
                     to: from,
                     load: Load::Move(Moving::Fetch { w_id, to }),
                 }),
             };
-            self.outboxes.put(executor as usize, posted);
+            self.outboxes.put(executor as usize, outgoing);
         }
     }
 
     // The slice of a warehouse is taken out, with all who wait there, and goes to an executor as a parcel; it is noted where it went.
     pub(crate) fn take_out(&mut self, executor: u32, w_id: u32, to: u32)
-        requires { Opening (shared_of J.opening) executor (Move (moving.Fetch w_id to)) self.old }
+        requires { EnvelopeInHand (shared_of J.opening) executor (Move (moving.Fetch w_id to)) self.old }
         ensures { self.new ≡ moves executor (moving.Fetch w_id to) self.old }
     {
-        self.houses.take_out(w_id, executor, to);
-        let letter = Letter {
+        self.placements.take_out(w_id, executor, to);
+        let envelope = Envelope {
             to,
             load: Load::Move(Moving::Parcel(w_id)),
         };
-        self.outboxes.put(executor as usize, Posted::Letter(letter));
+        self.outboxes.put(executor as usize, Outgoing::Envelope(envelope));
     }
 
     // The slice of a warehouse is installed. It has arrived; and each message that was parked for it is sent to its executor, in the
     // order in which they were.
     pub(crate) fn install(&mut self, executor: u32, w_id: u32)
-        requires { Opening (shared_of J.opening) executor (Move (moving.Parcel w_id)) self.old }
+        requires { EnvelopeInHand (shared_of J.opening) executor (Move (moving.Parcel w_id)) self.old }
         ensures { self.new ≡ moves executor (moving.Parcel w_id) self.old }
     {
-        self.houses.install(w_id, executor);
-        self.outboxes.put(executor as usize, Posted::Arrived);
+        self.placements.install(w_id, executor);
+        self.outboxes.put(executor as usize, Outgoing::Arrived);
         // The queue of those that are parked is gone round once.
         for _ in 0..self.parked.len() {
             let Some(message) = self.parked.take() else {
                 unreachable!()
             };
             if home_of_message(&message) == w_id {
-                let letter = Letter {
+                let envelope = Envelope {
                     to: executor,
                     load: Load::Work(message),
                 };
-                self.outboxes.put(executor as usize, Posted::Letter(letter));
+                self.outboxes.put(executor as usize, Outgoing::Envelope(envelope));
             } else {
                 self.parked.put(message);
             }
@@ -99,10 +99,10 @@ impl<J: Names> Core<J> {
 
     // The slice of a warehouse has arrived. With the last of its range the move is over.
     pub(crate) fn arrive(&mut self) -> EventAnswer
-        requires { (executor : ℕ) × Sending (shared_of J.opening) executor posted.Arrived self.old }
-        ensures { (executor : ℕ) → SendsPosted executor posted.Arrived self.old result self.new }
+        requires { (executor : ℕ) × OutgoingInHand (shared_of J.opening) executor outgoing.Arrived self.old }
+        ensures { (executor : ℕ) → SendsOutgoing executor outgoing.Arrived self.old result self.new }
     {
-        if self.houses.report() {
+        if self.placements.report() {
             EventAnswer::Moved
         } else {
             EventAnswer::Sent

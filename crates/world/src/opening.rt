@@ -10,11 +10,11 @@ use crate::desk::{Desk, SessionDesk};
 use crate::queue::Queue;
 use crate::queues::Queues;
 use crate::slots::Slots;
-use crate::stations::open_stations;
+use crate::shards::open_shards;
 use crate::world::{Core, Parts, World};
 use commit_log::{Log, LogBook, Names, Pass, SessionSeat, UnnamedLog};
 use consistency::first_broken;
-use range_moves::Houses;
+use range_moves::Placements;
 use routing::{MOST_EXECUTORS, Routing};
 use schema::{NoMemory, Tables};
 use slices::{cut, open_groups};
@@ -64,7 +64,7 @@ impl From<AllocError> for OpenFault {
 }
 
 impl<J: Names> World<J> {
-    /// A world of so many executors over these tables, with an empty log, in which nothing is under way. The
+    /// A world of so many executors over these tables, with an empty log, in which nothing is in flight. The
     /// number of executors, 1 to 16, is looked at before the conditions. Nothing is left after an error.
     pub fn open(
         alloc: Global,
@@ -105,7 +105,7 @@ impl<J: Names> World<J> {
     {
         let Opening { groups, log } = opening;
         let scale = tables.scale();
-        let houses = Houses::open(alloc, &scale, &Routing::opening(&scale, executors))?;
+        let placements = Placements::open(alloc, &scale, &Routing::opening(&scale, executors))?;
         let parked = Queue::open(alloc)?;
         let inboxes = Queues::open(alloc, executors as usize)?;
         let outboxes = Queues::open(alloc, executors as usize)?;
@@ -114,12 +114,12 @@ impl<J: Names> World<J> {
         let active = Slots::open(alloc)?;
         let (boxes, seats) = named_all::<J>(alloc, scale.warehouses, groups)?;
         let (catalog, slices) = cut(alloc, tables, boxes)?;
-        let stations = open_stations(alloc, slices)?;
+        let shards = open_shards(alloc, slices)?;
         let (book, lanes) = LogBook::<J>::open(alloc, log)?;
         let sessions = open_sessions(alloc, lanes)?;
         let parts = Parts {
             catalog,
-            stations,
+            shards,
             inbox,
             outbox,
             desk: Desk {
@@ -132,7 +132,7 @@ impl<J: Names> World<J> {
         Ok(World {
             core: Core {
                 parts,
-                houses,
+                placements,
                 parked,
                 inboxes,
                 outboxes,

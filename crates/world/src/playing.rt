@@ -19,9 +19,9 @@ impl<J: Names> World<J> {
     /// After an error, which says that there was no memory for what is printed, the first of the schedule's
     /// events have come about, and nothing else.
     pub fn play(&mut self, alloc: Global, schedule: &[Scheduled]) -> Result<Vec<Output>, NoMemory>
-        ensures plays { IfOk result (λ outputs. (steps : List Step) × (Plays self.old.houses.executors schedule.now outputs.items steps × ComeAbout steps self.old self.new)) }
+        ensures plays { IfOk result (λ outputs. (steps : List Step) × (Plays self.old.placements.executors schedule.now outputs.items steps × ComeAbout steps self.old self.new)) }
         ensures rest { IfOk result (λ outputs. EndsQuiet outputs.items → IsAtRest self.new) }
-        ensures err { OnErr result ((steps : List Step) × (Begins self.old.houses.executors schedule.now steps × ComeAbout steps self.old self.new)) }
+        ensures err { OnErr result ((steps : List Step) × (Begins self.old.placements.executors schedule.now steps × ComeAbout steps self.old self.new)) }
     {
         let mut outputs = Vec::with_capacity(alloc, schedule.len())?;
         for item in schedule {
@@ -38,10 +38,10 @@ impl<J: Names> World<J> {
         outputs: &mut Vec<Output>,
     ) -> Result<(), NoMemory>
         ensures follows { OnOk result ((more : List Output) × ((steps : List Step)
-            × ((outputs.new.items ≡ outputs.old.items ++ more) × (Follows self.old.houses.executors item.now more steps × ComeAbout steps self.old self.new)))) }
+            × ((outputs.new.items ≡ outputs.old.items ++ more) × (Follows self.old.placements.executors item.now more steps × ComeAbout steps self.old self.new)))) }
         ensures rest { OnOk result (EndsQuiet outputs.new.items → IsAtRest self.new) }
-        ensures err { OnErr result ((steps : List Step) × (Begins self.old.houses.executors (item.now ∷ []) steps × ComeAbout steps self.old self.new)) }
-        ensures same { self.new.houses.executors ≡ self.old.houses.executors }
+        ensures err { OnErr result ((steps : List Step) × (Begins self.old.placements.executors (item.now ∷ []) steps × ComeAbout steps self.old self.new)) }
+        ensures same { self.new.placements.executors ≡ self.old.placements.executors }
     {
         match item {
             Scheduled::Event(event) => {
@@ -57,12 +57,12 @@ impl<J: Names> World<J> {
     // or the last that there may be.
     fn run_rounds(&mut self, alloc: Global, outputs: &mut Vec<Output>) -> Result<(), NoMemory>
         ensures follows { OnOk result ((more : List Output) × ((steps : List Step)
-            × ((outputs.new.items ≡ outputs.old.items ++ more) × (Follows self.old.houses.executors Rounds more steps × ComeAbout steps self.old self.new)))) }
+            × ((outputs.new.items ≡ outputs.old.items ++ more) × (Follows self.old.placements.executors Rounds more steps × ComeAbout steps self.old self.new)))) }
         ensures rest { OnOk result (EndsQuiet outputs.new.items → IsAtRest self.new) }
-        ensures err { OnErr result ((steps : List Step) × (Begins self.old.houses.executors (Rounds ∷ []) steps × ComeAbout steps self.old self.new)) }
-        ensures same { self.new.houses.executors ≡ self.old.houses.executors }
+        ensures err { OnErr result ((steps : List Step) × (Begins self.old.placements.executors (Rounds ∷ []) steps × ComeAbout steps self.old self.new)) }
+        ensures same { self.new.placements.executors ≡ self.old.placements.executors }
     {
-        let executors = self.core.houses.executors();
+        let executors = self.core.placements.executors();
         for _ in 0..MOST_ROUNDS {
             outputs.reserve(2 * executors as usize)?;
             if self.run_round(alloc, outputs) {
@@ -76,13 +76,13 @@ impl<J: Names> World<J> {
 
     // A round: whether nothing could happen in it. There is room for what is printed.
     fn run_round(&mut self, alloc: Global, outputs: &mut Vec<Output>) -> bool
-        requires room { length outputs.old.items + 2 * self.old.houses.executors ≤ vec_capacity outputs.old }
-        ensures round { (r : Round) × (IsRoundOf self.old.houses.executors r
+        requires room { length outputs.old.items + 2 * self.old.placements.executors ≤ vec_capacity outputs.old }
+        ensures round { (r : Round) × (IsRoundOf self.old.placements.executors r
             × ((outputs.new.items ≡ outputs.old.items ++ outputs_of_round r) × (ComeAbout (steps_of_round r) self.old self.new × IsIdleExactly result r))) }
         ensures rest { IsTrue result → IsAtRest self.new }
-        ensures same { self.new.houses.executors ≡ self.old.houses.executors }
+        ensures same { self.new.placements.executors ≡ self.old.placements.executors }
     {
-        let executors = self.core.houses.executors();
+        let executors = self.core.placements.executors();
         let mut is_idle = true;
         for executor in 0..executors {
             let took = self.step(alloc, &Event::Take { executor });

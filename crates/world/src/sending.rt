@@ -3,10 +3,10 @@ ghost use Rattle.std.specs.Prelude.{◌≡◌, ◌≤◌, ◌<◌, ◌+◌, leng
 ghost use Rattle.world.specs.Events.{CanSend, Reports, SendsItem};
 ghost use Rattle.world.specs.Following as spec;
 ghost use Rattle.world.specs.Following.{releasing};
-ghost use Rattle.world.specs.Letters.{IsNoPush};
+ghost use Rattle.world.specs.Envelopes.{IsNoPush};
 
 use crate::desk::Active;
-use crate::flight::{Item, Message, Report, Told, Transaction};
+use crate::flight::{Item, Message, Report, SessionAnswer, Transaction};
 use crate::world::Parts;
 use commit_log::{Names, Pass};
 use history::EventAnswer;
@@ -71,7 +71,7 @@ impl<J: Names> Parts<J> {
                 EventAnswer::Sent
             }
             Item::Commit(commit) => self.commit(commit),
-            Item::Reply(told) => self.reply(told),
+            Item::Reply(recorded) => self.reply(recorded),
         }
     }
 
@@ -112,7 +112,7 @@ impl<J: Names> Parts<J> {
         } = over;
         let count = held.len();
         self.desk.active.put(slot, ending(count));
-        self.outbox.put(Item::Reply(Told {
+        self.outbox.put(Item::Reply(SessionAnswer {
             age,
             number,
             pass,
@@ -129,16 +129,16 @@ impl<J: Names> Parts<J> {
     }
 
     // The session is answered, and has its pass again.
-    fn reply(&mut self, told: Told<J>) -> EventAnswer
-        requires { CanSend J.opening (Item.Reply told) self.old }
-        ensures { SendsItem (Item.Reply told) self.old result self.new }
+    fn reply(&mut self, recorded: SessionAnswer<J>) -> EventAnswer
+        requires { CanSend J.opening (Item.Reply recorded) self.old }
+        ensures { SendsItem (Item.Reply recorded) self.old result self.new }
     {
-        let Told {
+        let SessionAnswer {
             age: _,
             number,
             pass,
             answer,
-        } = told;
+        } = recorded;
         let session = pass.session();
         self.desk.sessions[session as usize].pass = Some(pass);
         EventAnswer::Answered {
@@ -172,7 +172,7 @@ fn ending<J: Names>(left: usize) -> Option<Active<J>>
     }
 }
 
-// The place of the first action of the phase that is under way, and where they meet.
+// The place of the first action of the phase that is in flight, and where they meet.
 fn meeting_of<J: Names>(active: Active<J>) -> (usize, Meeting<Report<J>>)
     requires { spec.IsActing active }
     ensures { active ≡ Active.Acting result.0 result.1 }

@@ -1,11 +1,11 @@
 //! A message of the inbox is worked on.
 ghost use Rattle.std.specs.Prelude.{◌≡◌, ◌≤◌, ◌<◌, ◌+◌, ◌++◌, [], ◌∷◌, All, length};
-ghost use Rattle.slices.specs.Sliced.{AreSlicesOf};
+ghost use Rattle.slices.specs.SliceView.{AreSlicesOf};
 ghost use Rattle.transactions.specs.Works.{CanDo};
 ghost use Rattle.world.specs.Events.{AllTurns, Asks, CanWork, TakesMessage, report_of};
-ghost use Rattle.world.specs.Stations.{HasRoomFor, IsStationOf, slices_in, waiting_in};
+ghost use Rattle.world.specs.Shards.{HasRoomFor, IsShardOf, slices_in, waiting_in};
 
-use crate::flight::{Carried, Errand, Item, Message, Report};
+use crate::flight::{Carried, Act, Item, Message, Report};
 use crate::world::Parts;
 use commit_log::Names;
 use std::alloc::Global;
@@ -13,62 +13,62 @@ use transactions::{Acted, MOST_ACTIONS, Ran, Turned};
 use wait_die::Holder;
 
 impl<J: Names> Parts<J> {
-    // Works on a message, at the station of its warehouse. Then those who wait there have their turns.
+    // Works on a message, at the shard of its warehouse. Then those who wait there have their turns.
     pub(crate) fn work(&mut self, alloc: Global, message: Message<J>)
         requires warehouses { J.warehouses ≡ self.old.catalog.scale.warehouses }
         requires slices { AreSlicesOf self.old.catalog (slices_in self.old) }
-        requires stations { All (IsStationOf J.warehouses) self.old.stations.items }
+        requires shards { All (IsShardOf J.warehouses) self.old.shards.items }
         requires room { length self.old.outbox + MOST_ACTIONS + length (waiting_in self.old) < 4096 }
         requires can { CanWork self.old.catalog message }
         ensures takes { TakesMessage message self.old self.new }
-        ensures stations { All (IsStationOf J.warehouses) self.new.stations.items }
+        ensures shards { All (IsShardOf J.warehouses) self.new.shards.items }
     {
         match message {
-            Message::Start(journey, works) => self.put_errands(journey, works),
-            Message::Errand(errand) => {
-                let home = errand.work.home() as usize;
-                self.ask(alloc, errand);
+            Message::Start(flow, works) => self.put_acts(flow, works),
+            Message::Act(act) => {
+                let home = act.work.home() as usize;
+                self.ask(alloc, act);
                 self.take_turns(alloc, home);
             }
             Message::Settle(slot, claims) => {
                 let home = claims.home() as usize;
-                self.stations[home - 1].settle(claims);
-                let _ = self.stations[home - 1].slice();
+                self.shards[home - 1].settle(claims);
+                let _ = self.shards[home - 1].slice();
                 self.outbox.put(Item::Ended(slot));
                 self.take_turns(alloc, home);
             }
             Message::Undo(slot, claims) => {
                 let home = claims.home() as usize;
-                self.stations[home - 1].undo(claims);
-                let _ = self.stations[home - 1].slice();
+                self.shards[home - 1].undo(claims);
+                let _ = self.shards[home - 1].slice();
                 self.outbox.put(Item::Ended(slot));
                 self.take_turns(alloc, home);
             }
         }
     }
 
-    // An action asks for what its work needs, at the station of its warehouse. It reports, unless it waits there.
-    fn ask(&mut self, alloc: Global, errand: Errand<J>)
+    // An action asks for what its work needs, at the shard of its warehouse. It reports, unless it waits there.
+    fn ask(&mut self, alloc: Global, act: Act<J>)
         requires warehouses { J.warehouses ≡ self.old.catalog.scale.warehouses }
         requires slices { AreSlicesOf self.old.catalog (slices_in self.old) }
-        requires stations { All (IsStationOf J.warehouses) self.old.stations.items }
+        requires shards { All (IsShardOf J.warehouses) self.old.shards.items }
         requires room { length self.old.outbox < 4096 }
-        requires can { CanDo self.old.catalog errand.work }
-        ensures asks { Asks errand self.old self.new }
-        ensures stations { All (IsStationOf J.warehouses) self.new.stations.items }
+        requires can { CanDo self.old.catalog act.work }
+        ensures asks { Asks act self.old self.new }
+        ensures shards { All (IsShardOf J.warehouses) self.new.shards.items }
     {
-        let Errand {
+        let Act {
             place,
             age,
             slot,
             work,
-            journey,
-        } = errand;
+            flow,
+        } = act;
         let home = work.home() as usize;
         let by = Holder { age, place };
-        let carried = Carried { slot, journey };
-        let acted = self.stations[home - 1].act(alloc, by, work, carried);
-        let _ = self.stations[home - 1].slice();
+        let carried = Carried { slot, flow };
+        let acted = self.shards[home - 1].try_action(alloc, by, work, carried);
+        let _ = self.shards[home - 1].slice();
         match acted {
             Acted::Ran(ran, carried) => self.put_report(place, carried, ran),
             Acted::Waits => {}
@@ -80,14 +80,14 @@ impl<J: Names> Parts<J> {
         requires home { 1 ≤ home }
         requires warehouses { home ≤ self.old.catalog.scale.warehouses }
         requires slices { AreSlicesOf self.old.catalog (slices_in self.old) }
-        requires stations { All (IsStationOf J.warehouses) self.old.stations.items }
+        requires shards { All (IsShardOf J.warehouses) self.old.shards.items }
         requires room { HasRoomFor home self.old }
         ensures turns { AllTurns home self.old self.new }
-        ensures stations { All (IsStationOf J.warehouses) self.new.stations.items }
+        ensures shards { All (IsShardOf J.warehouses) self.new.shards.items }
     {
-        while let Some(turned) = self.stations[home - 1].turn(alloc) {
+        while let Some(turned) = self.shards[home - 1].turn(alloc) {
             let Turned { by, ran, carried } = turned;
-            let _ = self.stations[home - 1].slice();
+            let _ = self.shards[home - 1].slice();
             self.put_report(by.place, carried, ran);
         }
     }
@@ -97,11 +97,11 @@ impl<J: Names> Parts<J> {
         requires room { length self.old.outbox < 4096 }
         ensures { self.new ≡ record self.old { outbox = self.old.outbox ++ report_of place carried ran ∷ [] } }
     {
-        let Carried { slot, journey } = carried;
+        let Carried { slot, flow } = carried;
         self.outbox.put(Item::Report(Report {
             place,
             slot,
-            journey,
+            flow,
             ran,
         }));
     }

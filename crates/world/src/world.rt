@@ -7,22 +7,22 @@ ghost use Rattle.world.specs.Openings.{IsGathered};
 ghost use Rattle.world.specs.Happening.{Happens};
 ghost use Rattle.world.specs.Slots.{count_active};
 ghost use Rattle.world.specs.Together.{together};
-ghost use Rattle.world.specs.Worlds.{Advances, AllDieOfOlder, AnswersWhoAsked, CannotHappen, Fits, HappenInTurn, IsAtRest, IsBusyExactly, IsNeverStuck, IsOwned, NoneDies, TellsOfOlder, count_busy, steps_of, tables_now};
+ghost use Rattle.world.specs.Worlds.{Advances, AllDieOfOlder, AnswersWhoAsked, CannotHappen, Fits, HappenInTurn, IsAtRest, IsBusyExactly, IsNeverStuck, IsOwned, NoneDies, RecordsOfOlder, count_busy, steps_of, tables_now};
 
 use crate::desk::Desk;
-use crate::flight::{Carried, Item, Letter, Message, Posted};
+use crate::flight::{Carried, Item, Envelope, Message, Outgoing};
 use crate::queue::Queue;
 use crate::queues::Queues;
-use crate::stations::{copy_whole, into_slices};
+use crate::shards::{copy_whole, into_slices};
 use commit_log::{Entry, Log, Names};
 use history::{Event, EventAnswer};
 use partitions::Catalog;
-use range_moves::Houses;
+use range_moves::Placements;
 use schema::{NoMemory, Tables};
 use slices::whole;
 use std::alloc::Global;
 use std::marker::Model;
-use transactions::{Station, claims_are_of_the_footprint};
+use transactions::{Shard, claims_are_of_the_footprint};
 
 /// How many messages an inbox takes.
 pub const INBOX: usize = 1024;
@@ -33,7 +33,7 @@ pub struct Parts<J: Names> {
     /// What the slices share.
     pub catalog: Catalog,
     /// One for each warehouse, in order: its slice, and the actions that wait there.
-    pub stations: Vec<Station<J, Carried<J>>>,
+    pub shards: Vec<Shard<J, Carried<J>>>,
     /// What a submission puts, until it is handed out; else it has nothing.
     pub inbox: Queue<Message<J>, 1024>,
     /// What an event puts, until it is posted; else it has nothing.
@@ -47,13 +47,13 @@ pub struct Parts<J: Names> {
 pub struct Core<J: Names> {
     pub parts: Parts<J>,
     /// Which executor has the slice of which warehouse, or gets it.
-    pub houses: Houses,
+    pub placements: Placements,
     /// Messages that wait for a slice that is on its way: at the executor to which it comes, in the order in which they came there.
     pub parked: Queue<Message<J>, 4096>,
     /// The inbox of each executor, by its number.
-    pub inboxes: Queues<Letter<J>, 1024>,
+    pub inboxes: Queues<Envelope<J>, 1024>,
     /// The outbox of each executor, by its number.
-    pub outboxes: Queues<Posted<J>, 4096>,
+    pub outboxes: Queues<Outgoing<J>, 4096>,
 }
 
 /// An engine of one to sixteen executors, in which one event happens at a time.
@@ -86,19 +86,19 @@ impl<J: Names> Model for World<J> {
 }
 
 impl<J: Names> Parts<J> {
-    // The log's entries, and the stations with what their slices share.
-    fn into_log_and_stations(self) -> (Vec<Entry>, Catalog, Vec<Station<J, Carried<J>>>)
+    // The log's entries, and the shards with what their slices share.
+    fn into_log_and_shards(self) -> (Vec<Entry>, Catalog, Vec<Shard<J, Carried<J>>>)
         ensures log { result.0.items ≡ self.log }
         ensures catalog { result.1 ≡ self.catalog }
-        ensures stations { result.2.items ≡ self.stations.items }
+        ensures shards { result.2.items ≡ self.shards.items }
     {
         let Parts {
             catalog,
-            stations,
+            shards,
             log,
             ..
         } = self;
-        (log.into_entries(), catalog, stations)
+        (log.into_entries(), catalog, shards)
     }
 }
 
@@ -107,7 +107,7 @@ impl<J: Names> Core<J> {
     fn is_idle(&self) -> bool
         ensures { IsTrue result ↔ (count_busy self.now ≡ 0) }
     {
-        self.parts.desk.active.count() == 0 && !self.houses.is_moving()
+        self.parts.desk.active.count() == 0 && !self.placements.is_moving()
     }
 }
 
@@ -121,13 +121,13 @@ pub enum GatherFault {
 }
 
 impl<J: Names> World<J> {
-    /// One event happens. It has no error: want of memory is an answer.
+    /// One event happens. It has no error: lack of memory is an answer.
     ///
     /// A history that fitted before fits with the event and its answer at its end: the log's replies are
     /// those of a machine that carries out its requests one at a time, in log order, and the tables that
     /// it leaves are the committed ones; each transaction is whole, and stands behind those that were
     /// answered before it was submitted. What the event changes is told exactly, and what can't happen
-    /// is answered `Nothing` and changes nothing. An event changes no other executor's queues than by a letter that it puts into an
+    /// is answered `Nothing` and changes nothing. An event changes no other executor's queues than by an envelope that it puts into an
     /// inbox; only a Take changes a slice, and of one warehouse alone, that its executor has; and only a commit that is sent changes the
     /// log, by its own entry at the end. An executor works on messages for a slice where it has the slice: that is
     /// at one executor, or in one parcel on its way.
@@ -145,15 +145,15 @@ impl<J: Names> World<J> {
         ensures nothing { (result ≡ EventAnswer.Nothing) ↔ CannotHappen event.now self.old }
         ensures busy { IsBusyExactly event.now self.old result }
         ensures asked { AnswersWhoAsked event.now self.old result }
-        ensures died { TellsOfOlder self.old result }
+        ensures died { RecordsOfOlder self.old result }
         ensures dies { AllDieOfOlder event.now self.old self.new }
-        ensures executors { self.new.houses.executors ≡ self.old.houses.executors }
+        ensures executors { self.new.placements.executors ≡ self.old.placements.executors }
         ensures owned { IsOwned self.new }
         ensures never_stuck { IsNeverStuck self.new }
         ensures alone { (opening : Database) (history : List Step) → Fits opening history (together self.old) → count_active self.old.parts.desk.active ≡ 1 → NoneDies event.now self.old self.new }
     {
         claims_are_of_the_footprint();
-        self.core.houses.are_kept();
+        self.core.placements.are_kept();
         self.core.happen(alloc, event)
     }
 
@@ -186,7 +186,7 @@ impl<J: Names> World<J> {
             return Err(GatherFault::NotIdle);
         }
         let parts = &self.core.parts;
-        match copy_whole(alloc, &parts.catalog, &parts.stations) {
+        match copy_whole(alloc, &parts.catalog, &parts.shards) {
             Ok(tables) => Ok(tables),
             Err(NoMemory) => Err(GatherFault::NoMemory),
         }
@@ -205,11 +205,11 @@ impl<J: Names> World<J> {
         let World { core } = self;
         let is_idle = core.is_idle();
         let Core { parts, .. } = core;
-        let (entries, catalog, stations) = parts.into_log_and_stations();
+        let (entries, catalog, shards) = parts.into_log_and_shards();
         if !is_idle {
             return (entries, Err(GatherFault::NotIdle));
         }
-        let Ok(slices) = into_slices(stations) else {
+        let Ok(slices) = into_slices(shards) else {
             return (entries, Err(GatherFault::NoMemory));
         };
         match whole(catalog, slices) {

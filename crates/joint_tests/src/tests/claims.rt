@@ -53,7 +53,7 @@ fn shared_by_two_threads<J: GroupNames + Send + 'static>(
 #[test]
 fn a_claim_goes_to_another_thread_and_back(rt: HostRuntime) -> Result<(), Fail> {
     let seats = GroupSeats::open(rt.alloc(), &NoPayment)?;
-    let told = shared_by_two_threads::<Brand>(&rt, seats)?;
-    assert_eq!(rt; told, Some(Mode::Shared));
+    let recorded = shared_by_two_threads::<Brand>(&rt, seats)?;
+    assert_eq!(rt; recorded, Some(Mode::Shared));
     Ok(())
 }

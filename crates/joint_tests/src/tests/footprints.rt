@@ -1,10 +1,10 @@
 use super::*;
-use groups::{Mode, Wish, footprint};
+use groups::{Mode, GroupWant, footprint};
 use requests::Group;
 
 #[test]
 fn a_payment_claims_what_it_changes(rt: HostRuntime) -> Result<(), Fail> {
-    let wishes = footprint(rt.alloc(), &payment(100))?;
+    let group_wants = footprint(rt.alloc(), &payment(100))?;
     let mode = Mode::Exclusive;
     let claimed = [
         Group::Warehouse { w_id: 1 },
@@ -12,7 +12,7 @@ fn a_payment_claims_what_it_changes(rt: HostRuntime) -> Result<(), Fail> {
         Group::Customers { w_id: 1, d_id: 1 },
         Group::History { w_id: 1, d_id: 1 },
     ];
-    let claimed = claimed.map(|group| Wish { group, mode });
-    assert_eq!(rt; wishes.as_slice(), claimed.as_slice());
+    let claimed = claimed.map(|group| GroupWant { group, mode });
+    assert_eq!(rt; group_wants.as_slice(), claimed.as_slice());
     Ok(())
 }

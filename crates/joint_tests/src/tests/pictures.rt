@@ -3,9 +3,9 @@ use history::{Event, EventAnswer, Output, Scheduled};
 use picture::write_picture;
 use requests::Refusal;
 
-// A payment that is refused for want of memory, after it was accepted: which of its actions hold claims isn't told.
+// A payment that is refused for lack of memory, after it was accepted: which of its actions hold claims isn't told.
 #[test]
-fn after_a_refusal_the_course_is_not_known(rt: HostRuntime) -> Result<(), Fail> {
+fn after_a_refusal_the_agreed_phase_is_not_known(rt: HostRuntime) -> Result<(), Fail> {
     let alloc = rt.alloc();
     let executor = 0;
     let submit = Event::Submit {

@@ -277,7 +277,7 @@ fn inboxes_of_one_message_are_enough(rt: HostRuntime) -> Result<(), Fail> {
 
 // The first move that there can't be is told, before a thread starts.
 #[test]
-fn a_bad_move_is_told(rt: HostRuntime) -> Result<(), Fail> {
+fn a_bad_move_is_recorded(rt: HostRuntime) -> Result<(), Fail> {
     let alloc = rt.alloc();
     let scripts = [script(alloc, 1, 100)?];
     let moves = [order(1, 1, 1), order(2, 1, 1), order(1, 3, 1)];

@@ -1,7 +1,7 @@
 ghost use Rattle.std.specs.Prelude.{◌≡◌, IfOk};
 ghost use Rattle.groups.specs.Content.{content};
 ghost use Rattle.groups.specs.Groups.{warehouse_of};
-ghost use Rattle.groups.specs.declared.wishes.Mode.TheVariants.{Exclusive};
+ghost use Rattle.groups.specs.declared.group_wants.Mode.TheVariants.{Exclusive};
 ghost use Rattle.slices.specs.Openings.{AreOpenedFor};
 ghost use Rattle.tickets.specs.Claims.{fresh};
 ghost use Rattle.tickets.specs.Openings.{AreNamed};
@@ -113,8 +113,8 @@ fn put_and_undone<J: GroupNames>(
 fn a_row_is_put_and_undone(rt: HostRuntime) -> Result<(), Fail> {
     let tables = two_warehouses(rt.alloc())?;
     let openings = open_groups(rt.alloc(), &tables)?;
-    let told = put_and_undone::<Brand>(rt.alloc(), tables, openings);
-    assert_eq!(rt; told, Some((50_000, 7, 50_000, 63)));
+    let recorded = put_and_undone::<Brand>(rt.alloc(), tables, openings);
+    assert_eq!(rt; recorded, Some((50_000, 7, 50_000, 63)));
     Ok(())
 }
 
@@ -155,8 +155,8 @@ fn waited_and_granted<J: GroupNames>(
 fn an_older_one_waits_and_is_granted(rt: HostRuntime) -> Result<(), Fail> {
     let tables = two_warehouses(rt.alloc())?;
     let openings = open_groups(rt.alloc(), &tables)?;
-    let told = waited_and_granted::<Brand>(rt.alloc(), tables, openings);
-    assert_eq!(rt; told, Some((Refused::Waits, OLDER, 1)));
+    let recorded = waited_and_granted::<Brand>(rt.alloc(), tables, openings);
+    assert_eq!(rt; recorded, Some((Refused::Waits, OLDER, 1)));
     Ok(())
 }
 
@@ -218,8 +218,8 @@ fn delivered_and_undone<J: GroupNames>(
 fn an_order_is_delivered_and_that_undone(rt: HostRuntime) -> Result<(), Fail> {
     let tables = two_warehouses(rt.alloc())?;
     let openings = open_groups(rt.alloc(), &tables)?;
-    let told = delivered_and_undone::<Brand>(rt.alloc(), tables, openings);
+    let recorded = delivered_and_undone::<Brand>(rt.alloc(), tables, openings);
     let new = (Some(5), None, false);
-    assert_eq!(rt; told, Some([new, (None, Some(7), true), new]));
+    assert_eq!(rt; recorded, Some([new, (None, Some(7), true), new]));
     Ok(())
 }

@@ -3,10 +3,10 @@ ghost use Rattle.std.specs.Prelude.{◌≡◌, [], All, IfOk, None, vec_len};
 ghost use Rattle.requests.specs.declared.group.Group.TheVariants.{History};
 ghost use Rattle.groups.specs.Content.Content.{OfHistory};
 ghost use Rattle.groups.specs.Groups.{warehouse_of};
-ghost use Rattle.groups.specs.declared.wishes.Mode.TheVariants.{Shared};
+ghost use Rattle.groups.specs.declared.group_wants.Mode.TheVariants.{Shared};
 ghost use Rattle.tickets.specs.Openings.{AreNamed};
-ghost use Rattle.local_locks.specs.Locking.{left_in};
-ghost use Rattle.local_locks.specs.Trials.{Tells};
+ghost use Rattle.local_locks.specs.LockTableView.{left_in};
+ghost use Rattle.local_locks.specs.Trials.{Records};
 
 use super::*;
 use tickets::LogSeats;
@@ -46,7 +46,7 @@ fn opened<J: GroupNames>(
 fn look<J: GroupNames>(table: &mut LockTable<J>, claim: &mut Claim<J>)
     requires here { warehouse_of claim.old.group ≡ table.old.w_id }
     requires shared { claim.old.mode ≡ Shared }
-    ensures told { claim.old.told ≡ left_in table.old.stands claim.old.group }
+    ensures recorded { claim.old.recorded ≡ left_in table.old.stands claim.old.group }
     ensures same { (table.new ≡ table.old) × (claim.new ≡ claim.old) }
 {
     table.look(claim);
@@ -61,7 +61,7 @@ fn read_after_write<J: GroupNames>(
     requires known { J.warehouses ≡ 1 }
     requires all { vec_len openings ≡ 105 }
     requires names { AreNamed 1 J.committed J.work openings.items }
-    ensures { IfOk result (λ read. All (Tells (OfHistory None)) read.items) }
+    ensures { IfOk result (λ read. All (Records (OfHistory None)) read.items) }
 {
     let (mut table, mut seats) = opened::<J>(alloc.clone()?, openings)?;
     let want = one(PAYMENTS, Mode::Exclusive);
@@ -103,7 +103,7 @@ fn written<J: GroupNames>(alloc: Global, openings: Vec<GroupSeats>) -> Result<us
 }
 
 #[test]
-fn a_reader_is_told_what_was_left_once_it_is_back(rt: HostRuntime) -> Result<(), Fail> {
+fn a_reader_is_recorded_what_was_left_once_it_is_back(rt: HostRuntime) -> Result<(), Fail> {
     let openings = one_warehouse(rt.alloc())?;
     assert_eq!(rt; written::<Brand>(rt.alloc(), openings)?, 1);
     Ok(())
@@ -116,7 +116,7 @@ fn read_after_undo<J: GroupNames>(
 ) -> Result<Vec<Claim<J>>, NoMemory>
     requires known { J.warehouses ≡ 1 }
     requires here { table.old.w_id ≡ 1 }
-    ensures { IfOk result (λ read. All (Tells (left_in table.old.stands (History 1 10))) read.items) }
+    ensures { IfOk result (λ read. All (Records (left_in table.old.stands (History 1 10))) read.items) }
 {
     let want = one(PAYMENTS, Mode::Exclusive);
     let Asked::Granted(mut claims) = table.ask(alloc.clone()?, WRITER, &[want])? else {
@@ -145,7 +145,7 @@ fn undone<J: GroupNames>(alloc: Global, openings: Vec<GroupSeats>) -> Result<usi
 }
 
 #[test]
-fn a_reader_is_told_nothing_of_what_was_undone(rt: HostRuntime) -> Result<(), Fail> {
+fn a_reader_is_recorded_nothing_of_what_was_undone(rt: HostRuntime) -> Result<(), Fail> {
     let openings = one_warehouse(rt.alloc())?;
     assert_eq!(rt; undone::<Brand>(rt.alloc(), openings)?, 1);
     Ok(())

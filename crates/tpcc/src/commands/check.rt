@@ -2,7 +2,7 @@ use crate::check::check_over;
 use crate::meaning::Inputs;
 use crate::opening::Opener;
 use crate::progress::NotingWriter;
-use crate::report::{Report, Teller};
+use crate::report::{Report, FaultReporter};
 use crate::trouble::Trouble;
 use command_line::{CheckSettings, Status};
 use std::io::{Stderr, Stdout};
@@ -17,7 +17,7 @@ pub fn carry_out<R: Files + AllocGlobal>(
 ) -> Status {
     let trouble = Trouble::new();
     let inputs = Inputs::dataset(settings.data);
-    let mut teller = Teller::new(rt, stderr, settings.quiet, false, inputs, &trouble);
+    let mut fault_reporter = FaultReporter::new(rt, stderr, settings.quiet, false, inputs, &trouble);
     let opener = Opener::new(rt, stderr, settings.quiet, &trouble);
     match opener.open(settings.data) {
         Ok(data) => check_over(
@@ -25,8 +25,8 @@ pub fn carry_out<R: Files + AllocGlobal>(
             settings,
             data,
             &mut NotingWriter::new(stdout, &trouble),
-            &mut teller,
+            &mut fault_reporter,
         ),
-        Err(fault) => teller.report(fault),
+        Err(fault) => fault_reporter.report(fault),
     }
 }

@@ -6,7 +6,7 @@ use crate::opening::{Opener, Watched};
 use crate::output::{Folders, NewFile};
 use crate::progress::NotingWriter;
 use crate::replay::replay_over;
-use crate::report::{Report, Teller};
+use crate::report::{Report, FaultReporter};
 use crate::trouble::Trouble;
 use command_line::{ReplaySettings, Status};
 use std::io::{Stderr, Stdout};
@@ -25,7 +25,7 @@ pub fn carry_out<R: Files + AllocGlobal + Clock>(
         moves: None,
         others: Format::Log,
     };
-    let mut teller = Teller::new(
+    let mut fault_reporter = FaultReporter::new(
         rt,
         stderr,
         settings.quiet,
@@ -44,9 +44,9 @@ pub fn carry_out<R: Files + AllocGlobal + Clock>(
             &mut NotingWriter::new(stdout, &trouble),
             tables,
             &mut Folders,
-            &mut teller,
+            &mut fault_reporter,
         ),
-        Err(fault) => teller.report(fault),
+        Err(fault) => fault_reporter.report(fault),
     }
 }
 

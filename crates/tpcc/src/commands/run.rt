@@ -7,7 +7,7 @@ use crate::meaning::{Format, Inputs};
 use crate::opening::{Opener, Watched};
 use crate::output::{Folders, NewFile};
 use crate::progress::NotingWriter;
-use crate::report::{Report, Teller};
+use crate::report::{Report, FaultReporter};
 use crate::run::run_over;
 use crate::trouble::Trouble;
 use crate::watch::Watch;
@@ -32,7 +32,7 @@ pub fn carry_out<R: Files + AllocGlobal + Clock + Threads + Wait + Sync>(
         moves: settings.moves,
         others: Format::Script,
     };
-    let mut teller = Teller::new(
+    let mut fault_reporter = FaultReporter::new(
         rt,
         stderr,
         settings.quiet,
@@ -61,10 +61,10 @@ pub fn carry_out<R: Files + AllocGlobal + Clock + Threads + Wait + Sync>(
             log,
             tables,
             &mut Folders,
-            Watch::new(rt, rt.alloc(), opener.terminal, teller.sums_up()),
-            &mut teller,
+            Watch::new(rt, rt.alloc(), opener.terminal, fault_reporter.sums_up()),
+            &mut fault_reporter,
         )),
-        Err(fault) => teller.report(fault),
+        Err(fault) => fault_reporter.report(fault),
     }
 }
 

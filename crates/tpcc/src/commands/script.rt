@@ -5,7 +5,7 @@ use crate::command_fault::CommandFault;
 use crate::meaning::Inputs;
 use crate::opening::{Opener, Watched};
 use crate::output::{Folders, NewFile, make};
-use crate::report::{Report, Teller};
+use crate::report::{Report, FaultReporter};
 use crate::script::script_over;
 use crate::trouble::Trouble;
 use command_line::{ScriptSettings, Status};
@@ -22,7 +22,7 @@ pub fn carry_out<R: Files + AllocGlobal>(
 {
     let trouble = Trouble::new();
     let inputs = Inputs::dataset(settings.data);
-    let mut teller = Teller::new(rt, stderr, settings.quiet, false, inputs, &trouble);
+    let mut fault_reporter = FaultReporter::new(rt, stderr, settings.quiet, false, inputs, &trouble);
     let opener = Opener::new(rt, stderr, settings.quiet, &trouble);
     match ScriptFiles::open(&opener, settings) {
         Ok(ScriptFiles { data, scripts }) => script_over(
@@ -31,9 +31,9 @@ pub fn carry_out<R: Files + AllocGlobal>(
             data,
             scripts,
             &mut Folders,
-            &mut teller,
+            &mut fault_reporter,
         ),
-        Err(fault) => teller.report(fault),
+        Err(fault) => fault_reporter.report(fault),
     }
 }
 

@@ -7,7 +7,7 @@ use crate::meaning::{Format, Inputs};
 use crate::opening::{Opener, Watched};
 use crate::output::{Folders, NewFile};
 use crate::progress::NotingWriter;
-use crate::report::{Report, Teller};
+use crate::report::{Report, FaultReporter};
 use crate::sim::sim_over;
 use crate::trouble::Trouble;
 use command_line::{SimSettings, Status};
@@ -29,7 +29,7 @@ pub fn carry_out<R: Files + AllocGlobal>(
         moves: None,
         others: Format::Schedule,
     };
-    let mut teller = Teller::new(rt, stderr, settings.quiet, false, inputs, &trouble);
+    let mut fault_reporter = FaultReporter::new(rt, stderr, settings.quiet, false, inputs, &trouble);
     let opener = Opener::new(rt, stderr, settings.quiet, &trouble);
     match SimFiles::open(&opener, settings) {
         Ok(
@@ -50,9 +50,9 @@ pub fn carry_out<R: Files + AllocGlobal>(
             picture,
             tables,
             &mut Folders,
-            &mut teller,
+            &mut fault_reporter,
         )),
-        Err(fault) => teller.report(fault),
+        Err(fault) => fault_reporter.report(fault),
     }
 }
 

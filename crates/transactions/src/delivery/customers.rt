@@ -6,7 +6,7 @@ ghost use Rattle.requests.specs.declared.group.Group.TheVariants as group;
 ghost use Rattle.groups.specs.Content.{content};
 ghost use Rattle.groups.specs.Footprint.{exclusively};
 ghost use Rattle.tickets.specs.Claims.{leaving};
-ghost use Rattle.slices.specs.Sliced.{SliceKeeps};
+ghost use Rattle.slices.specs.SliceView.{SliceKeeps};
 ghost use Rattle.machine.specs.Delivery.{customer_delivered};
 ghost use Rattle.transactions.specs.Granted.{AreGrantedFor, AreLeft, IsExclusiveOn, IsFresh};
 ghost use Rattle.transactions.specs.Delivery.{AreCustomersCredited, FindsCredited, FindsCustomer, ten};

@@ -1,14 +1,14 @@
 //! What the actions of a Delivery do, what they claim for it, and what they find.
 ghost use Rattle.std.specs.Prelude.{◌≡◌, length, slice_get, IfOk, OnErr};
 ghost use Rattle.partitions.specs.Parts.{shared_of};
-ghost use Rattle.slices.specs.Sliced.{SliceKeeps};
+ghost use Rattle.slices.specs.SliceView.{SliceKeeps};
 ghost use Rattle.transactions.specs.Granted.{AreGrantedFor, AreLeft};
-ghost use Rattle.transactions.specs.Delivery.{CanDo, HasDone, home_of, wishes_of};
+ghost use Rattle.transactions.specs.Delivery.{CanDo, HasDone, home_of, group_wants_of};
 
 use super::customers::credit_customers;
 use super::orders::deliver_orders;
 use super::{CustomersCredited, Delivered};
-use groups::Wish;
+use groups::GroupWant;
 use requests::{Delivery, Group};
 use schema::NoMemory;
 use slices::Slice;
@@ -45,8 +45,8 @@ impl Work {
     }
 
     // How many groups it claims.
-    pub(crate) fn wish_count(&self) -> usize
-        ensures { result ≡ length (wishes_of self.now) }
+    pub(crate) fn group_want_count(&self) -> usize
+        ensures { result ≡ length (group_wants_of self.now) }
     {
         match self {
             Work::DeliverOrders(_) => DISTRICTS,
@@ -54,20 +54,20 @@ impl Work {
         }
     }
 
-    // The wish of this number, from 0.
-    pub(crate) fn wish(&self, number: usize) -> Option<Wish>
-        ensures { result ≡ slice_get (wishes_of self.now) number }
+    // The want of this number, from 0.
+    pub(crate) fn group_want(&self, number: usize) -> Option<GroupWant>
+        ensures { result ≡ slice_get (group_wants_of self.now) number }
     {
         if number >= DISTRICTS {
             return None;
         }
         let d_id = number as u32 + 1;
         match self {
-            Work::DeliverOrders(delivery) => Some(Wish::exclusively(Group::Orders {
+            Work::DeliverOrders(delivery) => Some(GroupWant::exclusively(Group::Orders {
                 w_id: delivery.w_id,
                 d_id,
             })),
-            Work::CreditCustomers(delivery, _) => Some(Wish::exclusively(Group::Customers {
+            Work::CreditCustomers(delivery, _) => Some(GroupWant::exclusively(Group::Customers {
                 w_id: delivery.w_id,
                 d_id,
             })),
@@ -83,7 +83,7 @@ impl Work {
     ) -> Result<Found, NoMemory>
         requires can { CanDo (shared_of slice.old.tables) self }
         requires home { home_of self ≡ slice.old.home }
-        requires granted { AreGrantedFor (wishes_of self) claims.old }
+        requires granted { AreGrantedFor (group_wants_of self) claims.old }
         ensures kept { SliceKeeps claims.old slice.old claims.new slice.new }
         ensures done { IfOk result (λ found. HasDone (shared_of slice.old.tables) self found claims.new) }
         ensures left { AreLeft claims.old claims.new }

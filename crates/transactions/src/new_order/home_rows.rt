@@ -2,7 +2,7 @@
 ghost use Rattle.std.specs.Prelude.{◌≡◌, [], ◌∷◌, IfOk, OnOk, OnErr};
 ghost use Rattle.requests.specs.declared.group.Group.TheVariants as group;
 ghost use Rattle.tickets.specs.Claims.{leaving};
-ghost use Rattle.slices.specs.Sliced.{SliceKeeps};
+ghost use Rattle.slices.specs.SliceView.{SliceKeeps};
 ghost use Rattle.transactions.specs.Granted.{IsExclusiveOn, IsFresh, IsSharedOn};
 ghost use Rattle.transactions.specs.NewOrder.{IsHomeOrdered, IsNumberKnown, IsOrderAdded, IsOrderKnown, IsOrdererKnown, IsOrdererShown};
 

@@ -1,14 +1,14 @@
 //! What the actions of a New-Order do, what they claim for it, and what they find.
 ghost use Rattle.std.specs.Prelude.{◌≡◌, length, slice_get, IfOk, OnErr};
 ghost use Rattle.partitions.specs.Parts.{shared_of};
-ghost use Rattle.slices.specs.Sliced.{SliceKeeps};
+ghost use Rattle.slices.specs.SliceView.{SliceKeeps};
 ghost use Rattle.transactions.specs.Granted.{AreGrantedFor, AreLeft};
-ghost use Rattle.transactions.specs.NewOrder.{CanDo, HasDone, home_of, wishes_of};
+ghost use Rattle.transactions.specs.NewOrder.{CanDo, HasDone, home_of, group_wants_of};
 
 use super::home_rows::{add_order, show_orderer, take_number};
 use super::stock::take_stock;
 use super::{HomeFound, OrderRows, OrdererFound, StockTaken};
-use groups::{Wish, warehouse_of};
+use groups::{GroupWant, warehouse_of};
 use requests::{Group, NewOrder};
 use schema::{DistrictKey, NoMemory, OrderKey};
 use slices::Slice;
@@ -51,8 +51,8 @@ impl Work {
     }
 
     // How many groups it claims.
-    pub(crate) fn wish_count(&self) -> usize
-        ensures { result ≡ length (wishes_of self.now) }
+    pub(crate) fn group_want_count(&self) -> usize
+        ensures { result ≡ length (group_wants_of self.now) }
     {
         match self {
             Work::TakeNumber(_) => 2,
@@ -62,34 +62,34 @@ impl Work {
         }
     }
 
-    // The wish of this number, from 0.
-    pub(crate) fn wish(&self, number: usize) -> Option<Wish>
-        ensures { result ≡ slice_get (wishes_of self.now) number }
+    // The want of this number, from 0.
+    pub(crate) fn group_want(&self, number: usize) -> Option<GroupWant>
+        ensures { result ≡ slice_get (group_wants_of self.now) number }
     {
         match self {
             Work::TakeNumber(order) => {
                 let DistrictKey { w_id, d_id } = order.home;
                 match number {
-                    0 => Some(Wish::shared(Group::Warehouse { w_id })),
-                    1 => Some(Wish::exclusively(Group::District { w_id, d_id })),
+                    0 => Some(GroupWant::shared(Group::Warehouse { w_id })),
+                    1 => Some(GroupWant::exclusively(Group::District { w_id, d_id })),
                     _ => None,
                 }
             }
             Work::ShowOrderer(order) => {
                 let DistrictKey { w_id, d_id } = order.home;
                 match number {
-                    0 => Some(Wish::shared(Group::Customers { w_id, d_id })),
+                    0 => Some(GroupWant::shared(Group::Customers { w_id, d_id })),
                     _ => None,
                 }
             }
             Work::TakeStock(_, group) => match number {
-                0 => Some(Wish::exclusively(*group)),
+                0 => Some(GroupWant::exclusively(*group)),
                 _ => None,
             },
             Work::AddOrder(rows) => {
                 let OrderKey { w_id, d_id, .. } = rows.key;
                 match number {
-                    0 => Some(Wish::exclusively(Group::Orders { w_id, d_id })),
+                    0 => Some(GroupWant::exclusively(Group::Orders { w_id, d_id })),
                     _ => None,
                 }
             }
@@ -106,7 +106,7 @@ impl Work {
     ) -> Result<Found, NoMemory>
         requires can { CanDo (shared_of slice.old.tables) self }
         requires home { home_of self ≡ slice.old.home }
-        requires granted { AreGrantedFor (wishes_of self) claims.old }
+        requires granted { AreGrantedFor (group_wants_of self) claims.old }
         ensures kept { SliceKeeps claims.old slice.old claims.new slice.new }
         ensures done { IfOk result (λ found. HasDone (shared_of slice.old.tables) self found claims.new) }
         ensures left { AreLeft claims.old claims.new }

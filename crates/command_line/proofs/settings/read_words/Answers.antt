@@ -4,7 +4,7 @@ use Rattle.clap.specs.Words.{HasKind, fault_of, found_of, rows_of, subcommand_of
 use Rattle.clap.specs.declared.error.ErrorKind.TheVariants.{DisplayVersion}
 use Rattle.command_line.specs.declared.usage.UsageFault.TheVariants.{NoCommand}
 use Rattle.command_line.specs.CommandLine.{program}
-use Rattle.command_line.proofs.AskedWords.{means, mistakes, named, no_memory, of_command, told, version}
+use Rattle.command_line.proofs.AskedWords.{means, mistakes, named, no_memory, of_command, reported, version}
 use Rattle.command_line.proofs.ParsedWords.{among, entered, fails_by, names, no_rows}
 use Rattle.command_line.proofs.settings.read_words.Goals as goal
 
@@ -19,7 +19,7 @@ pub returns-in-Err-clause-mistake : goal.returns-in-Err-clause-mistake
 returns-in-Err-clause-mistake c =
     let words : List (List ℕ) = map string_bytes c.args.words.now in
     let has : HasKind (fault_of program words) c.in-Err.error = fails_by c.in_ok-program.field-0 words (Err c.in-Err.error) c.in_ok-program.ensures c.in-Err.ensures.kinds in
-    IfErr-weaker c.text_or_fault.result _ _ (λ fault h. mistakes words fault c.in_default.ensures (told words c.in-Err.error fault has h)) c.text_or_fault.ensures.mistake
+    IfErr-weaker c.text_or_fault.result _ _ (λ fault h. mistakes words fault c.in_default.ensures (reported words c.in-Err.error fault has h)) c.text_or_fault.ensures.mistake
 
 pub returns-in-Some-subcommand-clause-asked : goal.returns-in-Some-subcommand-clause-asked
 returns-in-Some-subcommand-clause-asked c =

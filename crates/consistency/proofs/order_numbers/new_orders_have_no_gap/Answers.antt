@@ -11,11 +11,11 @@ returns c =
     districts_only_rule t c.scale.ensures.within (HasNoGap t) c.all_districts.result
     (λ is home inside.
     let post = c.all_districts.ensures.passed is home (subst (λ (s : Scale). IsTrue (has_district s home)) (sym c.scale.ensures.value) inside) in
-    let tells : IsTrue true ↔ HasNoGap t home = search (rules, tests) in
-    tells.0 refl)
+    let reports : IsTrue true ↔ HasNoGap t home = search (rules, tests) in
+    reports.0 refl)
     (λ is.
     let bad = c.all_districts.ensures.failed is in
     let home = bad.0 in
     let post = bad.2 in
-    let tells : IsTrue false ↔ HasNoGap t home = search (rules, tests) in
-    (home, subst (λ (s : Scale). IsTrue (has_district s home)) c.scale.ensures.value bad.1, λ h. absurd (let clash : IsTrue false = tells.1 h in cc)))
+    let reports : IsTrue false ↔ HasNoGap t home = search (rules, tests) in
+    (home, subst (λ (s : Scale). IsTrue (has_district s home)) c.scale.ensures.value bad.1, λ h. absurd (let clash : IsTrue false = reports.1 h in cc)))

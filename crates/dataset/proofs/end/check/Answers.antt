@@ -1,5 +1,5 @@
 use Rattle.std.proofs.Common.{◌≡◌}
-use Rattle.files.specs.FieldRead.{taking}
+use Rattle.files.specs.FieldRead.{fields_view}
 use Rattle.files.specs.Columns.{Count, take_columns}
 use Rattle.files.proofs.ColumnsRead.{and_then, count, several}
 use Rattle.std.proofs.Common.{rules, [], ◌∷◌, List, length, map, sum, subst}
@@ -29,7 +29,7 @@ returns-clause-columns c = λ small.
     let rows = c.args.rows.now in
     let lists = c.deref.result.now in
     let few : sum (map length lists) < 2 ^ 64 = subst (λ l. sum (map length l) < 2 ^ 64) (sym c.deref.ensures.value) small in
-    let paid = subst (λ l. taking c.check_payments.new.fields ≡ take_columns (Count (sum (map length l)) ∷ []) (taking c.expect_count-5.new.self)) c.deref.ensures.value (c.check_payments.ensures.columns few) in
+    let paid = subst (λ l. fields_view c.check_payments.new.fields ≡ take_columns (Count (sum (map length l)) ∷ []) (fields_view c.expect_count-5.new.self)) c.deref.ensures.value (c.check_payments.ensures.columns few) in
     (and_then (count (length rows.items.items) _ c.args.fields.now c.expect_count.new.self (search rules) c.expect_count.ensures.field)
     (and_then (count (length rows.warehouses.items) _ c.expect_count.new.self c.expect_count-2.new.self (search rules) c.expect_count-2.ensures.field)
     (and_then (count (length rows.districts.items) _ c.expect_count-2.new.self c.expect_count-3.new.self (search rules) c.expect_count-3.ensures.field)

@@ -1,13 +1,13 @@
 use Rattle.files.proofs.ColumnsRead.{and_then, ended, whole}
-use Rattle.dataset.proofs.HeaderFault.{header_made, header_told, no_difference, no_header, not_five, other_name, other_version}
+use Rattle.dataset.proofs.HeaderFault.{header_made, header_reported, no_difference, no_header, not_five, other_name, other_version}
 use Rattle.schema.specs.Limits.{IsScale}
-use Rattle.files.specs.FieldRead.{taking}
+use Rattle.files.specs.FieldRead.{fields_view}
 use Rattle.files.specs.Taken.{fault_of}
 use Rattle.dataset.proofs.LetterFault.{some_word}
 use Rattle.std.proofs.Common.{codes, refl, sym, ◌∙◌, lit<}
 use Rattle.std.proofs.lemmas.Fmt.{decimal_digit}
 use Rattle.files.specs.declared.fault.FaultKind.TheVariants.{OutOfRange}
-use Rattle.dataset.specs.FirstFault.{told_header}
+use Rattle.dataset.specs.FirstFault.{reported_header}
 use Rattle.dataset.specs.Records.{Words, Number}
 use Rattle.dataset.proofs.Taking.{takes-then, takes-one, takes-number, all_spelt, same_word, header_spelt}
 use Rattle.std.proofs.Common.{◌≡◌, None, length, arith}
@@ -37,18 +37,18 @@ returns-then-left-ne5-clause-exact c = λ free.
       | then-left-ne5-via-then-left-ne5 w ↦ no_header left (not_five left (λ five. omega arith))
       | then-left-ne5-via-else-left-ne5+then-ne w ↦
           let five : length left ≡ 5 = omega arith in
-          no_header left (other_name left (fault_of c.args.fields.now) w.word.result.now (taking w.word.new.self) five w.word.ensures.field (λ e. no_difference w.word.result.now (codes "TPCC") w.ne.result w.ne.ensures e w.if-ne.true))
+          no_header left (other_name left (fault_of c.args.fields.now) w.word.result.now (fields_view w.word.new.self) five w.word.ensures.field (λ e. no_difference w.word.result.now (codes "TPCC") w.ne.result w.ne.ensures e w.if-ne.true))
       | then-left-ne5-via-else-left-ne5+else-ne+then-ne-2 w ↦
           let five : length left ≡ 5 = omega arith in
           let name = same_word w.word.result.now (codes "TPCC") w.ne.result w.ne.ensures w.if-ne.false in
-          let one = some_word (codes "TPCC") 3 w.word.result.now left (fault_of c.args.fields.now) (taking w.word.new.self) refl name w.word.ensures.field in
-          no_header left (other_version left (fields_left w.word.new.self) (fault_of w.word.new.self) (codes "TPCC") w.word-else-ne.result.now (taking w.word-else-ne.new.self) five one.left w.word-else-ne.ensures.field
+          let one = some_word (codes "TPCC") 3 w.word.result.now left (fault_of c.args.fields.now) (fields_view w.word.new.self) refl name w.word.ensures.field in
+          no_header left (other_version left (fields_left w.word.new.self) (fault_of w.word.new.self) (codes "TPCC") w.word-else-ne.result.now (fields_view w.word-else-ne.new.self) five one.left w.word-else-ne.ensures.field
           (λ e. no_difference w.word-else-ne.result.now (codes "1") w.ne-else-ne.result w.ne-else-ne.ensures e w.if-ne-2.true))
     ]
 
 -- the record begins as a header does, and its fault is told
-told : (c : After-finish) → fault_of c.args.fields.now ≡ None → told_header (fields_left c.args.fields.now) ≡ c.finish.result
-told c free =
+reported : (c : After-finish) → fault_of c.args.fields.now ≡ None → reported_header (fields_left c.args.fields.now) ≡ c.finish.result
+reported c free =
     let name = same_word c.word.result.now (codes "TPCC") c.ne.result c.ne.ensures c.if-ne.false in
     let version = same_word c.word-else-ne.result.now (codes "1") c.ne-else-ne.result c.ne-else-ne.ensures c.if-ne-2.false in
     let five : length (fields_left c.args.fields.now) ≡ 5 = omega arith in
@@ -56,12 +56,12 @@ told c free =
     and_then (whole 1 64 c.word-else-ne.new.self c.whole-warehouses.new.self c.whole-warehouses.ensures.field)
     (and_then (whole 1 100000 c.whole-warehouses.new.self c.whole-items.new.self c.whole-items.ensures.field)
     (whole 1 3000 c.whole-items.new.self c.whole-customers.new.self c.whole-customers.ensures.field)) in
-    sym (header_told c.args.fields.now c.word.new.self c.word-else-ne.new.self c.whole-customers.new.self c.word.result.now c.word-else-ne.result.now (fault_of c.finish.new.self) free five name c.word.ensures.field version c.word-else-ne.ensures.field
+    sym (header_reported c.args.fields.now c.word.new.self c.word-else-ne.new.self c.whole-customers.new.self c.word.result.now c.word-else-ne.result.now (fault_of c.finish.new.self) free five name c.word.ensures.field version c.word-else-ne.ensures.field
     columns.is (ended (fields_left c.whole-customers.new.self) (fault_of c.whole-customers.new.self) (fault_of c.finish.new.self) c.finish.ensures.none_left c.finish.ensures.some_left))
     ∙ sym c.finish.ensures.fault
 
 pub returns-in-Some-clause-exact : goal.returns-in-Some-clause-exact
-returns-in-Some-clause-exact c = λ free. told (goal.at.returns-in-Some-clause-exact c).After-finish free ∙ c.in-Some.is
+returns-in-Some-clause-exact c = λ free. reported (goal.at.returns-in-Some-clause-exact c).After-finish free ∙ c.in-Some.is
 
 pub returns-in-None-clause-exact : goal.returns-in-None-clause-exact
 returns-in-None-clause-exact c = λ free.
@@ -76,4 +76,4 @@ returns-in-None-clause-exact c = λ free.
       some_customer = n.0;
       most_customers = n.1;
     } in
-    header_made c.ok_or.result c.checked_new.result OutOfRange (fields_left c.args.fields.now) c.ok_or.ensures.value (c.checked_new.ensures.fits.1 fits) (told (goal.at.returns-in-None-clause-exact c).After-finish free ∙ c.in-None.is)
+    header_made c.ok_or.result c.checked_new.result OutOfRange (fields_left c.args.fields.now) c.ok_or.ensures.value (c.checked_new.ensures.fits.1 fits) (reported (goal.at.returns-in-None-clause-exact c).After-finish free ∙ c.in-None.is)

@@ -4,9 +4,9 @@ use Rattle.std.proofs.lemmas.Result.{IfErr-weaker, IfOk-weaker, MatchResult-from
 use Rattle.files.specs.FirstFault.{behind_end}
 use Rattle.files.specs.Place.{IsCsv, record_number}
 use Rattle.dataset.specs.Columns.{sizes}
-use Rattle.dataset.specs.FirstFault.{Tells, first_fault, rows_fault}
-use Rattle.dataset.proofs.Faultless.{error_told, no_fault_told}
-use Rattle.dataset.proofs.HeaderFault.{first_of_header, tells_end, tells_first}
+use Rattle.dataset.specs.FirstFault.{Reports, first_fault, rows_fault}
+use Rattle.dataset.proofs.Faultless.{error_reported, no_fault_reported}
+use Rattle.dataset.proofs.HeaderFault.{first_of_header, reports_end, reports_first}
 use Rattle.dataset.proofs.reader.read.Goals as goal
 
 pub returns-clause-tables : goal.returns-clause-tables
@@ -19,7 +19,7 @@ pub returns-in_err-scale-clause-first : goal.returns-in_err-scale-clause-first
 returns-in_err-scale-clause-first g c =
     let p = err_from_is_err_and c.from_residual.result c.from_residual.ensures.1 in
     rw (p.1, p.2) (λ text rows known csv few.
-    tells_first _ rows (first_fault rows) refl (first_of_header _ rows (c.in_err-scale.ensures.first rows c.new-records.ensures.number (c.new-records.ensures.all_left text rows known csv))))
+    reports_first _ rows (first_fault rows) refl (first_of_header _ rows (c.in_err-scale.ensures.first rows c.new-records.ensures.number (c.new-records.ensures.all_left text rows known csv))))
 
 pub returns-in_err-read_rows-clause-first : goal.returns-in_err-read_rows-clause-first
 returns-in_err-read_rows-clause-first g c =
@@ -28,7 +28,7 @@ returns-in_err-read_rows-clause-first g c =
     let b = c.in_ok-scale.ensures.first rows c.new-records.ensures.number (c.new-records.ensures.all_left text rows known csv) in
     let fewer : length rows ≡ length b.more + 1 = let e = ap length b.are in omega (arith, e) in
     let fault = c.in_err-read_rows.ensures.first (b.header ∷ []) b.more (omega (arith, fewer, few)) (c.new-loader.ensures.loads b.header b.spelt) b.number b.left in
-    tells_first _ rows (rows_fault (sizes c.new-loader.result.scale) (b.header ∷ []) b.more) (b.fault ∙ ap (λ s. rows_fault (sizes s) (b.header ∷ []) b.more) (sym c.new-loader.ensures.scale)) fault)
+    reports_first _ rows (rows_fault (sizes c.new-loader.result.scale) (b.header ∷ []) b.more) (b.fault ∙ ap (λ s. rows_fault (sizes s) (b.header ∷ []) b.more) (sym c.new-loader.ensures.scale)) fault)
 
 pub returns-clause-first : goal.returns-clause-first
 returns-clause-first g c = λ text rows known csv few.
@@ -41,24 +41,24 @@ returns-clause-first g c = λ text rows known csv few.
     let small : number < 2 ^ 64 - 1 = let long = ap length are in let parts = length-append end.before (end.end ∷ end.more) in let n = end.number in omega (arith, long, parts, n, few) in
     MatchResult-from_both c.finish.result _ _
     (IfOk-weaker c.finish.result _ _ (λ tables none. fault ∙ ap (behind_end number) (none end.more end.left)) c.finish.ensures.none_left)
-    (IfErr-weaker c.finish.result _ _ (λ error told.
-    tells_end error c.read_rows.new.loader rows end.before end.more end.end number end.loaded are end.number fault (told end.more end.left small)) c.finish.ensures.first)
+    (IfErr-weaker c.finish.result _ _ (λ error reported.
+    reports_end error c.read_rows.new.loader rows end.before end.more end.end number end.loaded are end.number fault (reported end.more end.left small)) c.finish.ensures.first)
 
 -- what is told of all texts says that there is a fault only where no tables have the records
 pub returns-in_err-scale-clause-fault : goal.returns-in_err-scale-clause-fault
 returns-in_err-scale-clause-fault g c =
     let p = err_from_is_err_and c.from_residual.result c.from_residual.ensures.1 in
     rw (p.1, p.2) (λ fault text known rows csv few.
-    no_fault_told _ rows few (tells_first _ rows (first_fault rows) refl (first_of_header _ rows (c.in_err-scale.ensures.first rows c.new-records.ensures.number (c.new-records.ensures.all_left text rows known csv)))) fault)
+    no_fault_reported _ rows few (reports_first _ rows (first_fault rows) refl (first_of_header _ rows (c.in_err-scale.ensures.first rows c.new-records.ensures.number (c.new-records.ensures.all_left text rows known csv)))) fault)
 
 pub returns-in_err-read_rows-clause-fault : goal.returns-in_err-read_rows-clause-fault
 returns-in_err-read_rows-clause-fault g c =
     let p = err_from_is_err_and c.from_residual-in_err-read_rows.result c.from_residual-in_err-read_rows.ensures.1 in
     rw (p.1, p.2) (λ fault text known rows csv few.
-    no_fault_told _ rows few ((rw (p.1, p.2) at (returns-in_err-read_rows-clause-first g c)) text rows known csv few) fault)
+    no_fault_reported _ rows few ((rw (p.1, p.2) at (returns-in_err-read_rows-clause-first g c)) text rows known csv few) fault)
 
 pub returns-clause-fault : goal.returns-clause-fault
 returns-clause-fault g c =
-    IfErr-weaker c.finish.result _ _ (λ error told fault text known rows csv few. no_fault_told error rows few (told (text, rows) (known, csv, few)) fault)
-    (error_told c.finish.result (λ (p : List ℕ × List (List (List ℕ))) tables. first_fault p.1 ≡ None) (λ (p : List ℕ × List (List (List ℕ))) error. Tells p.1 error)
+    IfErr-weaker c.finish.result _ _ (λ error reported fault text known rows csv few. no_fault_reported error rows few (reported (text, rows) (known, csv, few)) fault)
+    (error_reported c.finish.result (λ (p : List ℕ × List (List (List ℕ))) tables. first_fault p.1 ≡ None) (λ (p : List ℕ × List (List (List ℕ))) error. Reports p.1 error)
     (λ (p : List ℕ × List (List (List ℕ))). (g.R.Input.remaining c.args.source ≡ Some p.0) × IsCsv p.0 p.1 × (length p.1 < 2 ^ 64 - 1)) (λ p h. returns-clause-first g c p.0 p.1 h.0 h.1 h.2))

@@ -1,6 +1,6 @@
 use Rattle.std.proofs.Common.{◌+◌}
 use Rattle.files.specs.Place.{record_number}
-use Rattle.dataset.specs.FirstFault.{first_fault, header_first, told_header}
+use Rattle.dataset.specs.FirstFault.{first_fault, header_first, reported_header}
 use Rattle.files.proofs.RecordsLeft.{next_row}
 use Rattle.dataset.proofs.HeaderFault.{header_error, header_fails, header_passes, header_unread}
 use Rattle.files.specs.declared.fault.FaultKind.TheVariants.{NoHeader}
@@ -37,13 +37,13 @@ returns-in-Ok-clause-first g c = λ rows number left.
     let found : c.in_ok-advance.field-0 ≡ true = search rules in
     let next = next_row g.R.Input.remaining rows c.in_ok-advance.field-0 c.advance.new.self found (c.in_ok-advance.ensures.reads_next rows left) in
     let spelt = subst (AreSpelt (header_fields c.in-Ok.scale)) c.fields.ensures.left c.in-Ok.ensures.spelt in
-    let told = ap told_header (sym c.fields.ensures.left) ∙ c.in-Ok.ensures.exact c.fields.ensures.fault in
+    let reported = ap reported_header (sym c.fields.ensures.left) ∙ c.in-Ok.ensures.exact c.fields.ensures.fault in
     record {
       header = record_fields c.advance.new.self;
       more = next.0;
       are = next.1;
       spelt = spelt;
-      fault = ap first_fault next.1 ∙ header_passes c.in-Ok.scale (record_fields c.advance.new.self) next.0 (c.in_ok-advance.ensures.kept found) told spelt;
+      fault = ap first_fault next.1 ∙ header_passes c.in-Ok.scale (record_fields c.advance.new.self) next.0 (c.in_ok-advance.ensures.kept found) reported spelt;
       left = next.2;
       number = c.advance.ensures.number (omega (arith, number)) ∙ ap (λ n. n + 1) number;
     }
@@ -52,6 +52,6 @@ pub returns-in-Err-clause-first : goal.returns-in-Err-clause-first
 returns-in-Err-clause-first g c = λ rows number left.
     let found : c.in_ok-advance.field-0 ≡ true = search rules in
     let next = next_row g.R.Input.remaining rows c.in_ok-advance.field-0 c.advance.new.self found (c.in_ok-advance.ensures.reads_next rows left) in
-    let told = ap told_header (sym c.fields.ensures.left) ∙ c.in-Err.ensures.exact c.fields.ensures.fault in
+    let reported = ap reported_header (sym c.fields.ensures.left) ∙ c.in-Err.ensures.exact c.fields.ensures.fault in
     header_error c.fault-in-Err.result c.in-Err.kind (record_number c.advance.new.self) (header_first rows) c.fault-in-Err.ensures (c.advance.ensures.number (omega (arith, number)) ∙ ap (λ n. n + 1) number)
-    (ap header_first next.1 ∙ header_fails c.in-Err.kind (record_fields c.advance.new.self) next.0 (c.in_ok-advance.ensures.kept found) told)
+    (ap header_first next.1 ∙ header_fails c.in-Err.kind (record_fields c.advance.new.self) next.0 (c.in_ok-advance.ensures.kept found) reported)

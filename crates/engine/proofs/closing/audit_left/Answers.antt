@@ -19,7 +19,7 @@ loop-session-preserved g c =
     let left = c.args.left.items in
     let done = known.so_far.0 in
     let first = length c.args.answers.now.items in
-    let told = c.in-Some-audit in
+    let recorded = c.in-Some-audit in
     let before = c.args.answers.now.items in
     let asked = λ (l : Left g.row.J.Denot). l.session.script in
     let answers = λ (l : Left g.row.J.Denot). l.session.answers in
@@ -29,21 +29,21 @@ loop-session-preserved g c =
     ap length known.so_far.3 ∙ length-append before (map answers done) ∙ ap (λ n. first + n) (length-map done answers) in
     let place = length c.loop-session.answers.items in
     let number : c.len-in-loop-session.result ≡ place = omega (arith, c.len-in-loop-session.ensures, c.loop-session.answers.ok.0) in
-    let served = subst (λ (l : List Entry). Served scale told.script told.told (items_of place l) (length l)) known.same
-    (subst (λ (n : ℕ). Served scale told.script told.told (items_of n c.loop-session.log) (length c.loop-session.log)) number
-    (subst (λ (rs : List Request). Served scale rs told.told (items_of c.len-in-loop-session.result c.loop-session.log) (length c.loop-session.log)) (sym told.ensures.asked) told.ensures.served)) in
+    let served = subst (λ (l : List Entry). Served scale recorded.script recorded.recorded (items_of place l) (length l)) known.same
+    (subst (λ (n : ℕ). Served scale recorded.script recorded.recorded (items_of n c.loop-session.log) (length c.loop-session.log)) number
+    (subst (λ (rs : List Request). Served scale rs recorded.recorded (items_of c.len-in-loop-session.result c.loop-session.log) (length c.loop-session.log)) (sym recorded.ensures.asked) recorded.ensures.served)) in
     record {
       can_next = tt;
       finite = tt;
       so_far = (
         done ++ one ∷ [],
         all ∙ sym (append_assoc done (one ∷ []) rest),
-        c.in_ok-put.ensures ∙ ap (λ (l : List (List Request)). l ++ told.script ∷ []) known.so_far.2 ∙ ap (λ (s : List Request). map asked done ++ s ∷ []) told.ensures.asked ∙ sym (map-append asked done (one ∷ [])),
-        c.in_ok-put-2.ensures ∙ ap (λ (l : List (List (Result ℕ Refusal))). l ++ told.told ∷ []) known.so_far.3 ∙ append_assoc before (map answers done) (told.told ∷ [])
-            ∙ ap (λ (l : List (List (Result ℕ Refusal))). before ++ l) (ap (λ (s : List (Result ℕ Refusal)). map answers done ++ s ∷ []) told.ensures.told ∙ sym (map-append answers done (one ∷ []))),
+        c.in_ok-put.ensures ∙ ap (λ (l : List (List Request)). l ++ recorded.script ∷ []) known.so_far.2 ∙ ap (λ (s : List Request). map asked done ++ s ∷ []) recorded.ensures.asked ∙ sym (map-append asked done (one ∷ [])),
+        c.in_ok-put-2.ensures ∙ ap (λ (l : List (List (Result ℕ Refusal))). l ++ recorded.recorded ∷ []) known.so_far.3 ∙ append_assoc before (map answers done) (recorded.recorded ∷ [])
+            ∙ ap (λ (l : List (List (Result ℕ Refusal))). before ++ l) (ap (λ (s : List (Result ℕ Refusal)). map answers done ++ s ∷ []) recorded.ensures.recorded ∙ sym (map-append answers done (one ∷ []))),
       );
       each = λ scripts behind before.
-          each_next scale scripts c.args.log.now c.loop-session.answers.items c.put-in-loop-session.new.items.items place told.script told.told (known.each scripts behind before) refl
-          (ap (λ (n : ℕ). slice_get scripts n) many ∙ asked_next first scripts left done rest one all behind ∙ ap Some (sym told.ensures.asked)) served c.in_ok-put-2.ensures;
-      same = told.ensures.same ∙ known.same;
+          each_next scale scripts c.args.log.now c.loop-session.answers.items c.put-in-loop-session.new.items.items place recorded.script recorded.recorded (known.each scripts behind before) refl
+          (ap (λ (n : ℕ). slice_get scripts n) many ∙ asked_next first scripts left done rest one all behind ∙ ap Some (sym recorded.ensures.asked)) served c.in_ok-put-2.ensures;
+      same = recorded.ensures.same ∙ known.same;
     }

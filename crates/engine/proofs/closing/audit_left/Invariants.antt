@@ -1,7 +1,7 @@
 -- The sessions so far are compared with the log.
 use Rattle.std.proofs.Common.{◌≡◌, List, ◌++◌, length}
 use Rattle.requests.specs.declared.request.Request.{Request}
-use Rattle.engine.specs.ByHand.{asked_by, told_by}
+use Rattle.engine.specs.Interactive.{asked_by, recorded_by}
 use Rattle.engine.specs.Served.{ServedEach}
 use Rattle.engine.specs.Sessions.{AreAskedFrom}
 use Rattle.engine.specs.declared.session.Left.{Left}
@@ -12,7 +12,7 @@ invariant-loop-session g l = record {
   can_next : (goal.iterator-loop-session g).can_next l.session-iterator;
   finite : (goal.iterator-loop-session g).is_finite l.session-iterator;
   so_far : (done : List (Left _)) × (l.fn.left.items ≡ done ++ l.session-iterator.rest.items) × (l.asked.items ≡ asked_by done)
-      × (l.answers.items ≡ l.fn.answers.items ++ told_by done);
+      × (l.answers.items ≡ l.fn.answers.items ++ recorded_by done);
   each : (scripts : List (List Request)) → AreAskedFrom (length l.fn.answers.items) scripts l.fn.left.items
       → ServedEach g.J.LogNames.opening.scale scripts l.fn.log l.fn.answers.items → ServedEach g.J.LogNames.opening.scale scripts l.fn.log l.answers.items;
   same : l.log ≡ l.fn.log;

@@ -14,12 +14,12 @@ loop-session-preserved g c =
     let known = c.loop-session.invariant in
     let session = c.loop-session.session in
     let scripts = c.args.scripts.now in
-    let told = c.in-Some-audit.told in
+    let recorded = c.in-Some-audit.recorded in
     let script = reaches scripts session c.loop-session-test.true in
     let asked = ap (λ (l : List (List Request)). slice_get l session) c.requires.scripts ∙ script.1 in
-    let served = subst (λ (l : List Entry). Served scale script.0 told (items_of session l) (length l)) known.same (c.in-Some-audit.ensures.served script.0 asked) in
+    let served = subst (λ (l : List Entry). Served scale script.0 recorded (items_of session l) (length l)) known.same (c.in-Some-audit.ensures.served script.0 asked) in
     record {
-      count = one_longer c.loop-session.answers.items c.put.new.items.items told session known.count c.in_ok-put.ensures;
-      each = each_next scale scripts c.args.log.now c.loop-session.answers.items c.put.new.items.items session script.0 told known.each known.count script.1 served c.in_ok-put.ensures;
+      count = one_longer c.loop-session.answers.items c.put.new.items.items recorded session known.count c.in_ok-put.ensures;
+      each = each_next scale scripts c.args.log.now c.loop-session.answers.items c.put.new.items.items session script.0 recorded known.each known.count script.1 served c.in_ok-put.ensures;
       same = c.in-Some-audit.ensures.same ∙ known.same;
     }

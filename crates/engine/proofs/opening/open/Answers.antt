@@ -3,12 +3,12 @@ use Rattle.std.specs.Prelude.{All}
 use Rattle.schema.specs.Database.{Database}
 use Rattle.schema.specs.Scale.{warehouse_ids}
 use Rattle.groups.specs.Content.{content}
-use Rattle.tickets.specs.LogSeats.{SeatsTell}
+use Rattle.tickets.specs.LogSeats.{SeatsRecord}
 use Rattle.tickets.specs.Places.{AreInPlace}
 use Rattle.slices.specs.Openings.{AreBoxesOf}
 use Rattle.slices.proofs.Opened.{opened_groups_have_boxes}
 use Rattle.engine.specs.Opening.{IsToOpen}
-use Rattle.engine.proofs.AtOpening.{cut_to_open, seats_tell}
+use Rattle.engine.proofs.AtOpening.{cut_to_open, seats_record}
 use Rattle.engine.proofs.Sessions.{all_new}
 use Rattle.engine.proofs.opening.open.Goals as goal
 
@@ -22,8 +22,8 @@ pub new-log-requires-clause-opening : goal.new-log-requires-clause-opening
 new-log-requires-clause-opening g c =
     let boxed = c.in_ok-boxes.ensures in
     let in_place : AreInPlace c.args.tables.scale.warehouses c.in_ok-boxes.seats = subst (λ s. AreInPlace s.warehouses c.in_ok-boxes.seats) c.scale-scale.ensures.value boxed.places in
-    subst (λ (t : Database). SeatsTell (content t) c.in_ok-boxes.seats) (sym c.requires.named.tables_are)
-    (seats_tell c.args.tables c.args.opening.groups.items c.in_ok-boxes.seats c.requires.named.opened in_place boxed.contents)
+    subst (λ (t : Database). SeatsRecord (content t) c.in_ok-boxes.seats) (sym c.requires.named.tables_are)
+    (seats_record c.args.tables c.args.opening.groups.items c.in_ok-boxes.seats c.requires.named.opened in_place boxed.contents)
 
 pub open_posts-requires : goal.open_posts-requires
 open_posts-requires g c =

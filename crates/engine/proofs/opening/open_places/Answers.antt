@@ -4,11 +4,11 @@ use Rattle.std.specs.Vec.Iter.{into_iter_items}
 use Rattle.std.proofs.lemmas.List.Elements.{All-push}
 use Rattle.schema.proofs.RowReads.{copied_item}
 use Rattle.requests.specs.declared.request.Request.{Request}
-use Rattle.commit_log.specs.Passing.{Passing, Seating}
-use Rattle.engine.specs.ByHand.{HasAskedNothing}
-use Rattle.engine.specs.Opening.{AreCoursesFrom}
+use Rattle.commit_log.specs.PassView.{PassView, SessionSeatView}
+use Rattle.engine.specs.Interactive.{HasAskedNothing}
+use Rattle.engine.specs.Opening.{AreAgreedPhasesFrom}
 use Rattle.engine.specs.Sessions.{AreNewFrom}
-use Rattle.engine.proofs.AtOpening.{courses_next}
+use Rattle.engine.proofs.AtOpening.{agreed_phases_next}
 use Rattle.engine.proofs.Sessions.{new_next}
 use Rattle.engine.proofs.opening.open_places.Goals as goal
 use Rattle.engine.proofs.opening.open_places.Goals.{in-Some-get+in_ok-open-in-Some-get, in-None+in_ok-outlets-in-None+in_ok-push-in-None}
@@ -21,7 +21,7 @@ open-requires-clause-script g c =
     let most = c.requires.most in
     let next = c.in-Some.ensures.cases in
     let rest = new_next slot c.in-Some.pass c.in-Some.seat (into_iter_items c.next.new.self) (subst (AreNewFrom slot) next.0 c.loop-slot.invariant.new) (omega (arith, below, most)) in
-    ap (slice_get g.J.ServeNames.scripts) (ap (λ (p : Passing). p.session) rest.0)
+    ap (slice_get g.J.ServeNames.scripts) (ap (λ (p : PassView). p.session) rest.0)
     ∙ ap (λ (l : List (List Request)). slice_get l slot) c.requires.scripts
     ∙ sym (copied_item c.args.scripts.now c.args.scripts.now refl slot (Some c.in-Some-get.script) c.in-Some-get.ensures.lookup)
 
@@ -32,7 +32,7 @@ open-requires-clause-seat g c =
     let most = c.requires.most in
     let next = c.in-Some.ensures.cases in
     let rest = new_next slot c.in-Some.pass c.in-Some.seat (into_iter_items c.next.new.self) (subst (AreNewFrom slot) next.0 c.loop-slot.invariant.new) (omega (arith, below, most)) in
-    ap (λ (s : Seating). s.session) rest.1 ∙ sym (ap (λ (p : Passing). p.session) rest.0)
+    ap (λ (s : SessionSeatView). s.session) rest.1 ∙ sym (ap (λ (p : PassView). p.session) rest.0)
 
 pub open-requires-clause-nothing : goal.open-requires-clause-nothing
 open-requires-clause-nothing g c =
@@ -41,15 +41,15 @@ open-requires-clause-nothing g c =
     let most = c.requires.most in
     let next = c.in-Some.ensures.cases in
     let rest = new_next slot c.in-Some.pass c.in-Some.seat (into_iter_items c.next.new.self) (subst (AreNewFrom slot) next.0 c.loop-slot.invariant.new) (omega (arith, below, most)) in
-    ap (λ (p : Passing). p.mine) rest.0
+    ap (λ (p : PassView). p.mine) rest.0
 
--- and its course is the one that was opened for it
-pub named-keeper-requires : goal.named-keeper-requires
-named-keeper-requires g c =
+-- and its agreed phase is the one that was opened for it
+pub named-phase_owner-requires : goal.named-phase_owner-requires
+named-phase_owner-requires g c =
     let slot = c.loop-slot.slot in
     let next = c.in-Some-next.ensures.cases in
-    (courses_next g.J.CourseNames.course slot c.in-Some-next.course (into_iter_items c.next-in-loop-slot.new.self)
-    (subst (AreCoursesFrom g.J.CourseNames.course slot) next.0 c.loop-slot.invariant.named)).0
+    (agreed_phases_next g.J.PhaseNames.agreed_phase slot c.in-Some-next.agreed_phase (into_iter_items c.next-in-loop-slot.new.self)
+    (subst (AreAgreedPhasesFrom g.J.PhaseNames.agreed_phase slot) next.0 c.loop-slot.invariant.named)).0
 
 -- one place more
 pub loop-slot-preserved : goal.loop-slot-preserved
@@ -59,14 +59,14 @@ loop-slot-preserved g c =
     let below = c.loop-slot-test.true in
     let most = c.requires.most in
     let next = c.in-Some.ensures.cases in
-    let course = c.in-Some-next.ensures.cases in
+    let agreed_phase = c.in-Some-next.ensures.cases in
     let rest = new_next slot c.in-Some.pass c.in-Some.seat (into_iter_items c.next.new.self) (subst (AreNewFrom slot) next.0 known.new) (omega (arith, below, most)) in
     record {
       sessions = omega (arith, known.sessions, next.1);
       new = rest.2;
-      more = omega (arith, known.more, course.1);
-      named = (courses_next g.J.CourseNames.course slot c.in-Some-next.course (into_iter_items c.next-in-loop-slot.new.self)
-          (subst (AreCoursesFrom g.J.CourseNames.course slot) course.0 known.named)).1;
+      more = omega (arith, known.more, agreed_phase.1);
+      named = (agreed_phases_next g.J.PhaseNames.agreed_phase slot c.in-Some-next.agreed_phase (into_iter_items c.next-in-loop-slot.new.self)
+          (subst (AreAgreedPhasesFrom g.J.PhaseNames.agreed_phase slot) agreed_phase.0 known.named)).1;
       asked = elim c.match-get.branch [
         | in-Some-get+in_ok-open-in-Some-get w ↦ rw w.sessions-is known.asked
         | in-None+in_ok-outlets-in-None+in_ok-push-in-None w ↦
@@ -74,7 +74,7 @@ loop-slot-preserved g c =
       ];
     }
 
--- a session that asks by hand has a pass and a seat of its own, and has asked nothing
+-- a session that asks interactively has a pass and a seat of its own, and has asked nothing
 pub new-requires-clause-seat : goal.new-requires-clause-seat
 new-requires-clause-seat g c =
     let slot = c.loop-slot.slot in
@@ -82,7 +82,7 @@ new-requires-clause-seat g c =
     let most = c.requires.most in
     let next = c.in-Some.ensures.cases in
     let rest = new_next slot c.in-Some.pass c.in-Some.seat (into_iter_items c.next.new.self) (subst (AreNewFrom slot) next.0 c.loop-slot.invariant.new) (omega (arith, below, most)) in
-    ap (λ (s : Seating). s.session) rest.1 ∙ sym (ap (λ (p : Passing). p.session) rest.0)
+    ap (λ (s : SessionSeatView). s.session) rest.1 ∙ sym (ap (λ (p : PassView). p.session) rest.0)
 
 pub new-requires-clause-nothing : goal.new-requires-clause-nothing
 new-requires-clause-nothing g c =
@@ -91,4 +91,4 @@ new-requires-clause-nothing g c =
     let most = c.requires.most in
     let next = c.in-Some.ensures.cases in
     let rest = new_next slot c.in-Some.pass c.in-Some.seat (into_iter_items c.next.new.self) (subst (AreNewFrom slot) next.0 c.loop-slot.invariant.new) (omega (arith, below, most)) in
-    ap (λ (p : Passing). p.mine) rest.0
+    ap (λ (p : PassView). p.mine) rest.0

@@ -1,9 +1,9 @@
--- The places so far are made, and the other sessions and courses wait.
+-- The places so far are made, and the other sessions and agreed phases wait.
 use Rattle.std.proofs.Common.{◌≡◌, ◌+◌, vec_len}
 use Rattle.std.specs.Prelude.{All}
 use Rattle.std.specs.Vec.Iter.{into_iter_items, into_iter_len}
-use Rattle.engine.specs.ByHand.{HasAskedNothing}
-use Rattle.engine.specs.Opening.{AreCoursesFrom}
+use Rattle.engine.specs.Interactive.{HasAskedNothing}
+use Rattle.engine.specs.Opening.{AreAgreedPhasesFrom}
 use Rattle.engine.specs.Sessions.{AreNewFrom}
 use Rattle.engine.proofs.opening.open_places.Given as goal
 
@@ -11,7 +11,7 @@ abbrev pub invariant-loop-slot : goal.invariant-loop-slot
 invariant-loop-slot g l = record {
   sessions : into_iter_len l.lanes + l.slot ≡ 64;
   new : AreNewFrom l.slot (into_iter_items l.lanes);
-  more : into_iter_len l.courses + l.slot ≡ vec_len l.fn.courses;
-  named : AreCoursesFrom g.J.CourseNames.course l.slot (into_iter_items l.courses);
+  more : into_iter_len l.agreed_phases + l.slot ≡ vec_len l.fn.agreed_phases;
+  named : AreAgreedPhasesFrom g.J.PhaseNames.agreed_phase l.slot (into_iter_items l.agreed_phases);
   asked : All HasAskedNothing l.sessions.items;
 }

@@ -1,7 +1,7 @@
 use Rattle.std.proofs.Common.{refl, arith}
 use Rattle.tickets.specs.Openings.{opened}
 use Rattle.tickets.specs.Unset.{no_table, nothing}
-use Rattle.engine.proofs.AtOpening.{agreements_named, courses_named}
+use Rattle.engine.proofs.AtOpening.{agreements_named, agreed_phases_named}
 use Rattle.engine.proofs.serving.serve_all.Goals as goal
 
 -- the names are those of what was opened for the tables and the scripts
@@ -16,7 +16,7 @@ serve_from-requires-clause-named g c = λ κs within.
       length_is = refl;
       mine = λ session small. refl;
       asks = λ session small. refl;
-      courses_are = courses_named opening.courses.items no_table;
-      enough = omega (arith, c.in_ok-opened.ensures.courses, c.in_ok-opened.opened.courses.ok.0);
+      agreed_phases_are = agreed_phases_named opening.agreed_phases.items no_table;
+      enough = omega (arith, c.in_ok-opened.ensures.agreed_phases, c.in_ok-opened.opened.agreed_phases.ok.0);
       scripts_are = refl;
     }

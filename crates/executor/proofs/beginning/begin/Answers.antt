@@ -2,7 +2,7 @@ use Rattle.std.proofs.Common.{◌≡◌, ◌≤◌, ◌∙◌, List, Option, Non
 use Rattle.transactions.specs.declared.acting.Ran.{Ran}
 use Rattle.transactions.specs.declared.work.Work.{Work}
 use Rattle.partitions.specs.Parts.{shared_of}
-use Rattle.executor.specs.Courses.{Keeping}
+use Rattle.executor.specs.AgreedPhases.{PhaseOwnerView}
 use Rattle.executor.specs.Phases.{CarriesPhase}
 use Rattle.transactions.specs.Progresses.{works_of}
 use Rattle.executor.proofs.SentOut.{begun}
@@ -14,11 +14,11 @@ invariant_of-phase g c =
     let shared = (shared_of g.J.LogNames.opening) in
     let works = c.in-Ok.works.items in
     let slot = c.come_to.new.self.slot in
-    let told = c.come_to.new.self.course in
-    let is : works ≡ works_of told.progress = c.in-Ok.ensures ∙ sym (ap (λ (k : Keeping). works_of k.course.progress) c.come_to.ensures) in
+    let recorded = c.come_to.new.self.agreed_phase in
+    let is : works ≡ works_of recorded.progress = c.in-Ok.ensures ∙ sym (ap (λ (k : PhaseOwnerView). works_of k.agreed_phase.progress) c.come_to.ensures) in
     let some : 1 ≤ length works = subst (λ (l : List Work). 1 ≤ length l) (sym c.in-Ok.ensures) (c.phases_have_actions.ensures c.deref.result.now.progress) in
     let len : c.len-count.result ≡ length works = omega (arith, c.len-count.ensures) in
     let nobody : Option (Ran J) = None in
     let count : replicate (length works) nobody ≡ c.in-Ok-open.meeting = ap (λ n. replicate n nobody) (sym len) ∙ sym c.in-Ok-open.ensures in
-    subst (λ (k : Keeping). CarriesPhase {J = J} shared k.out (record { slot = k.slot; course = k.course; journey = None; rans = c.in-Ok-open.meeting })) (sym c.send_out-errands.ensures.keeper)
-    (subst (λ (rans : List (Option (Ran J))). CarriesPhase shared (length works) (record { slot = slot; course = told; journey = None; rans = rans })) count (begun J shared slot told works is some))
+    subst (λ (k : PhaseOwnerView). CarriesPhase {J = J} shared k.out (record { slot = k.slot; agreed_phase = k.agreed_phase; flow = None; rans = c.in-Ok-open.meeting })) (sym c.send_out-acts.ensures.phase_owner)
+    (subst (λ (rans : List (Option (Ran J))). CarriesPhase shared (length works) (record { slot = slot; agreed_phase = recorded; flow = None; rans = rans })) count (begun J shared slot recorded works is some))

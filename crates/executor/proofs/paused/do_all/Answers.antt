@@ -3,7 +3,7 @@ use Rattle.std.specs.Prelude.{All}
 use Rattle.std.proofs.lemmas.List.{length_push}
 use Rattle.std.proofs.lemmas.List.Elements.{All-tail}
 use Rattle.partitions.specs.Parts.{shared_of}
-use Rattle.tickets.specs.Claims.{Claiming}
+use Rattle.tickets.specs.Claims.{ClaimView}
 use Rattle.transactions.specs.declared.work.Found.{Found}
 use Rattle.transactions.specs.declared.work.Work.{Work}
 use Rattle.transactions.specs.Works.{CanDo}
@@ -54,6 +54,6 @@ loop-work-preserved g c =
       can = All-tail (CanDo shared) work rest (subst (λ (xs : List Work). All (CanDo shared) xs) steps l.invariant.can);
       done = next_done shared c.args.age c.args.works.items c.args.held l.work-iterator.rest.items rest l.held c.put.new.self l.found.items c.push_reserved.new.self.items work claims one steps put kept
           c.in-Some-work_at_once.ensures.done c.in-Some-work_at_once.ensures.undone l.invariant.done;
-      few = omega (arith, l.invariant.few, fewer, ap (λ (h : List (List Claiming)). length h) put, length_push l.held claims);
+      few = omega (arith, l.invariant.few, fewer, ap (λ (h : List (List ClaimView)). length h) put, length_push l.held claims);
       room = omega (arith, l.invariant.room, fewer, c.push_reserved.ensures.capacity, ap (λ (xs : List Found). length xs) kept, length_push l.found.items one);
     }

@@ -22,7 +22,7 @@ loop-to-preserved c =
       | in-Comma+in_ok-add-in-Comma w ↦
           rw (w.spans-is, w.from-is, w.in_ok-add-in-Comma.ensures) (so_far_comma c.args.bytes.now c.loop-to.spans.items c.loop-to.from c.in-Some.to before inside (rw w.in-Comma.is at marked))
     ] in
-    (c.in-Some.ensures.tells, behind)
+    (c.in-Some.ensures.reports, behind)
 
 pub returns-in-LineEnd : goal.returns-in-LineEnd
 returns-in-LineEnd c =
@@ -31,9 +31,9 @@ returns-in-LineEnd c =
 
 pub returns : goal.returns
 returns c =
-    let tells = c.loop-to.invariant.0 in
-    let low = tells.low in
-    let high = tells.high in
+    let reports = c.loop-to.invariant.0 in
+    let low = reports.low in
+    let high = reports.high in
     let end = length c.args.bytes.now in
     let whole = so_far_plain_run c.args.bytes.now c.loop-to.spans.items c.loop-to.from c.loop-to.at end c.loop-to.invariant.1 (omega arith) (omega arith) c.in_default.ensures.next in
     so_far_open c.args.bytes.now c.loop-to.spans.items c.loop-to.from end c.requires whole (omega arith)

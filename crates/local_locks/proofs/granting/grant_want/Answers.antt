@@ -1,8 +1,8 @@
 use Rattle.std.proofs.Common.{◌≡◌, ◌<◌, ◌≤◌, ◌+◌, ◌-◌, ◌∷◌, [], ℕ, List, length, map, sym, ap, refl, ◌++◌, subst, ◌∙◌, arith}
 use Rattle.std.proofs.lemmas.List.Elements.{All-contains}
-use Rattle.tickets.specs.Claims.{Claiming}
+use Rattle.tickets.specs.Claims.{ClaimView}
 use Rattle.local_locks.specs.Granting.{AreGranted, IsOpen, claim_at}
-use Rattle.groups.specs.declared.wishes.Mode.{Mode}
+use Rattle.groups.specs.declared.group_wants.Mode.{Mode}
 use Rattle.local_locks.specs.Locks.{stand_in}
 use Rattle.local_locks.specs.Rulings.{Spot, spot, spots, spots_of, first_place, count_in}
 use Rattle.local_locks.proofs.Grants.{claims_none, claims_more, granted_none, granted_more, still_open}
@@ -51,7 +51,7 @@ loop-number-preserved g c =
       claims = claims_more c.args.by (map stand_in c.args.locks.now) (map stand_in c.loop-number.locks) c.args.claims.now.items c.loop-number.claims.items c.push_reserved.new.self.items
           (spots first (number - first) mode) (spot number mode ∷ []) (spots first (number + 1 - first) mode)
           c.loop-number.invariant.granted.stands c.loop-number.invariant.claims
-          (c.push_reserved.ensures.items ∙ ap (λ (claim : Claiming). c.loop-number.claims.items ++ claim ∷ []) c.grant_at.ensures.claim) walked;
+          (c.push_reserved.ensures.items ∙ ap (λ (claim : ClaimView). c.loop-number.claims.items ++ claim ∷ []) c.grant_at.ensures.claim) walked;
       count = omega (arith, c.push_reserved.ensures.len, c.loop-number.invariant.count);
       room = c.push_reserved.ensures.capacity ∙ c.loop-number.invariant.room;
       granted = subst P (sym walked) (granted_more g.J.GroupNames.warehouses c.args.by (spots first (number - first) mode) (spot number mode ∷ []) c.args.locks.now c.loop-number.locks c.grant_at.new.locks c.loop-number.invariant.granted c.grant_at.ensures.granted);

@@ -6,7 +6,7 @@ use Rattle.rows.specs.declared.records.Item.{Item}
 use Rattle.schema.specs.declared.scale.Scale.{Scale}
 use Rattle.schema.specs.Scale.{item_ids}
 use Rattle.schema.specs.Database.{Database}
-use Rattle.partitions.specs.Parts.{Shared, Part, shared_of, part_of}
+use Rattle.partitions.specs.Parts.{SharedTables, Part, shared_of, part_of}
 use Rattle.partitions.specs.Partitions.{part}
 use Rattle.partitions.proofs.HomeTables.{rows_of_warehouses, home_part, home_fits}
 use Rattle.partitions.proofs.cutting.cut.Goals as goal
@@ -15,7 +15,7 @@ pub split-requires-clause-within : goal.split-requires-clause-within
 split-requires-clause-within c = rows_of_warehouses c.into_rows-rows.result.0 c.into_rows-rows.result.1 c.into_rows-rows.ensures.fits
 
 -- the scale and the items that are shared
-shared_is : (scale : Scale) (items more : List Item) (shared : Shared) → shared ≡ (record { scale = scale; items = from_entries (zip (item_ids scale) items) }) → items ≡ more
+shared_is : (scale : Scale) (items more : List Item) (shared : SharedTables) → shared ≡ (record { scale = scale; items = from_entries (zip (item_ids scale) items) }) → items ≡ more
     → shared ≡ (record { scale = scale; items = from_entries (zip (item_ids scale) more) })
 shared_is scale items more shared is same = is ∙ ap (λ xs. record { scale = scale; items = from_entries (zip (item_ids scale) xs) }) same
 

@@ -10,11 +10,11 @@ loop-taker-preserved g c =
     let now = c.loop-taker.desks.items in
     let taker = c.loop-taker.taker in
     let kept = c.loop-taker.invariant in
-    let told = c.audit_one-got_all.ensures in
+    let recorded = c.audit_one-got_all.ensures in
     record {
       same = search rules;
-      in_order = one_more_taker PairInOrder desks now taker kept.same kept.in_order (λ s here. told.in_order s (search rules));
-      whole = λ h. let both = both_true c.loop-taker.whole c.audit_one-got_all.result h in one_more_taker PairWhole desks now taker kept.same (kept.whole both.0) (λ s here. told.whole both.1 s (search rules));
+      in_order = one_more_taker PairInOrder desks now taker kept.same kept.in_order (λ s here. recorded.in_order s (search rules));
+      whole = λ h. let both = both_true c.loop-taker.whole c.audit_one-got_all.result h in one_more_taker PairWhole desks now taker kept.same (kept.whole both.0) (λ s here. recorded.whole both.1 s (search rules));
     }
 
 pub returns-clause-in_order : goal.returns-clause-in_order

@@ -9,11 +9,11 @@ loop-sender-preserved g c =
     let now = c.loop-sender.desks.items in
     let sender = c.loop-sender.sender in
     let kept = c.loop-sender.invariant in
-    let told = c.audit_pair-got_all.ensures in
+    let recorded = c.audit_pair-got_all.ensures in
     record {
       same = search rules;
-      in_order = one_more_sender PairInOrder desks now c.args.taker sender kept.same kept.in_order told.in_order;
-      whole = λ h. let both = both_true c.loop-sender.whole c.audit_pair-got_all.result h in one_more_sender PairWhole desks now c.args.taker sender kept.same (kept.whole both.0) (told.whole both.1);
+      in_order = one_more_sender PairInOrder desks now c.args.taker sender kept.same kept.in_order recorded.in_order;
+      whole = λ h. let both = both_true c.loop-sender.whole c.audit_pair-got_all.result h in one_more_sender PairWhole desks now c.args.taker sender kept.same (kept.whole both.0) (recorded.whole both.1);
     }
 
 pub returns-clause-in_order : goal.returns-clause-in_order

@@ -4,7 +4,7 @@ use Rattle.std.proofs.lemmas.List.{append-nil}
 use Rattle.partitions.specs.Parts.{Part, part_of, parts_of}
 use Rattle.partitions.proofs.PartLaws.{length-parts_of}
 use Rattle.slices.specs.Openings.{AreHomeBoxesOf}
-use Rattle.slices.specs.Sliced.{at_rest}
+use Rattle.slices.specs.SliceView.{at_rest}
 use Rattle.slices.proofs.Cuts.{next_part, one_slice_more}
 use Rattle.slices.proofs.HomeBoxes.{AreFirstBoxes, first_boxes, last_boxes}
 use Rattle.slices.proofs.cutting.cut.Goals as goal

@@ -1,7 +1,7 @@
 use Rattle.std.proofs.Common.{◌≡◌, [], ◌++◌, IfOk, map, ap, subst, sym, ◌∙◌, arith}
 use Rattle.std.proofs.lemmas.List.{append-nil}
 use Rattle.partitions.specs.Parts.{ArePartsOf, whole_of}
-use Rattle.slices.specs.Sliced.{part_in}
+use Rattle.slices.specs.SliceView.{part_in}
 use Rattle.slices.proofs.Joined.{parts_of_slices}
 use Rattle.slices.proofs.Opened.{none_left}
 use Rattle.slices.proofs.cutting.whole.Goals as goal

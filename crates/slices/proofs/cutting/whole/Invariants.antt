@@ -1,5 +1,5 @@
 use Rattle.std.proofs.Common.{◌≡◌, ◌++◌, map}
-use Rattle.slices.specs.Sliced.{part_in}
+use Rattle.slices.specs.SliceView.{part_in}
 use Rattle.slices.proofs.cutting.whole.Given as goal
 
 -- the first slices gave their parts, in order

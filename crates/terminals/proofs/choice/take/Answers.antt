@@ -1,5 +1,5 @@
 use Rattle.std.proofs.Common.{ℕ, List, [], ap, ◌∙◌}
-use Rattle.files.specs.FieldRead.{Taking}
+use Rattle.files.specs.FieldRead.{FieldsView}
 use Rattle.files.specs.KindsRead.{word_read}
 use Rattle.files.specs.Taken.{fault_of, fields_left}
 use Rattle.terminals.proofs.ColumnsTaken.{next_left}
@@ -8,4 +8,4 @@ use Rattle.terminals.proofs.choice.take.Goals as goal
 pub returns-in-Err-clause-left : goal.returns-in-Err-clause-left
 returns-in-Err-clause-left c =
     let fields = c.args.fields.now in
-    c.note.ensures.left ∙ ap (λ (p : List ℕ × Taking). p.1.left) c.word.ensures.field ∙ next_left word_read [] (fields_left fields) (fault_of fields)
+    c.note.ensures.left ∙ ap (λ (p : List ℕ × FieldsView). p.1.left) c.word.ensures.field ∙ next_left word_read [] (fields_left fields) (fault_of fields)

@@ -1,7 +1,7 @@
 use Rattle.std.proofs.Common.{◌≡◌, ◌+◌, ◌<◌, ◌++◌, ℕ, List, [], ◌∷◌, length, map, take, set, sym, ap, ◌∙◌, arith}
 use Rattle.std.proofs.lemmas.List.{append_assoc, get_or-set_same, length-set, take-set-le}
 use Rattle.files.specs.Columns.{MaybeWhole}
-use Rattle.files.specs.FieldRead.{taking}
+use Rattle.files.specs.FieldRead.{fields_view}
 use Rattle.files.specs.Taken.{fields_left}
 use Rattle.terminals.specs.Nullable.{nullable_text}
 use Rattle.terminals.proofs.ColumnsTaken.{once_more}
@@ -32,5 +32,5 @@ loop-district-preserved c =
             are_said = ap (λ l. l ++ text) before.are_said ∙ all;
             left = before.left ∙ ap (λ l. before.texts ++ l) one.1 ∙ sym (append_assoc before.texts text (fields_left c.take_order.new.fields));
           },
-      once_more i (MaybeWhole 1 9999999 ∷ []) (taking c.args.fields.now) (taking c.loop-district.fields) (taking c.take_order.new.fields) inv.2 c.take_order.ensures.column,
+      once_more i (MaybeWhole 1 9999999 ∷ []) (fields_view c.args.fields.now) (fields_view c.loop-district.fields) (fields_view c.take_order.new.fields) inv.2 c.take_order.ensures.column,
     )

@@ -6,5 +6,5 @@ use Rattle.terminals.proofs.listing.write.Given as goal
 
 abbrev pub invariant-loop-place : goal.invariant-loop-place
 invariant-loop-place g l =
-    (rows : List (List (List ℕ))) × AreNumbered g.T.Told.is_record 0 (take l.place l.items) rows
+    (rows : List (List (List ℕ))) × AreNumbered g.T.WrittenRecord.is_record 0 (take l.place l.items) rows
     × Sends (g.W.Write.contents l.fn.sink) (g.W.Write.contents l.sink) (csv_text rows) l.writer.text

@@ -2,7 +2,7 @@ use Rattle.std.proofs.Common.{ℕ, List, [], ◌∷◌, codes, ap, ◌∙◌}
 use Rattle.std.specs.Fmt.{decimal}
 use Rattle.std.proofs.Common.{◌≡◌, ◌-◌, ◌/◌, min, length, rules, sym}
 use Rattle.files.specs.Columns.{Column, Moment, take_columns}
-use Rattle.files.specs.FieldRead.{Taking, taking}
+use Rattle.files.specs.FieldRead.{FieldsView, fields_view}
 use Rattle.files.specs.Taken.{fields_left}
 use Rattle.files.proofs.ColumnsRead.{and_then, moment, several, take-append, whole}
 use Rattle.terminals.specs.RequestColumns.{line_columns, lines_in, number, repeated}
@@ -31,7 +31,7 @@ returns-clause-lines c =
     (and_then (whole 0 4294967295 c.take_district.new.fields c.whole.new.self c.whole.ensures.field)
     (moment c.whole.new.self c.moment.new.self c.moment.ensures.field))).is in
     let left : length (fields_left c.moment.new.self) ≡ length (fields_left c.args.fields.now) - 4 =
-    ap (λ (t : Taking). length t.left) start ∙ columns_long four (taking c.args.fields.now) in
+    ap (λ (t : FieldsView). length t.left) start ∙ columns_long four (fields_view c.args.fields.now) in
     let most : c.saturating_sub.result ≡ c.args.count - 5 = search rules in
     c.in_ok-take_lines.ensures.many ∙ (λ i. min (min (most i / 3) (left i / 3)) 64)
 
@@ -41,11 +41,11 @@ returns-clause-columns c =
     (and_then (whole 0 4294967295 c.take_district.new.fields c.whole.new.self c.whole.ensures.field)
     (moment c.whole.new.self c.moment.new.self c.moment.ensures.field))).is in
     let left : length (fields_left c.moment.new.self) ≡ length (fields_left c.args.fields.now) - 4 =
-    ap (λ (t : Taking). length t.left) start ∙ columns_long four (taking c.args.fields.now) in
+    ap (λ (t : FieldsView). length t.left) start ∙ columns_long four (fields_view c.args.fields.now) in
     let most : c.saturating_sub.result ≡ c.args.count - 5 = search rules in
     let lines : length c.in_ok-take_lines.field-0 ≡ lines_in c.args.count (length (fields_left c.args.fields.now) - 4) =
     c.in_ok-take_lines.ensures.many ∙ (λ i. min (min (most i / 3) (left i / 3)) 64) in
     c.in_ok-take_lines.ensures.columns
-    ∙ ap (λ n. take_columns (repeated n line_columns) (taking c.moment.new.self)) lines
+    ∙ ap (λ n. take_columns (repeated n line_columns) (fields_view c.moment.new.self)) lines
     ∙ ap (take_columns (repeated (lines_in c.args.count (length (fields_left c.args.fields.now) - 4)) line_columns)) start
-    ∙ sym (take-append four (repeated (lines_in c.args.count (length (fields_left c.args.fields.now) - 4)) line_columns) (taking c.args.fields.now))
+    ∙ sym (take-append four (repeated (lines_in c.args.count (length (fields_left c.args.fields.now) - 4)) line_columns) (fields_view c.args.fields.now))

@@ -1,7 +1,7 @@
 use Rattle.std.proofs.Common.{◌≡◌, ◌+◌, ◌++◌, ◌∷◌, [], length, flat_map, refl, sym, ap, ◌∙◌, arith}
 use Rattle.std.proofs.lemmas.List.{append_assoc, length-append}
 use Rattle.files.specs.Columns.{take_columns}
-use Rattle.files.specs.FieldRead.{taking}
+use Rattle.files.specs.FieldRead.{fields_view}
 use Rattle.terminals.specs.RequestColumns.{line_columns, repeated}
 use Rattle.terminals.proofs.ColumnsTaken.{once_more}
 use Rattle.files.specs.Taken.{fields_left}
@@ -27,7 +27,7 @@ loop-preserved c =
             left = left;
           },
       ap length c.in_ok-push.ensures.items ∙ length-append c.loop.lines.items (c.take_line-line.result ∷ []) ∙ ap (λ n. n + 1) c.loop.invariant.1,
-      once_more c.loop.counter line_columns (taking c.args.fields.now) (taking c.loop.fields) (taking c.take_line-line.new.fields) c.loop.invariant.2 line.columns,
+      once_more c.loop.counter line_columns (fields_view c.args.fields.now) (fields_view c.loop.fields) (fields_view c.take_line-line.new.fields) c.loop.invariant.2 line.columns,
     )
 
 pub returns-clause-taken : goal.returns-clause-taken
@@ -38,7 +38,7 @@ returns-clause-taken c = λ none.
 pub returns-clause-columns : goal.returns-clause-columns
 returns-clause-columns c =
     let many : c.loop.counter ≡ length c.new.result = sym c.loop.invariant.1 ∙ ap length (sym c.new.ensures) in
-    c.loop.invariant.2 ∙ ap (λ n. take_columns (repeated n line_columns) (taking c.args.fields.now)) many
+    c.loop.invariant.2 ∙ ap (λ n. take_columns (repeated n line_columns) (fields_view c.args.fields.now)) many
 
 pub returns-clause-many : goal.returns-clause-many
 returns-clause-many c =

@@ -1,6 +1,6 @@
 use Rattle.std.proofs.Common.{◌≡◌, length, flat_map}
 use Rattle.files.specs.Columns.{take_columns}
-use Rattle.files.specs.FieldRead.{taking}
+use Rattle.files.specs.FieldRead.{fields_view}
 use Rattle.files.specs.Taken.{Takes}
 use Rattle.terminals.specs.NewOrder.{ordered_line_fields}
 use Rattle.terminals.specs.RequestColumns.{line_columns, repeated}
@@ -10,4 +10,4 @@ abbrev pub invariant-loop : goal.invariant-loop
 invariant-loop l =
     Takes l.initial.fields l.fields (λ said. said ≡ flat_map ordered_line_fields l.lines.items)
     × (length l.lines.items ≡ l.counter)
-    × (taking l.fields ≡ take_columns (repeated l.counter line_columns) (taking l.initial.fields))
+    × (fields_view l.fields ≡ take_columns (repeated l.counter line_columns) (fields_view l.initial.fields))

@@ -3,7 +3,7 @@ use Rattle.std.specs.Fmt.{decimal, signed_decimal}
 use Rattle.files.specs.Word.{credit_text}
 use Rattle.std.proofs.Common.{◌≡◌, ◌-◌, [], length, sym}
 use Rattle.files.specs.Columns.{Cents, Column, Credit, Moment, Whole, Words, take_columns}
-use Rattle.files.specs.FieldRead.{Taking, taking}
+use Rattle.files.specs.FieldRead.{FieldsView, fields_view}
 use Rattle.files.specs.Taken.{fields_left}
 use Rattle.files.proofs.ColumnsRead.{and_then, cents, credit, moment, take-append, whole, words}
 use Rattle.terminals.specs.ReplyColumns.{rate, shown_columns, shown_in}
@@ -51,9 +51,9 @@ returns-clause-columns c =
     (and_then (moment c.whole.new.self c.moment.new.self c.moment.ensures.field)
     (cents c.moment.new.self c.cents.new.self c.cents.ensures.field)))))))).is in
     let left : length (fields_left c.cents.new.self) ≡ length (fields_left c.args.fields.now) - 8 =
-    ap (λ (t : Taking). length t.left) start ∙ columns_long eight (taking c.args.fields.now) in
+    ap (λ (t : FieldsView). length t.left) start ∙ columns_long eight (fields_view c.args.fields.now) in
     let lines : List Column = repeated (shown_in (length (fields_left c.args.fields.now) - 8)) shown_columns in
     c.in_ok-take_shown_lines.ensures.columns
-    ∙ ap (λ n. take_columns (repeated (shown_in n) shown_columns) (taking c.cents.new.self)) left
+    ∙ ap (λ n. take_columns (repeated (shown_in n) shown_columns) (fields_view c.cents.new.self)) left
     ∙ ap (take_columns lines) start
-    ∙ sym (take-append eight lines (taking c.args.fields.now))
+    ∙ sym (take-append eight lines (fields_view c.args.fields.now))

@@ -1,7 +1,7 @@
 use Rattle.std.proofs.Common.{◌≡◌, ◌+◌, ◌++◌, ◌∷◌, [], length, flat_map, refl, sym, ap, ◌∙◌, arith}
 use Rattle.std.proofs.lemmas.List.{append_assoc, length-append}
 use Rattle.files.specs.Columns.{take_columns}
-use Rattle.files.specs.FieldRead.{taking}
+use Rattle.files.specs.FieldRead.{fields_view}
 use Rattle.terminals.specs.ReplyColumns.{shown_columns, shown_in}
 use Rattle.terminals.specs.RequestColumns.{repeated}
 use Rattle.terminals.proofs.ColumnsTaken.{once_more}
@@ -28,7 +28,7 @@ loop-preserved c =
             left = left;
           },
       ap length c.in_ok-push.ensures.items ∙ length-append c.loop.lines.items (c.take_shown_line-line.result ∷ []) ∙ ap (λ n. n + 1) c.loop.invariant.1,
-      once_more c.loop.counter shown_columns (taking c.args.fields.now) (taking c.loop.fields) (taking c.take_shown_line-line.new.fields) c.loop.invariant.2 line.columns,
+      once_more c.loop.counter shown_columns (fields_view c.args.fields.now) (fields_view c.loop.fields) (fields_view c.take_shown_line-line.new.fields) c.loop.invariant.2 line.columns,
     )
 
 pub returns-clause-taken : goal.returns-clause-taken
@@ -39,4 +39,4 @@ returns-clause-taken c = λ none.
 pub returns-clause-columns : goal.returns-clause-columns
 returns-clause-columns c =
     let many : c.loop.counter ≡ shown_in (length (fields_left c.args.fields.now)) = omega (arith, c.loop-test.false, c.loop.auto.counter-end) in
-    c.loop.invariant.2 ∙ ap (λ n. take_columns (repeated n shown_columns) (taking c.args.fields.now)) many
+    c.loop.invariant.2 ∙ ap (λ n. take_columns (repeated n shown_columns) (fields_view c.args.fields.now)) many

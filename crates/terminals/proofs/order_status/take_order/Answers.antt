@@ -9,7 +9,7 @@ use Rattle.terminals.proofs.Nullables.{number_was_taken}
 use Rattle.terminals.proofs.StatusLines.{lines-none, lines-push, there_is_one, three}
 use Rattle.std.proofs.Common.{◌≡◌, ◌-◌, ◌/◌, true, length, arith}
 use Rattle.files.specs.Columns.{Column, take_columns}
-use Rattle.files.specs.FieldRead.{Taking, taking}
+use Rattle.files.specs.FieldRead.{FieldsView, fields_view}
 use Rattle.files.proofs.Unlike.{true_false}
 use Rattle.files.proofs.ColumnsRead.{and_then, maybe_whole, moment, take-append, whole}
 use Rattle.terminals.specs.ReplyColumns.{status_columns}
@@ -36,7 +36,7 @@ loop-preserved c = (
       let all = lines-push c.loop.lines.items said c.take_line-line.result more before.are_said line.are_said in
       let left = before.left ∙ ap (λ l. said ++ l) line.left ∙ sym (append_assoc said more (fields_left c.take_line-line.new.fields)) in
       record { faultless = before.faultless; texts = said ++ more; are_said = subst are (sym c.in_ok-push.ensures.items) all; left = left },
-  once_more c.loop.counter status_columns (taking c.optional_ranged-carrier_id.new.self) (taking c.loop.fields) (taking c.take_line-line.new.fields) c.loop.invariant.1 c.take_line-line.ensures.columns,
+  once_more c.loop.counter status_columns (fields_view c.optional_ranged-carrier_id.new.self) (fields_view c.loop.fields) (fields_view c.take_line-line.new.fields) c.loop.invariant.1 c.take_line-line.ensures.columns,
 )
 
 pub returns-clause-taken : goal.returns-clause-taken
@@ -58,13 +58,13 @@ returns-clause-columns c =
     let start = (and_then (whole 1 9999999 old c.whole-o_id.new.self c.whole-o_id.ensures.field)
     (and_then (moment c.whole-o_id.new.self c.moment-entry_d.new.self c.moment-entry_d.ensures.field)
     (maybe_whole 1 10 c.moment-entry_d.new.self c.optional_ranged-carrier_id.new.self c.optional_ranged-carrier_id.ensures.field))).is in
-    let left : length (fields_left c.optional_ranged-carrier_id.new.self) ≡ length (fields_left old) - 3 = ap (λ (t : Taking). length t.left) start ∙ columns_long three (taking old) in
+    let left : length (fields_left c.optional_ranged-carrier_id.new.self) ≡ length (fields_left old) - 3 = ap (λ (t : FieldsView). length t.left) start ∙ columns_long three (fields_view old) in
     let turns : c.loop.counter ≡ length (fields_left c.optional_ranged-carrier_id.new.self) / 5 = omega (arith, c.loop-test.false, c.loop.auto.counter-end) in
     let many : c.loop.counter ≡ (length (fields_left old) - 3) / 5 = turns ∙ ap (λ n. n / 5) left in
     let none : (rest : List (List ℕ)) → fields_left old ≡ [] ∷ rest → ⊥ = λ rest e. let yes : c.next_is_empty.result ≡ true = c.next_is_empty.ensures.1 (rest, e) in let no = c.if-next_is_empty.false in absurd (true_false (sym yes ∙ no)) in
     let lines : List Column = repeated ((length (fields_left old) - 3) / 5) status_columns in
     c.loop.invariant.1
-    ∙ ap (λ n. take_columns (repeated n status_columns) (taking c.optional_ranged-carrier_id.new.self)) many
+    ∙ ap (λ n. take_columns (repeated n status_columns) (fields_view c.optional_ranged-carrier_id.new.self)) many
     ∙ ap (take_columns lines) start
-    ∙ sym (take-append three lines (taking old))
-    ∙ ap (λ columns. take_columns columns (taking old)) (sym (there_is_one (fields_left old) none))
+    ∙ sym (take-append three lines (fields_view old))
+    ∙ ap (λ columns. take_columns columns (fields_view old)) (sym (there_is_one (fields_left old) none))

@@ -1,6 +1,6 @@
 use Rattle.std.proofs.Common.{◌≡◌}
 use Rattle.files.specs.Columns.{take_columns}
-use Rattle.files.specs.FieldRead.{taking}
+use Rattle.files.specs.FieldRead.{fields_view}
 use Rattle.files.specs.Taken.{Takes}
 use Rattle.terminals.specs.OrderStatus.{AreStatusLines}
 use Rattle.terminals.specs.ReplyColumns.{status_columns}
@@ -10,4 +10,4 @@ use Rattle.terminals.proofs.order_status.take_order.Given as goal
 abbrev pub invariant-loop : goal.invariant-loop
 invariant-loop l =
     Takes l.initial.fields l.fields (AreStatusLines l.lines.items)
-    × (taking l.fields ≡ take_columns (repeated l.counter status_columns) (taking l.initial.fields))
+    × (fields_view l.fields ≡ take_columns (repeated l.counter status_columns) (fields_view l.initial.fields))

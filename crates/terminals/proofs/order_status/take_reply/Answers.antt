@@ -2,7 +2,7 @@ use Rattle.std.proofs.Common.{◌∷◌, refl, ap, ◌∙◌}
 use Rattle.std.specs.Fmt.{decimal, signed_decimal}
 use Rattle.std.proofs.Common.{◌≡◌, List, [], drop, sym}
 use Rattle.files.specs.Columns.{Cents, Column, Words, take_columns}
-use Rattle.files.specs.FieldRead.{Taking, taking}
+use Rattle.files.specs.FieldRead.{FieldsView, fields_view}
 use Rattle.files.specs.Taken.{fields_left}
 use Rattle.files.proofs.ColumnsRead.{and_then, cents, take-append, whole, words}
 use Rattle.terminals.specs.ReplyColumns.{status_order}
@@ -35,9 +35,9 @@ returns-clause-columns c =
     (and_then (words 16 c.text-2.new.self c.text-3.new.self c.text-3.ensures.field)
     (cents c.text-3.new.self c.cents.new.self c.cents.ensures.field))))).is in
     let left : fields_left c.cents.new.self ≡ drop 5 (fields_left c.args.fields.now) =
-    ap (λ (t : Taking). t.left) start ∙ columns_left five (taking c.args.fields.now) in
+    ap (λ (t : FieldsView). t.left) start ∙ columns_left five (fields_view c.args.fields.now) in
     let order : List Column = status_order (drop 5 (fields_left c.args.fields.now)) in
     c.in_ok-take_order.ensures.columns
-    ∙ ap (λ l. take_columns (status_order l) (taking c.cents.new.self)) left
+    ∙ ap (λ l. take_columns (status_order l) (fields_view c.cents.new.self)) left
     ∙ ap (take_columns order) start
-    ∙ sym (take-append five order (taking c.args.fields.now))
+    ∙ sym (take-append five order (fields_view c.args.fields.now))

@@ -6,5 +6,5 @@ use Rattle.terminals.proofs.outputs.write_outputs.Given as goal
 
 abbrev pub invariant-loop-one : goal.invariant-loop-one
 invariant-loop-one g l =
-    (rows : List (List (List ℕ))) × AreOutputs l.log (take l.one-index l.told) rows
+    (rows : List (List (List ℕ))) × AreOutputs l.log (take l.one-index l.reported) rows
     × Sends (g.W.Write.contents l.fn.sink) (g.W.Write.contents l.sink) (csv_text rows) l.writer.text

@@ -1,5 +1,5 @@
 use Rattle.std.proofs.Common.{sym, ap, ◌∙◌, subst, arith, ℕ}
-use Rattle.agreement.specs.Telling.{Agreement}
+use Rattle.agreement.specs.SeatView.{Agreement}
 use Rattle.tickets.specs.Boxes.{AreSpent}
 use Rattle.tickets.proofs.Pairs.{spent_push}
 use Rattle.tickets.proofs.opening.spent_pairs.Goals as goal

@@ -11,7 +11,7 @@ use Rattle.tpcc.specs.Verdicts.{verdict_text, verdicts_of, is_broken}
 use Rattle.tpcc.proofs.check.check.Goals as goal
 
 pub returns-clause-checks : goal.returns-clause-checks
-returns-clause-checks g c = λ told.
+returns-clause-checks g c = λ reported.
     let answers = c.in_ok-answers.answers in
     let verdicts = verdicts_of c.args.settings.now.fresh 1 answers in
     let are : c.as_slice.result.now ≡ verdicts = c.as_slice.ensures.value ∙ c.in_ok-verdicts.ensures in

@@ -5,19 +5,19 @@ use Rattle.tpcc.proofs.check.check_over.Goals as goal
 
 pub returns-in-Ok-true : goal.returns-in-Ok-true
 returns-in-Ok-true g c =
-    let told = g.E.Report.told c.args.errors.now in
+    let reported = g.E.Report.reported c.args.errors.now in
     let broken : c.in-Ok-true.field-0 ≡ true = cc in
-    subst (Checks c.args.settings.now.fresh (g.D.Input.remaining c.args.data) (g.A.Write.contents c.args.found.now) (g.A.Write.contents c.check.new.found) told told)
-    broken (c.in-Ok-true.ensures.checks told)
+    subst (Checks c.args.settings.now.fresh (g.D.Input.remaining c.args.data) (g.A.Write.contents c.args.found.now) (g.A.Write.contents c.check.new.found) reported reported)
+    broken (c.in-Ok-true.ensures.checks reported)
 
 pub returns-in-Ok-false : goal.returns-in-Ok-false
 returns-in-Ok-false g c =
-    let told = g.E.Report.told c.args.errors.now in
+    let reported = g.E.Report.reported c.args.errors.now in
     let met : c.in-Ok-false.field-0 ≡ false = cc in
-    subst (Checks c.args.settings.now.fresh (g.D.Input.remaining c.args.data) (g.A.Write.contents c.args.found.now) (g.A.Write.contents c.check.new.found) told told)
-    met (c.in-Ok-false.ensures.checks told)
+    subst (Checks c.args.settings.now.fresh (g.D.Input.remaining c.args.data) (g.A.Write.contents c.args.found.now) (g.A.Write.contents c.check.new.found) reported reported)
+    met (c.in-Ok-false.ensures.checks reported)
 
 pub returns-in-Err : goal.returns-in-Err
 returns-in-Err g c =
     check_ends_early c.args.settings.now (g.D.Input.remaining c.args.data) (g.D.Input.lasts c.args.data) (g.A.Write.contents c.args.found.now) (g.A.Write.contents c.check.new.found)
-    (g.E.Report.told c.args.errors.now) (g.E.Report.told c.report.new.self) c.in-Err.fault c.report.result c.report.ensures.status c.in-Err.ensures.some c.in-Err.ensures.fault c.report.ensures.tells
+    (g.E.Report.reported c.args.errors.now) (g.E.Report.reported c.report.new.self) c.in-Err.fault c.report.result c.report.ensures.status c.in-Err.ensures.some c.in-Err.ensures.fault c.report.ensures.reports

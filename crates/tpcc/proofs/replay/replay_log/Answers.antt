@@ -5,7 +5,7 @@ use Rattle.commit_log.specs.Replay.{IsReplayOf}
 use Rattle.files.specs.Sending.{Begins}
 use Rattle.files.proofs.Sent.{on_any_err}
 use Rattle.tpcc.specs.Edges.{lines_text}
-use Rattle.tpcc.specs.Replay.{IsReplayed, ReplaysSome, TellsReplay, found_of, found_text}
+use Rattle.tpcc.specs.Replay.{IsReplayed, ReplaysSome, ReportsReplay, found_of, found_text}
 use Rattle.tpcc.proofs.ReplayTellings.{replay_ends}
 use Rattle.tpcc.proofs.replay.replay_log.Goals as goal
 
@@ -21,16 +21,16 @@ returns-clause-ends g c =
     let came_to = c.in_ok-came_to.came_to in
     let status = c.in_ok-status.status in
     let before = g.A.Write.contents c.args.found.now in
-    let after = g.A.Write.contents c.tell.new.found in
-    let named = g.N.Shelf.named c.args.shelf.now in
-    let named' = g.N.Shelf.named c.tell.new.shelf in
+    let after = g.A.Write.contents c.print.new.found in
+    let named = g.N.OutputFiles.named c.args.output_files.now in
+    let named' = g.N.OutputFiles.named c.print.new.output_files in
     let Of : List Entry → Type 0 = λ entries. IsReplayOf opening entries came_to in
-    let Tells : List Entry → Type 0 = λ entries. TellsReplay g.T.Write.contents c.args.tables before after named named' entries came_to status in
+    let Reports : List Entry → Type 0 = λ entries. ReportsReplay g.T.Write.contents c.args.tables before after named named' entries came_to status in
     replay_ends g.T.Write.contents c.args.tables c.args.settings.now (g.D.Input.remaining c.args.data) (g.D.Input.lasts c.args.data) (g.L.Input.remaining c.args.log) (g.L.Input.lasts c.args.log) before after named named'
-    (g.E.Report.told c.args.errors.now) (g.E.Report.told c.sum_up.new.errors)
+    (g.E.Report.reported c.args.errors.now) (g.E.Report.reported c.sum_up.new.errors)
     opening c.in_ok-entries.entries.items came_to status c.in_ok-opening.ensures.tables c.in_ok-entries.ensures.entries
     (subst Of c.as_slice.ensures.value c.in_ok-came_to.ensures)
-    (subst Tells c.as_slice-3.ensures.value c.in_ok-status.ensures.tells)
+    (subst Reports c.as_slice-3.ensures.value c.in_ok-status.ensures.reports)
     (c.sum_up.ensures ∙ c.begin.ensures)
 
 pub returns-in_err-opening-clause-some : goal.returns-in_err-opening-clause-some
@@ -56,19 +56,19 @@ returns-in_err-status-clause-some g c =
     let «data» = g.D.Input.remaining c.args.data in
     let log = g.L.Input.remaining c.args.log in
     let before = g.A.Write.contents c.args.found.now in
-    let after = g.A.Write.contents c.tell.new.found in
+    let after = g.A.Write.contents c.print.new.found in
     let opening = c.in_ok-opening.opening in
     let came_to = c.in_ok-came_to.came_to in
     let entries = c.in_ok-entries.entries.items in
     let Of : List Entry → Type 0 = λ l. IsReplayOf opening l came_to in
-    let Told : List Entry → Type 0 = λ l. Begins before after (lines_text (found_text (found_of l came_to) ∷ [])) in
+    let Reported : List Entry → Type 0 = λ l. Begins before after (lines_text (found_text (found_of l came_to) ∷ [])) in
     let is : IsReplayed «data» log entries came_to = record {
       opening = opening;
       is_dataset = c.in_ok-opening.ensures.tables;
       is_log = c.in_ok-entries.ensures.entries;
       is_replay = subst Of c.as_slice.ensures.value c.in_ok-came_to.ensures;
     } in
-    let some : ReplaysSome «data» log before after = inr (entries, came_to, is, subst Told c.as_slice-3.ensures.value c.in_err-status.ensures.begun) in
+    let some : ReplaysSome «data» log before after = inr (entries, came_to, is, subst Reported c.as_slice-3.ensures.value c.in_err-status.ensures.begun) in
     on_any_err c.from_residual-in_err-status.result some
 
 pub returns-in_err-opening-clause-fault : goal.returns-in_err-opening-clause-fault

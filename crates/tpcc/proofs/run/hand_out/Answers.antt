@@ -18,8 +18,8 @@ pub returns-in_err-log-clause-some : goal.returns-in_err-log-clause-some
 returns-in_err-log-clause-some g c =
     let before = g.A.Write.contents c.args.answers.now in
     let answers = c.args.outcome.now.answers.items in
-    let names = g.N.Shelf.named in
-    let some : HandsOutSome g.F.Write.contents c.args.log c.args.tables before before (names c.args.shelf.now) (names c.write_entries.new.shelf) c.args.outcome.now.log.items answers =
+    let names = g.N.OutputFiles.named in
+    let some : HandsOutSome g.F.Write.contents c.args.log c.args.tables before before (names c.args.output_files.now) (names c.write_entries.new.output_files) c.args.outcome.now.log.items answers =
     inl (begins-none c.args.outcome.now.log.items before answers, c.in_err-log.ensures.same) in
     on_any_err c.from_residual.result some
 
@@ -28,12 +28,12 @@ pub returns-in_err-name_printed-clause-some : goal.returns-in_err-name_printed-c
 returns-in_err-name_printed-clause-some g c =
     let before = g.A.Write.contents c.args.answers.now in
     let after = g.A.Write.contents c.print_answers-printed.new.sink in
-    let names = g.N.Shelf.named in
+    let names = g.N.OutputFiles.named in
     let Prints : List Entry → List (List (Result ℕ Refusal)) → Type 0 = λ log l. BeginsToWrite before after (BeginAllAnswers log 0 l) in
     let printed = all_or_some c.print_answers-printed.result before after _ _ (all-begun c.as_slice-entries.result.now 0 c.as_slice.result.now) c.print_answers-printed.ensures.printed c.print_answers-printed.ensures.begun in
-    let told = subst (Prints c.as_slice-entries.result.now) c.as_slice.ensures.value printed in
-    let some : HandsOutSome g.F.Write.contents c.args.log c.args.tables before after (names c.args.shelf.now) (names c.name_printed.new.shelf) c.args.outcome.now.log.items c.args.outcome.now.answers.items =
-    inl (subst (λ log. Prints log c.args.outcome.now.answers.items) c.as_slice-entries.ensures.value told, c.in_err-name_printed.ensures.err ∙ c.in_ok-log.ensures.same) in
+    let reported = subst (Prints c.as_slice-entries.result.now) c.as_slice.ensures.value printed in
+    let some : HandsOutSome g.F.Write.contents c.args.log c.args.tables before after (names c.args.output_files.now) (names c.name_printed.new.output_files) c.args.outcome.now.log.items c.args.outcome.now.answers.items =
+    inl (subst (λ log. Prints log c.args.outcome.now.answers.items) c.as_slice-entries.ensures.value reported, c.in_err-name_printed.ensures.err ∙ c.in_ok-log.ensures.same) in
     on_any_err c.from_residual-in_err-name_printed.result some
 
 -- the tables were not written
@@ -41,33 +41,33 @@ pub returns-clause-some : goal.returns-clause-some
 returns-clause-some g c =
     let before = g.A.Write.contents c.args.answers.now in
     let after = g.A.Write.contents c.print_answers-printed.new.sink in
-    let names = g.N.Shelf.named in
+    let names = g.N.OutputFiles.named in
     let log = c.args.outcome.now.log.items in
     let Prints : List Entry → List (List (Result ℕ Refusal)) → Type 0 = λ es l. Writes before after (AreAllAnswers es 0 l) in
     let well = printed_well c.print_answers-printed.result tt c.in_ok-name_printed.ensures.printed c.print_answers-printed.ensures.printed in
     let printed = subst (λ es. Prints es c.args.outcome.now.answers.items) c.as_slice-entries.ensures.value (subst (Prints c.as_slice-entries.result.now) c.as_slice.ensures.value well) in
     let Logs : List Entry → Type 0 = λ l. HasWritten g.F.Write.contents c.args.log (IsLog l) c.in_ok-log.log in
-    let with_log = names c.name_printed.new.shelf in
-    let logged : NamesFile g.F.Write.contents c.args.log (names c.args.shelf.now) with_log (IsLog log) =
-    names_written g.F.Write.contents c.args.log (IsLog log) c.in_ok-log.log (names c.args.shelf.now) (names c.write_entries.new.shelf) with_log
+    let with_log = names c.name_printed.new.output_files in
+    let logged : NamesFile g.F.Write.contents c.args.log (names c.args.output_files.now) with_log (IsLog log) =
+    names_written g.F.Write.contents c.args.log (IsLog log) c.in_ok-log.log (names c.args.output_files.now) (names c.write_entries.new.output_files) with_log
     c.in_ok-log.ensures.same (subst Logs c.as_slice-entries.ensures.value c.in_ok-log.ensures.written) c.in_ok-name_printed.ensures.named in
-    let Named : Option (List (Option (List ℕ))) → Type 0 = λ named. NamesFile g.F.Write.contents c.args.log (names c.args.shelf.now) named (IsLog log) in
+    let Named : Option (List (Option (List ℕ))) → Type 0 = λ named. NamesFile g.F.Write.contents c.args.log (names c.args.output_files.now) named (IsLog log) in
     on_err_weaker c.write_tables.result (λ early. inr (early.0, printed, subst Named (sym early.1) logged)) (both_on_err _ _ c.write_tables.result c.write_tables.ensures.asked c.write_tables.ensures.err)
 
 pub returns-clause-all : goal.returns-clause-all
 returns-clause-all g c =
     let before = g.A.Write.contents c.args.answers.now in
     let after = g.A.Write.contents c.print_answers-printed.new.sink in
-    let names = g.N.Shelf.named in
+    let names = g.N.OutputFiles.named in
     let log = c.args.outcome.now.log.items in
     let Prints : List Entry → List (List (Result ℕ Refusal)) → Type 0 = λ es l. Writes before after (AreAllAnswers es 0 l) in
     let well = printed_well c.print_answers-printed.result tt c.in_ok-name_printed.ensures.printed c.print_answers-printed.ensures.printed in
     let Logs : List Entry → Type 0 = λ l. HasWritten g.F.Write.contents c.args.log (IsLog l) c.in_ok-log.log in
-    let with_log = names c.name_printed.new.shelf in
+    let with_log = names c.name_printed.new.output_files in
     on_ok_weaker c.write_tables.result (λ left. record {
       printed = subst (λ es. Prints es c.args.outcome.now.answers.items) c.as_slice-entries.ensures.value (subst (Prints c.as_slice-entries.result.now) c.as_slice.ensures.value well);
       with_log = with_log;
-      logged = names_written g.F.Write.contents c.args.log (IsLog log) c.in_ok-log.log (names c.args.shelf.now) (names c.write_entries.new.shelf) with_log
+      logged = names_written g.F.Write.contents c.args.log (IsLog log) c.in_ok-log.log (names c.args.output_files.now) (names c.write_entries.new.output_files) with_log
           c.in_ok-log.ensures.same (subst Logs c.as_slice-entries.ensures.value c.in_ok-log.ensures.written) c.in_ok-name_printed.ensures.named;
       left = left;
     }) c.write_tables.ensures.named

@@ -62,7 +62,7 @@ returns-in_err-hand_out-clause-some g c =
     let before = g.A.Write.contents c.args.answers.now in
     let after = g.A.Write.contents c.hand_out.new.answers in
     let some : ServesSome g.F.Write.contents (g.D.Input.remaining c.args.data) (map g.S.Input.remaining c.args.scripts.now) c.args.settings.now.executors (option_map g.S.Input.remaining c.args.moves)
-    c.args.log c.args.tables before after (g.N.Shelf.named c.args.shelf.now) (g.N.Shelf.named c.hand_out.new.shelf) = inr (log, last, answers, are, c.in_err-hand_out.ensures.some) in
+    c.args.log c.args.tables before after (g.N.OutputFiles.named c.args.output_files.now) (g.N.OutputFiles.named c.hand_out.new.output_files) = inr (log, last, answers, are, c.in_err-hand_out.ensures.some) in
     on_any_err c.from_residual-in_err-hand_out.result some
 
 pub returns-clause-serves : goal.returns-clause-serves

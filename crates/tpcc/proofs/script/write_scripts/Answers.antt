@@ -14,13 +14,13 @@ use Rattle.tpcc.proofs.script.write_scripts.Goals as goal
 pub returns-in_err-script-clause-some : goal.returns-in_err-script-clause-some
 returns-in_err-script-clause-some g c =
     on_any_err c.from_residual.result
-    (names-first g.T.Write.contents c.args.workload.now c.args.files.items c.loop-session.session (g.N.Shelf.named c.args.shelf.now) (g.N.Shelf.named c.loop-session.shelf) c.loop-session.invariant.named)
+    (names-first g.T.Write.contents c.args.workload.now c.args.files.items c.loop-session.session (g.N.OutputFiles.named c.args.output_files.now) (g.N.OutputFiles.named c.loop-session.output_files) c.loop-session.invariant.named)
 
 pub returns-in_err-write_requests-clause-some : goal.returns-in_err-write_requests-clause-some
 returns-in_err-write_requests-clause-some g c =
-    let Names : Option (List (Option (List ℕ))) → Type 0 = λ n. NamesScripts g.T.Write.contents c.args.workload.now 0 (take c.loop-session.session c.args.files.items) (g.N.Shelf.named c.args.shelf.now) n in
+    let Names : Option (List (Option (List ℕ))) → Type 0 = λ n. NamesScripts g.T.Write.contents c.args.workload.now 0 (take c.loop-session.session c.args.files.items) (g.N.OutputFiles.named c.args.output_files.now) n in
     on_any_err c.from_residual-in_err-write_requests.result
-    (names-first g.T.Write.contents c.args.workload.now c.args.files.items c.loop-session.session (g.N.Shelf.named c.args.shelf.now) (g.N.Shelf.named c.write_requests.new.shelf)
+    (names-first g.T.Write.contents c.args.workload.now c.args.files.items c.loop-session.session (g.N.OutputFiles.named c.args.output_files.now) (g.N.OutputFiles.named c.write_requests.new.output_files)
     (subst Names (sym c.in_err-write_requests.ensures.err) c.loop-session.invariant.named))
 
 pub loop-session-preserved : goal.loop-session-preserved
@@ -41,7 +41,7 @@ loop-session-preserved g c =
     let drawn : AreDrawn workload session ok.1.0 = (subst Scripts c.in_ok-script.ensures.drawn ok.1.1, subst Accepted c.in_ok-script.ensures.drawn c.in_ok-script.ensures.accepted) in
     record {
       left = c.remove-file.ensures.items ∙ ap (drop 1) is_left ∙ drop-drop 1 session files;
-      named = scripts-more g.T.Write.contents workload files session file (g.N.Shelf.named c.args.shelf.now) (g.N.Shelf.named c.loop-session.shelf) (g.N.Shelf.named c.write_requests.new.shelf) there is
+      named = scripts-more g.T.Write.contents workload files session file (g.N.OutputFiles.named c.args.output_files.now) (g.N.OutputFiles.named c.loop-session.output_files) (g.N.OutputFiles.named c.write_requests.new.output_files) there is
           c.loop-session.invariant.named (ok.0, (ok.1.0, drawn, ok.1.2), ok.2);
     }
 

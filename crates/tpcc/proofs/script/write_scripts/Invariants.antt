@@ -6,5 +6,5 @@ use Rattle.tpcc.proofs.script.write_scripts.Given as goal
 abbrev pub invariant-loop-session : goal.invariant-loop-session
 invariant-loop-session g l = record {
   left : l.files.items ≡ drop l.session l.fn.files.items;
-  named : NamesScripts g.T.Write.contents l.workload 0 (take l.session l.fn.files.items) (g.N.Shelf.named l.fn.shelf) (g.N.Shelf.named l.shelf);
+  named : NamesScripts g.T.Write.contents l.workload 0 (take l.session l.fn.files.items) (g.N.OutputFiles.named l.fn.output_files) (g.N.OutputFiles.named l.output_files);
 }

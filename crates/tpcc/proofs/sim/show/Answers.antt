@@ -20,82 +20,82 @@ use Rattle.tpcc.proofs.sim.show.Goals as goal
 -- what is printed names entries of what is written
 pub print_outputs-printed-requires : goal.print_outputs-printed-requires
 print_outputs-printed-requires g c =
-    subst (λ (told : List Entry × List Output). NameEntries told.0 told.1) (λ i. (sym c.as_slice-entries.ensures.value i, sym c.as_slice-outputs.ensures.value i)) c.requires.entries
+    subst (λ (reported : List Entry × List Output). NameEntries reported.0 reported.1) (λ i. (sym c.as_slice-entries.ensures.value i, sym c.as_slice-outputs.ensures.value i)) c.requires.entries
 
 -- the log was not written: nothing is printed
 pub returns-in_err-log-clause-some : goal.returns-in_err-log-clause-some
 returns-in_err-log-clause-some g c =
-    let before = g.A.Write.contents c.args.told.now in
-    let names = g.N.Shelf.named in
+    let before = g.A.Write.contents c.args.reported.now in
+    let names = g.N.OutputFiles.named in
     let some : ShowsSome g.F.Write.contents c.args.settings.now.executors c.args.schedule.now c.args.simulation.now c.args.log c.args.picture c.args.tables before before
-    (names c.args.shelf.now) (names c.write_entries.new.shelf) = inl (no_output before c.args.simulation.now.log.items c.args.simulation.now.outputs.items, c.in_err-log.ensures.same) in
+    (names c.args.output_files.now) (names c.write_entries.new.output_files) = inl (no_output before c.args.simulation.now.log.items c.args.simulation.now.outputs.items, c.in_err-log.ensures.same) in
     on_any_err c.from_residual.result some
 
 -- not all was printed, or the log has not got its name
 pub returns-in_err-name_printed-clause-some : goal.returns-in_err-name_printed-clause-some
 returns-in_err-name_printed-clause-some g c =
-    let before = g.A.Write.contents c.args.told.now in
+    let before = g.A.Write.contents c.args.reported.now in
     let after = g.A.Write.contents c.print_outputs-printed.new.sink in
-    let names = g.N.Shelf.named in
+    let names = g.N.OutputFiles.named in
     let printed : BeginsToWrite before after (OfFirst (AreOutputs c.args.simulation.now.log.items) c.args.simulation.now.outputs.items) =
-    subst (λ (told : List Entry × List Output). BeginsToWrite before after (OfFirst (AreOutputs told.0) told.1)) (λ i. (c.as_slice-entries.ensures.value i, c.as_slice-outputs.ensures.value i))
+    subst (λ (reported : List Entry × List Output). BeginsToWrite before after (OfFirst (AreOutputs reported.0) reported.1)) (λ i. (c.as_slice-entries.ensures.value i, c.as_slice-outputs.ensures.value i))
     (all_or_some c.print_outputs-printed.result before after _ _ (all-first c.as_slice-entries.result.now c.as_slice-outputs.result.now) c.print_outputs-printed.ensures.printed c.print_outputs-printed.ensures.begun) in
     let some : ShowsSome g.F.Write.contents c.args.settings.now.executors c.args.schedule.now c.args.simulation.now c.args.log c.args.picture c.args.tables before after
-    (names c.args.shelf.now) (names c.name_printed.new.shelf) = inl (printed, c.in_err-name_printed.ensures.err ∙ c.in_ok-log.ensures.same) in
+    (names c.args.output_files.now) (names c.name_printed.new.output_files) = inl (printed, c.in_err-name_printed.ensures.err ∙ c.in_ok-log.ensures.same) in
     on_any_err c.from_residual-in_err-name_printed.result some
 
 -- the picture was not drawn
 pub returns-in_err-draw-clause-some : goal.returns-in_err-draw-clause-some
 returns-in_err-draw-clause-some g c =
-    let before = g.A.Write.contents c.args.told.now in
+    let before = g.A.Write.contents c.args.reported.now in
     let after = g.A.Write.contents c.print_outputs-printed.new.sink in
-    let names = g.N.Shelf.named in
+    let names = g.N.OutputFiles.named in
     let log = c.args.simulation.now.log.items in
-    let Prints : List Entry × List Output → Type 0 = λ (told : List Entry × List Output). Writes before after (AreOutputs told.0 told.1) in
+    let Prints : List Entry × List Output → Type 0 = λ (reported : List Entry × List Output). Writes before after (AreOutputs reported.0 reported.1) in
     let printed = subst Prints (λ i. (c.as_slice-entries.ensures.value i, c.as_slice-outputs.ensures.value i)) (printed_well c.print_outputs-printed.result tt c.in_ok-name_printed.ensures.printed c.print_outputs-printed.ensures.printed) in
     let Logs : List Entry → Type 0 = λ l. HasWritten g.F.Write.contents c.args.log (IsLog l) c.in_ok-log.log in
-    let with_log = names c.name_printed.new.shelf in
-    let logged : NamesFile g.F.Write.contents c.args.log (names c.args.shelf.now) with_log (IsLog log) =
-    names_written g.F.Write.contents c.args.log (IsLog log) c.in_ok-log.log (names c.args.shelf.now) (names c.write_entries.new.shelf) with_log
+    let with_log = names c.name_printed.new.output_files in
+    let logged : NamesFile g.F.Write.contents c.args.log (names c.args.output_files.now) with_log (IsLog log) =
+    names_written g.F.Write.contents c.args.log (IsLog log) c.in_ok-log.log (names c.args.output_files.now) (names c.write_entries.new.output_files) with_log
     c.in_ok-log.ensures.same (subst Logs c.as_slice-entries.ensures.value c.in_ok-log.ensures.written) c.in_ok-name_printed.ensures.named in
     let some : ShowsSome g.F.Write.contents c.args.settings.now.executors c.args.schedule.now c.args.simulation.now c.args.log c.args.picture c.args.tables before after
-    (names c.args.shelf.now) (names c.draw.new.shelf) = inr (printed, with_log, logged, inl c.in_err-draw.ensures.err) in
+    (names c.args.output_files.now) (names c.draw.new.output_files) = inr (printed, with_log, logged, inl c.in_err-draw.ensures.err) in
     on_any_err c.from_residual-in_err-draw.result some
 
 -- the tables were not written
 pub returns-clause-some : goal.returns-clause-some
 returns-clause-some g c =
-    let before = g.A.Write.contents c.args.told.now in
+    let before = g.A.Write.contents c.args.reported.now in
     let after = g.A.Write.contents c.print_outputs-printed.new.sink in
-    let names = g.N.Shelf.named in
+    let names = g.N.OutputFiles.named in
     let log = c.args.simulation.now.log.items in
-    let Prints : List Entry × List Output → Type 0 = λ (told : List Entry × List Output). Writes before after (AreOutputs told.0 told.1) in
+    let Prints : List Entry × List Output → Type 0 = λ (reported : List Entry × List Output). Writes before after (AreOutputs reported.0 reported.1) in
     let printed = subst Prints (λ i. (c.as_slice-entries.ensures.value i, c.as_slice-outputs.ensures.value i)) (printed_well c.print_outputs-printed.result tt c.in_ok-name_printed.ensures.printed c.print_outputs-printed.ensures.printed) in
     let Logs : List Entry → Type 0 = λ l. HasWritten g.F.Write.contents c.args.log (IsLog l) c.in_ok-log.log in
-    let with_log = names c.name_printed.new.shelf in
-    let logged : NamesFile g.F.Write.contents c.args.log (names c.args.shelf.now) with_log (IsLog log) =
-    names_written g.F.Write.contents c.args.log (IsLog log) c.in_ok-log.log (names c.args.shelf.now) (names c.write_entries.new.shelf) with_log
+    let with_log = names c.name_printed.new.output_files in
+    let logged : NamesFile g.F.Write.contents c.args.log (names c.args.output_files.now) with_log (IsLog log) =
+    names_written g.F.Write.contents c.args.log (IsLog log) c.in_ok-log.log (names c.args.output_files.now) (names c.write_entries.new.output_files) with_log
     c.in_ok-log.ensures.same (subst Logs c.as_slice-entries.ensures.value c.in_ok-log.ensures.written) c.in_ok-name_printed.ensures.named in
-    let Draws : List Entry × List Output → Type 0 = λ (told : List Entry × List Output). NamesPicture g.F.Write.contents c.args.picture with_log (names c.draw.new.shelf) c.args.settings.now.executors c.args.schedule.now told.1 told.0 in
+    let Draws : List Entry × List Output → Type 0 = λ (reported : List Entry × List Output). NamesPicture g.F.Write.contents c.args.picture with_log (names c.draw.new.output_files) c.args.settings.now.executors c.args.schedule.now reported.1 reported.0 in
     let drawn = subst Draws (λ i. (c.as_slice-entries.ensures.value i, c.as_slice-outputs.ensures.value i)) c.in_ok-draw.ensures.named in
     let Named : Option (List (Option (List ℕ))) → Type 0 = λ named. NamesPicture g.F.Write.contents c.args.picture with_log named c.args.settings.now.executors c.args.schedule.now c.args.simulation.now.outputs.items c.args.simulation.now.log.items in
     on_err_weaker c.name_gathered.result (λ still. inr (printed, with_log, logged, inr (subst Named (sym still) drawn))) c.name_gathered.ensures.err
 
 pub returns-clause-all : goal.returns-clause-all
 returns-clause-all g c =
-    let before = g.A.Write.contents c.args.told.now in
+    let before = g.A.Write.contents c.args.reported.now in
     let after = g.A.Write.contents c.print_outputs-printed.new.sink in
-    let names = g.N.Shelf.named in
+    let names = g.N.OutputFiles.named in
     let log = c.args.simulation.now.log.items in
-    let Prints : List Entry × List Output → Type 0 = λ (told : List Entry × List Output). Writes before after (AreOutputs told.0 told.1) in
+    let Prints : List Entry × List Output → Type 0 = λ (reported : List Entry × List Output). Writes before after (AreOutputs reported.0 reported.1) in
     let Logs : List Entry → Type 0 = λ l. HasWritten g.F.Write.contents c.args.log (IsLog l) c.in_ok-log.log in
-    let with_log = names c.name_printed.new.shelf in
-    let Draws : List Entry × List Output → Type 0 = λ (told : List Entry × List Output). NamesPicture g.F.Write.contents c.args.picture with_log (names c.draw.new.shelf) c.args.settings.now.executors c.args.schedule.now told.1 told.0 in
+    let with_log = names c.name_printed.new.output_files in
+    let Draws : List Entry × List Output → Type 0 = λ (reported : List Entry × List Output). NamesPicture g.F.Write.contents c.args.picture with_log (names c.draw.new.output_files) c.args.settings.now.executors c.args.schedule.now reported.1 reported.0 in
     on_ok_weaker c.name_gathered.result (λ gathered. record {
       printed = subst Prints (λ i. (c.as_slice-entries.ensures.value i, c.as_slice-outputs.ensures.value i)) (printed_well c.print_outputs-printed.result tt c.in_ok-name_printed.ensures.printed c.print_outputs-printed.ensures.printed);
       with_log = with_log;
-      with_picture = names c.draw.new.shelf;
-      logged = names_written g.F.Write.contents c.args.log (IsLog log) c.in_ok-log.log (names c.args.shelf.now) (names c.write_entries.new.shelf) with_log
+      with_picture = names c.draw.new.output_files;
+      logged = names_written g.F.Write.contents c.args.log (IsLog log) c.in_ok-log.log (names c.args.output_files.now) (names c.write_entries.new.output_files) with_log
           c.in_ok-log.ensures.same (subst Logs c.as_slice-entries.ensures.value c.in_ok-log.ensures.written) c.in_ok-name_printed.ensures.named;
       drawn = subst Draws (λ i. (c.as_slice-entries.ensures.value i, c.as_slice-outputs.ensures.value i)) c.in_ok-draw.ensures.named;
       gathered = gathered;

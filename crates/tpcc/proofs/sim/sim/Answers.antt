@@ -36,7 +36,7 @@ returns-clause-some g c =
       simulates = subst Plays c.as_slice.ensures.value c.in-Ok.ensures.simulates;
     } in
     let Some : List Scheduled → Type 0 = λ items. ShowsSome g.F.Write.contents executors items simulation c.args.log c.args.picture c.args.tables
-    (g.A.Write.contents c.args.told.now) (g.A.Write.contents c.show.new.told) (g.N.Shelf.named c.args.shelf.now) (g.N.Shelf.named c.show.new.shelf) in
+    (g.A.Write.contents c.args.reported.now) (g.A.Write.contents c.show.new.reported) (g.N.OutputFiles.named c.args.output_files.now) (g.N.OutputFiles.named c.show.new.output_files) in
     on_err_weaker c.show.result (λ some. inr (schedule, simulation, is, subst Some c.as_slice-2.ensures.value some)) c.show.ensures.some
 
 pub returns-clause-simulates : goal.returns-clause-simulates
@@ -54,7 +54,7 @@ returns-clause-simulates g c =
       simulates = subst Plays c.as_slice.ensures.value c.in-Ok.ensures.simulates;
     } in
     let All : List Scheduled → Type 0 = λ items. Shows g.F.Write.contents executors items simulation c.args.log c.args.picture c.args.tables
-    (g.A.Write.contents c.args.told.now) (g.A.Write.contents c.show.new.told) (g.N.Shelf.named c.args.shelf.now) (g.N.Shelf.named c.show.new.shelf) in
+    (g.A.Write.contents c.args.reported.now) (g.A.Write.contents c.show.new.reported) (g.N.OutputFiles.named c.args.output_files.now) (g.N.OutputFiles.named c.show.new.output_files) in
     on_ok_weaker c.show.result (λ all. record {
       schedule = schedule;
       simulation = simulation;

@@ -1,5 +1,5 @@
 use Rattle.std.proofs.Common.{All, vec_len}
-use Rattle.slices.specs.Sliced.{IsClaimAt, SliceKeeps}
+use Rattle.slices.specs.SliceView.{IsClaimAt, SliceKeeps}
 use Rattle.transactions.specs.Acting.{CanBeUndone}
 use Rattle.transactions.proofs.acting.undo.Given as goal
 

@@ -1,4 +1,4 @@
-use Rattle.transactions.proofs.Wished as law
+use Rattle.transactions.proofs.GroupWanted as law
 use Rattle.transactions.proofs.laws.works_have_their_groups.Goals as goal
 
 pub returns : goal.returns

@@ -1,6 +1,6 @@
 use Rattle.std.proofs.Common.{◌≡◌, [], ◌∷◌, ap, ◌∙◌}
 use Rattle.std.proofs.lemmas.Result.{on_ok_weaker}
-use Rattle.tickets.specs.Claims.{Claiming, leaving}
+use Rattle.tickets.specs.Claims.{ClaimView, leaving}
 use Rattle.slices.specs.Undo.{with_payment_more}
 use Rattle.transactions.proofs.Kept as kept
 use Rattle.transactions.proofs.PaymentDone as done
@@ -18,5 +18,5 @@ returns-clause-added g c =
     on_ok_weaker c.add_payment.result
     (λ (is : c.add_payment.new.claim ≡ leaving c.look.new.claim (with_payment_more row c.look.new.claim.left)).
     done.payment_added c.args.payment.now c.args.slice.now.tables row c.args.history.now c.add_payment.new.claim c.requires.claim c.requires.fresh c.look.ensures.left
-    (is ∙ ap (λ (k : Claiming). leaving k (with_payment_more row k.left)) c.look.ensures.same.1))
+    (is ∙ ap (λ (k : ClaimView). leaving k (with_payment_more row k.left)) c.look.ensures.same.1))
     c.add_payment.ensures.claim

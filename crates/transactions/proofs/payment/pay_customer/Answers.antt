@@ -11,8 +11,8 @@ use Rattle.requests.specs.declared.payment.PaymentReply.{PaymentReply}
 use Rattle.partitions.specs.Parts.{Part}
 use Rattle.groups.specs.Groups.{group_of_customer}
 use Rattle.groups.specs.Laws.{with_customer}
-use Rattle.tickets.specs.Claims.{Claiming, leaving}
-use Rattle.slices.specs.Sliced.{Sliced, part_in}
+use Rattle.tickets.specs.Claims.{ClaimView, leaving}
+use Rattle.slices.specs.SliceView.{SliceView, part_in}
 use Rattle.slices.specs.Undo.{AreNamesAt}
 use Rattle.machine.specs.Chosen.{chosen}
 use Rattle.machine.proofs.ChosenRows.{chosen_there}
@@ -26,7 +26,7 @@ pub returns-in_default-clause-paid : goal.returns-in_default-clause-paid
 returns-in_default-clause-paid g c =
     let p = c.args.payment.now in
     let t = c.args.slice.now.tables in
-    let seen = ap (λ (p : Part). p.tables) c.partition.ensures.rows ∙ ap (λ (s : Sliced). s.tables) c.look.ensures.same.0 in
+    let seen = ap (λ (p : Part). p.tables) c.partition.ensures.rows ∙ ap (λ (s : SliceView). s.tables) c.look.ensures.same.0 in
     let none : None ≡ chosen c.partition.result.now.tables.customers p.customer_home p.customer = sym (ap (option_map (λ found. (found.0, found.1.now))) c.in_default.is) ∙ c.chosen.ensures in
     done.no_customer p t c.args.customers.now c.requires.claim c.requires.fresh c.look.ensures.left c.look.new.claim c.look.ensures.same.1
     (sym (none ∙ ap (λ (s : Database). chosen s.customers p.customer_home p.customer) seen))
@@ -35,7 +35,7 @@ pub returns-in_default-customer_paid-clause-paid : goal.returns-in_default-custo
 returns-in_default-customer_paid-clause-paid g c =
     let p = c.args.payment.now in
     let t = c.args.slice.now.tables in
-    let seen = ap (λ (p : Part). p.tables) c.partition.ensures.rows ∙ ap (λ (s : Sliced). s.tables) c.look.ensures.same.0 in
+    let seen = ap (λ (p : Part). p.tables) c.partition.ensures.rows ∙ ap (λ (s : SliceView). s.tables) c.look.ensures.same.0 in
     done.customer_out p t c.args.customers.now c.requires.claim c.requires.fresh c.look.ensures.left c.look.new.claim c.in-Some.key c.in-Some.row.now c.look.ensures.same.1
     (sym (c.in-Some.ensures ∙ ap (λ (s : Database). chosen s.customers p.customer_home p.customer) seen))
     (sym c.in_default-customer_paid.ensures)
@@ -46,7 +46,7 @@ put_customer-requires-clause-group g c =
     let p = c.args.payment.now in
     let found : Keyed = (c.in-Some.key, c.in-Some.row.now) in
     let there = chosen_there c.partition.result.now.tables.customers p.customer_home p.customer found (sym c.in-Some.ensures) in
-    ap (λ (k : Claiming). k.group) c.look.ensures.same.1 ∙ c.requires.claim.group ∙ sym (ap group_of_customer there.1)
+    ap (λ (k : ClaimView). k.group) c.look.ensures.same.1 ∙ c.requires.claim.group ∙ sym (ap group_of_customer there.1)
 
 pub put_customer-requires-clause-there : goal.put_customer-requires-clause-there
 put_customer-requires-clause-there g c =
@@ -74,7 +74,7 @@ returns-clause-paid g c =
     let key = c.in-Some.key in
     let row = c.in-Some.row.now in
     let new = c.in-Some-customer_paid.row in
-    let seen = ap (λ (p : Part). p.tables) c.partition.ensures.rows ∙ ap (λ (s : Sliced). s.tables) c.look.ensures.same.0 in
+    let seen = ap (λ (p : Part). p.tables) c.partition.ensures.rows ∙ ap (λ (s : SliceView). s.tables) c.look.ensures.same.0 in
     done.customer_is_paid p t c.args.customers.now c.requires.claim c.requires.fresh c.look.ensures.left c.put_customer.new.claim key row new c.in_ok-reply.reply
     (sym (c.in-Some.ensures ∙ ap (λ (s : Database). chosen s.customers p.customer_home p.customer) seen))
     (sym c.in-Some-customer_paid.ensures)
@@ -91,7 +91,7 @@ returns-clause-payer g c =
     let there = chosen_there c.partition.result.now.tables.customers p.customer_home p.customer found (sym c.in-Some.ensures) in
     let held = subst (λ (q : Part). IsTrue (map.contains_key q.tables.customers key)) c.partition.ensures.rows (ap is_some there.0) in
     let has = customer_known (part_in c.look.new.self) key c.partition.ensures.part held in
-    let seen : c.look.new.self.tables ≡ c.args.slice.now.tables = ap (λ (s : Sliced). s.tables) c.look.ensures.same.0 in
+    let seen : c.look.new.self.tables ≡ c.args.slice.now.tables = ap (λ (s : SliceView). s.tables) c.look.ensures.same.0 in
     let shown = there.1 ∙ ap (λ (r : PaymentReply). customer_key p.customer_home r.c_id) (sym c.in_ok-reply.ensures.reply) in
     subst (λ k. IsTrue (has_customer c.args.slice.now.tables.scale k)) shown (subst (λ (s : Database). IsTrue (has_customer s.scale key)) seen has)
 

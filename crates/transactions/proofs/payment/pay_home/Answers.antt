@@ -6,8 +6,8 @@ use Rattle.schema.specs.Database.{Database}
 use Rattle.partitions.specs.Parts.{Part}
 use Rattle.groups.specs.Content.{content}
 use Rattle.groups.specs.Laws.{with_warehouse, with_district}
-use Rattle.tickets.specs.Claims.{Claiming, leaving}
-use Rattle.slices.specs.Sliced.{Sliced}
+use Rattle.tickets.specs.Claims.{ClaimView, leaving}
+use Rattle.slices.specs.SliceView.{SliceView}
 use Rattle.machine.specs.Payment.{warehouse_paid, district_paid}
 use Rattle.transactions.specs.declared.payment.HomePaid.TheVariants as h
 use Rattle.transactions.specs.Payment.{IsHomePaid}
@@ -21,8 +21,8 @@ returns-in_default-warehouse_paid-clause-paid g c =
     let t = c.args.slice.now.tables in
     let w = c.in-Some.warehouse_row.now in
     let d = c.in-Some-district.district_row.now in
-    let looked : c.look.new.self.tables ≡ t = ap (λ (s : Sliced). s.tables) c.look.ensures.same.0 in
-    let again : c.look-2.new.self.tables ≡ t = ap (λ (s : Sliced). s.tables) c.look-2.ensures.same.0 ∙ looked in
+    let looked : c.look.new.self.tables ≡ t = ap (λ (s : SliceView). s.tables) c.look.ensures.same.0 in
+    let again : c.look-2.new.self.tables ≡ t = ap (λ (s : SliceView). s.tables) c.look-2.ensures.same.0 ∙ looked in
     let w_read : map.get t.warehouses p.home.w_id ≡ Some w = sym (c.in-Some.ensures ∙ ap (λ (s : Database). map.get s.warehouses p.home.w_id) (ap (λ (p : Part). p.tables) c.partition.ensures.rows ∙ again)) in
     let d_read : map.get t.districts p.home ≡ Some d = sym (c.in-Some-district.ensures ∙ ap (λ (s : Database). map.get s.districts p.home) (ap (λ (p : Part). p.tables) c.partition-2.ensures.rows ∙ again)) in
     let amount : c.new-amount.result ≡ pos p.amount = omega (arith, ints) in
@@ -44,8 +44,8 @@ returns-clause-paid g c =
     let d = c.in-Some-district.district_row.now in
     let new_w = c.in-Some-warehouse_paid.new_warehouse in
     let new_d = c.in-Some-district_paid.new_district in
-    let looked : c.look.new.self.tables ≡ t = ap (λ (s : Sliced). s.tables) c.look.ensures.same.0 in
-    let again : c.look-2.new.self.tables ≡ t = ap (λ (s : Sliced). s.tables) c.look-2.ensures.same.0 ∙ looked in
+    let looked : c.look.new.self.tables ≡ t = ap (λ (s : SliceView). s.tables) c.look.ensures.same.0 in
+    let again : c.look-2.new.self.tables ≡ t = ap (λ (s : SliceView). s.tables) c.look-2.ensures.same.0 ∙ looked in
     let w_read : map.get t.warehouses p.home.w_id ≡ Some w = sym (c.in-Some.ensures ∙ ap (λ (s : Database). map.get s.warehouses p.home.w_id) (ap (λ (p : Part). p.tables) c.partition.ensures.rows ∙ again)) in
     let d_read : map.get t.districts p.home ≡ Some d = sym (c.in-Some-district.ensures ∙ ap (λ (s : Database). map.get s.districts p.home) (ap (λ (p : Part). p.tables) c.partition-2.ensures.rows ∙ again)) in
     let amount : c.new-amount.result ≡ pos p.amount = omega (arith, ints) in
@@ -63,5 +63,5 @@ returns-clause-paid g c =
 pub put_home-requires-clause-warehouse_left : goal.put_home-requires-clause-warehouse_left
 put_home-requires-clause-warehouse_left g c =
     let same = c.look.ensures.same.1 in
-    let seen = ap (λ (s : Sliced). s.tables) (c.look-2.ensures.same.0 ∙ c.look.ensures.same.0) in
-    ap (λ (k : Claiming). k.left) same ∙ c.look.ensures.left ∙ (λ i. content (sym seen i) (sym same i).group)
+    let seen = ap (λ (s : SliceView). s.tables) (c.look-2.ensures.same.0 ∙ c.look.ensures.same.0) in
+    ap (λ (k : ClaimView). k.left) same ∙ c.look.ensures.left ∙ (λ i. content (sym seen i) (sym same i).group)

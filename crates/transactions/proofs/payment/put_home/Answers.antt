@@ -4,7 +4,7 @@ use Rattle.groups.specs.Content.{content}
 use Rattle.groups.specs.Groups.{group_of_warehouse}
 use Rattle.groups.specs.Laws.{ChangesOneGroup}
 use Rattle.groups.proofs.RowsPut.{each_put_changes_one_group}
-use Rattle.tickets.specs.Claims.{Claiming, leaving}
+use Rattle.tickets.specs.Claims.{ClaimView, leaving}
 use Rattle.transactions.proofs.Kept as kept
 use Rattle.transactions.proofs.Returned.{put_back}
 use Rattle.transactions.proofs.payment.put_home.Goals as goal
@@ -38,9 +38,9 @@ returns-in-Err-clause-err g c =
     let same = c.in-Err.ensures.err in
     let made = c.in_ok-put_warehouse.ensures.claim in
     let fresh = c.requires.warehouse_fresh in
-    let on : put.group ≡ own = ap (λ (k : Claiming). k.group) made ∙ c.requires.warehouse_claim.group in
+    let on : put.group ≡ own = ap (λ (k : ClaimView). k.group) made ∙ c.requires.warehouse_claim.group in
     let had : content t own ≡ put.back =
-    ap (content t) (sym c.requires.warehouse_claim.group) ∙ sym c.requires.warehouse_left ∙ fresh.left ∙ sym fresh.back ∙ sym (ap (λ (k : Claiming). k.back) made) in
+    ap (content t) (sym c.requires.warehouse_claim.group) ∙ sym c.requires.warehouse_left ∙ fresh.left ∙ sym fresh.back ∙ sym (ap (λ (k : ClaimView). k.back) made) in
     let before : leaving was was.back ≡ was = ap (leaving was) (fresh.back ∙ sym fresh.left) in (
       put_back own put.back c.args.slice.now c.put_district.new.self c.undo.new.self _ put c.undo.new.claim (same.0 ∙ c.in_ok-put_warehouse.ensures.rows) refl refl
           ((each_put_changes_one_group t).warehouses c.args.payment.now.home.w_id c.args.warehouse_row).elsewhere had c.undo.ensures.kept

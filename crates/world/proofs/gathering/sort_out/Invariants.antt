@@ -7,9 +7,9 @@ use Rattle.world.proofs.gathering.sort_out.Given as goal
 -- for those that are left.
 abbrev pub invariant-loop-report : goal.invariant-loop-report
 invariant-loop-report g l = record {
-  journey : l.journey ≡ record l.initial.journey { transaction = record l.initial.journey.transaction { held = l.journey.transaction.held } };
-  held : l.journey.transaction.held ++ held_in l.results ≡ l.initial.journey.transaction.held ++ held_in l.initial.results;
-  room : length l.journey.transaction.held + length l.results ≤ MOST_ACTIONS;
+  flow : l.flow ≡ record l.initial.flow { transaction = record l.initial.flow.transaction { held = l.flow.transaction.held } };
+  held : l.flow.transaction.held ++ held_in l.results ≡ l.initial.flow.transaction.held ++ held_in l.initial.results;
+  room : length l.flow.transaction.held + length l.results ≤ MOST_ACTIONS;
   refusal : refusal_of l.sorted.refusal l.results ≡ refusal_of l.initial.sorted.refusal l.initial.results;
   found : l.sorted.refusal ≡ None → l.sorted.found.items ++ found_in l.results ≡ l.initial.sorted.found.items ++ found_in l.initial.results;
   found_room : l.sorted.refusal ≡ None → length l.sorted.found.items + length l.results ≤ vec_capacity l.sorted.found;

@@ -1,7 +1,7 @@
 use Rattle.std.proofs.Common.{◌≡◌, ◌≤◌, length, sym, subst}
 use Rattle.transactions.proofs.ClaimHomes.{home_is}
 use Rattle.world.specs.declared.flight.Message.{Message}
-use Rattle.world.specs.Letters.{HasHome, home_of_message}
+use Rattle.world.specs.Envelopes.{HasHome, home_of_message}
 use Rattle.world.proofs.homes.home_of_message.Goals as goal
 
 pub returns-in-Settle : goal.returns-in-Settle

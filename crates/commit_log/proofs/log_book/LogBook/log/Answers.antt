@@ -1,20 +1,20 @@
 use Rattle.std.proofs.Common.{◌≡◌, ◌+◌, ◌<◌, List, [], ◌∷◌, ◌++◌, length, set, sym, ap, ◌∙◌, subst}
-use Rattle.length_word.specs.Reaching.{reaching}
+use Rattle.length_word.specs.LengthView.{length_view}
 use Rattle.commit_log.specs.declared.entry.Entry.{Entry}
 use Rattle.commit_log.specs.Items.{entry_of, item, items_of, mine_of}
 use Rattle.commit_log.specs.Kept.{IsBookOf, seat_at}
-use Rattle.commit_log.proofs.Booking.{book_more, told}
+use Rattle.commit_log.proofs.Booking.{book_more, recorded}
 use Rattle.commit_log.proofs.log_book.LogBook.log.Goals as goal
 
-pub tell-requires-clause-log : goal.tell-requires-clause-log
-tell-requires-clause-log g c =
-    let told = told _ _ _ _ _ c.self.invariant c.pass.inside.session c.index_mut.result.now c.pass.invariant.some_session c.index_mut.ensures.value in
-    told ∙ ap (λ t. seat_at t.agreement.table t.value) (sym told)
+pub note-requires-clause-log : goal.note-requires-clause-log
+note-requires-clause-log g c =
+    let recorded = recorded _ _ _ _ _ c.self.invariant c.pass.inside.session c.index_mut.result.now c.pass.invariant.some_session c.index_mut.ensures.value in
+    recorded ∙ ap (λ t. seat_at t.agreement.table t.value) (sym recorded)
 
-pub tell-requires-clause-pass : goal.tell-requires-clause-pass
-tell-requires-clause-pass g c =
-    let told = told _ _ _ _ _ c.self.invariant c.pass.inside.session c.index_mut.result.now c.pass.invariant.some_session c.index_mut.ensures.value in
-    c.pass.invariant.mine_of_session ∙ ap (λ t. seat_at t.agreement.table c.pass.inside.mine.value) (sym told)
+pub note-requires-clause-pass : goal.note-requires-clause-pass
+note-requires-clause-pass g c =
+    let recorded = recorded _ _ _ _ _ c.self.invariant c.pass.inside.session c.index_mut.result.now c.pass.invariant.some_session c.index_mut.ensures.value in
+    c.pass.invariant.mine_of_session ∙ ap (λ t. seat_at t.agreement.table c.pass.inside.mine.value) (sym recorded)
 
 pub invariant_of-self : goal.invariant_of-self
 invariant_of-self g c =
@@ -22,14 +22,14 @@ invariant_of-self g c =
     let session = c.pass.inside.session in
     let entries = c.self.inside.entries.items in
     let entry : Entry = entry_of session c.args.number c.args.request c.args.reply in
-    let told = told _ _ _ _ _ book session c.index_mut.result.now c.pass.invariant.some_session c.index_mut.ensures.value in
-    let place : c.entries-place.result ≡ length entries = c.entries-place.ensures ∙ ap (λ w. w.entries) book.told_length in
-    let longer : c.reach_one_more.new.length ≡ reaching g.J.LogNames.length (length entries + 1) =
-    c.reach_one_more.ensures.length ∙ ap (λ w. reaching w.table (w.entries + 1)) book.told_length in
-    let seat : c.tell.new.log ≡ seat_at (g.J.LogNames.mine session) (mine_of (items_of session entries ++ item (length entries) c.args.number c.args.request c.args.reply ∷ [])) =
-    c.tell.ensures.log
-    ∙ ap (λ t. seat_at t.agreement.table (mine_of (t.value.items ++ item c.entries-place.result c.args.number c.args.request c.args.reply ∷ []))) told
+    let recorded = recorded _ _ _ _ _ book session c.index_mut.result.now c.pass.invariant.some_session c.index_mut.ensures.value in
+    let place : c.entries-place.result ≡ length entries = c.entries-place.ensures ∙ ap (λ w. w.entries) book.recorded_length in
+    let longer : c.reach_one_more.new.length ≡ length_view g.J.LogNames.length (length entries + 1) =
+    c.reach_one_more.ensures.length ∙ ap (λ w. length_view w.table (w.entries + 1)) book.recorded_length in
+    let seat : c.note.new.log ≡ seat_at (g.J.LogNames.mine session) (mine_of (items_of session entries ++ item (length entries) c.args.number c.args.request c.args.reply ∷ [])) =
+    c.note.ensures.log
+    ∙ ap (λ t. seat_at t.agreement.table (mine_of (t.value.items ++ item c.entries-place.result c.args.number c.args.request c.args.reply ∷ []))) recorded
     ∙ ap (λ n. seat_at (g.J.LogNames.mine session) (mine_of (items_of session entries ++ item n c.args.number c.args.request c.args.reply ∷ []))) place in
     let below : length entries < 16777216 = subst (λ b. length b.entries < 16777216) (sym c.self.view_is) c.requires.below in
-    subst (λ (es : List Entry). IsBookOf g.J.LogNames.length g.J.LogNames.mine es c.reach_one_more.new.length (set c.self.inside.mine.items session c.tell.new.log)) (sym c.push_reserved.ensures.items)
-    (book_more _ _ _ _ _ book entry c.tell.new.log c.reach_one_more.new.length c.pass.invariant.some_session below longer seat)
+    subst (λ (es : List Entry). IsBookOf g.J.LogNames.length g.J.LogNames.mine es c.reach_one_more.new.length (set c.self.inside.mine.items session c.note.new.log)) (sym c.push_reserved.ensures.items)
+    (book_more _ _ _ _ _ book entry c.note.new.log c.reach_one_more.new.length c.pass.invariant.some_session below longer seat)

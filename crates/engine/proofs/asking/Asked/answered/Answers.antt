@@ -1,8 +1,8 @@
 use Rattle.std.proofs.Common.{◌≡◌, ap, subst, sym, ◌∙◌, arith, vec_capacity}
-use Rattle.commit_log.specs.Passing.{Seating}
-use Rattle.executor.specs.Answers.{IsToldBy}
-use Rattle.engine.specs.Asking.{Waiting}
-use Rattle.engine.proofs.Asked.{ready_told}
+use Rattle.commit_log.specs.PassView.{SessionSeatView}
+use Rattle.executor.specs.Answers.{IsRecordedBy}
+use Rattle.engine.specs.Asking.{AskedView}
+use Rattle.engine.proofs.Asked.{ready_recorded}
 use Rattle.engine.proofs.asking.Asked.answered.Goals as goal
 
 pub invariant_of-result-2 : goal.invariant_of-result-2
@@ -10,7 +10,7 @@ invariant_of-result-2 g c =
     let own = c.self.inside in
     let pushed = c.push_reserved.ensures in
     let after = c.push_reserved.new.self in
-    let seat_is : own.seat ≡ c.args.self.seat = ap (λ (s : Waiting). s.seat) c.self.view_is in
-    ready_told g.J.LogNames.opening.scale g.J.ServeNames.scripts own.script.now own.seat c.args.pass own.answers.items after.items (vec_capacity own.answers) (vec_capacity after) c.self.invariant
-    (c.requires.session ∙ sym (ap (λ (s : Seating). s.session) seat_is)) c.args.answer _ c.says_full-is_full.ensures
-    (subst (λ (s : Seating). IsToldBy s.asking c.args.pass c.args.answer) (sym seat_is) c.requires.told) pushed.items (omega (arith, pushed.capacity))
+    let seat_is : own.seat ≡ c.args.self.seat = ap (λ (s : AskedView). s.seat) c.self.view_is in
+    ready_recorded g.J.LogNames.opening.scale g.J.ServeNames.scripts own.script.now own.seat c.args.pass own.answers.items after.items (vec_capacity own.answers) (vec_capacity after) c.self.invariant
+    (c.requires.session ∙ sym (ap (λ (s : SessionSeatView). s.session) seat_is)) c.args.answer _ c.says_full-is_full.ensures
+    (subst (λ (s : SessionSeatView). IsRecordedBy s.asking c.args.pass c.args.answer) (sym seat_is) c.requires.recorded) pushed.items (omega (arith, pushed.capacity))

@@ -1,6 +1,6 @@
 use Rattle.std.proofs.Common.{subst, sym}
 use Rattle.engine.specs.Asking.{known_of}
-use Rattle.engine.specs.ByHand.{Calling}
+use Rattle.engine.specs.Interactive.{AskerView}
 use Rattle.engine.specs.Outcome.{IsRefusal}
 use Rattle.engine.proofs.Answered.{resting_refused}
 use Rattle.engine.proofs.session.Asker.refused.Goals as goal
@@ -9,6 +9,6 @@ pub invariant_of-session : goal.invariant_of-session
 invariant_of-session g c =
     let own = c.self.inside in
     let scale = g.J.LogNames.opening.scale in
-    let rightly = subst (λ (a : Calling). IsRefusal scale (known_of a.before.is_full a.before.pass.reached) a.request c.args.refusal) (sym c.self.view_is) c.requires in
+    let rightly = subst (λ (a : AskerView). IsRefusal scale (known_of a.before.is_full a.before.pass.reached) a.request c.args.refusal) (sym c.self.view_is) c.requires in
     resting_refused scale own.requests.items own.seat own.pass own.answers.items own.is_full own.request c.args.refusal c.self.invariant.before rightly
     c.push_reserved.new.self.items c.push_reserved-2.new.self.items c.push_reserved.ensures.items c.push_reserved-2.ensures.items

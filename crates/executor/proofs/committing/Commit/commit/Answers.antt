@@ -2,18 +2,18 @@ use Rattle.std.proofs.Common.{◌≡◌, subst}
 use Rattle.commit_log.specs.declared.entry.Entry.{Entry}
 use Rattle.commit_log.specs.Items.{entry_of}
 use Rattle.transactions.specs.Logged.{Logs}
-use Rattle.executor.specs.Commits.{committing, entry_committed}
-use Rattle.executor.specs.Transactions.{transacting}
+use Rattle.executor.specs.Commits.{commit_view, entry_committed}
+use Rattle.executor.specs.Transactions.{transaction_view}
 use Rattle.executor.proofs.Logged.{answers, commits, gives}
 use Rattle.executor.proofs.committing.Commit.commit.Goals as goal
 
 pub new-requires : goal.new-requires
 new-requires g c =
     let t = c.self.inside.transaction in
-    let own = committing c.self.inside.keeper (transacting t) c.self.inside.held t.matter.value.reply in
+    let own = commit_view c.self.inside.phase_owner (transaction_view t) c.self.inside.held t.body.value.reply in
     let session : c.session.result ≡ t.pass.session = cc in
-    let request : c.take_request.result ≡ t.matter.value.request = cc in
-    let reply : c.take_reply.result ≡ t.matter.value.reply = cc in
+    let request : c.take_request.result ≡ t.body.value.request = cc in
+    let reply : c.take_reply.result ≡ t.body.value.reply = cc in
     let entry : entry_of c.session.result t.number c.take_request.result c.take_reply.result ≡ entry_committed own =
     λ i. entry_of (session i) t.number (request i) (reply i) in
     gives own c.args.log.now c.log-answer.new.log c.log-answer.result c.log-answer.new.self c.self.invariant.undone

@@ -1,5 +1,5 @@
 use Rattle.std.proofs.Common.{ℕ, decimal, refl, ap, arith}
-use Rattle.files.specs.FieldRead.{Taking}
+use Rattle.files.specs.FieldRead.{FieldsView}
 use Rattle.files.specs.KindsRead.{count_read}
 use Rattle.files.proofs.FieldsRead.{no_kind}
 use Rattle.files.proofs.KindsRead.{field_from, takes_field, count_sound}
@@ -9,7 +9,7 @@ pub returns-clause-field : goal.returns-clause-field
 returns-clause-field c =
     let b = c.bytes.ensures in
     let n = c.or_note.ensures in
-    ap (λ (p : ℕ × Taking). p.1)
+    ap (λ (p : ℕ × FieldsView). p.1)
     (field_from (count_read c.args.count) c.args.count c.args.count c.or_note.result c.args.self.now c.bytes.new.self c.or_note.new.self c.bytes.result.now c.read_count-counted.result
     (no_kind refl) c.read_count-counted.ensures refl b.left b.none b.some n.left n.ok n.err n.stands_in)
 

@@ -1,7 +1,7 @@
 use Rattle.std.proofs.Common.{◌≡◌, ◌∷◌, [], List, ℕ, Option, Some, None, IfSome, refl, sym}
 use Rattle.std.specs.Prelude.{IfNone}
 use Rattle.files.specs.declared.fields.Fields.{Fields}
-use Rattle.files.specs.FieldRead.{Taking, taking, field_read}
+use Rattle.files.specs.FieldRead.{FieldsView, fields_view, field_read}
 use Rattle.files.specs.KindsRead.{moment_read, optional_read}
 use Rattle.files.specs.MomentText.{IsMomentText}
 use Rattle.files.specs.Taken.{TakesWell, fields_left, fault_of}
@@ -17,14 +17,14 @@ returns-clause-field c =
     field_from (optional_read moment_read) None None c.or_note.result c.args.self.now c.bytes.new.self c.or_note.new.self c.bytes.result.now c.read_optional_moment-moment.result
     (Stands refl) c.read_optional_moment-moment.ensures refl b.left b.none b.some n.left n.ok n.err n.stands_in
 
-null : (value : Option ℕ) (f n : Fields) → ◌≡◌ {A = Option ℕ × Taking} (value, taking n) (field_read (optional_read moment_read) None (taking f)) → IfNone value (TakesWell f n [])
+null : (value : Option ℕ) (f n : Fields) → ◌≡◌ {A = Option ℕ × FieldsView} (value, fields_view n) (field_read (optional_read moment_read) None (fields_view f)) → IfNone value (TakesWell f n [])
 null None f n is = takes_field (optional_read moment_read) None None f n [] is (λ text e. sym (optional_is moment_read text None e))
 null (Some v) f n is = tt
 
 pub returns-clause-null : goal.returns-clause-null
 returns-clause-null c = null c.or_note.result c.args.self.now c.or_note.new.self (returns-clause-field c)
 
-some : (value : Option ℕ) (f n : Fields) → ◌≡◌ {A = Option ℕ × Taking} (value, taking n) (field_read (optional_read moment_read) None (taking f))
+some : (value : Option ℕ) (f n : Fields) → ◌≡◌ {A = Option ℕ × FieldsView} (value, fields_view n) (field_read (optional_read moment_read) None (fields_view f))
     → IfSome value (λ seconds. fault_of n ≡ None → (fault_of f ≡ None) × ((text : List ℕ) × IsMomentText text seconds × (fields_left f ≡ text ∷ fields_left n)))
 some None f n is = tt
 some (Some seconds) f n is = λ none.

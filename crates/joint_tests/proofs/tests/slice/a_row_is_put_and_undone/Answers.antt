@@ -6,8 +6,8 @@ use Rattle.tickets.specs.Unset.{no_table, nothing}
 use Rattle.tickets.proofs.OnePlace.{place_inside}
 use Rattle.joint_tests.proofs.tests.slice.a_row_is_put_and_undone.Goals as goal
 
-pub put_and_undone-told-requires-clause-names : goal.put_and_undone-told-requires-clause-names
-put_and_undone-told-requires-clause-names g c = λ group d known.
+pub put_and_undone-recorded-requires-clause-names : goal.put_and_undone-recorded-requires-clause-names
+put_and_undone-recorded-requires-clause-names g c = λ group d known.
     let openings = c.in_ok-openings.openings.items in
     let here : place_of group < length openings = omega (arith, place_inside c.in_ok-tables.tables.scale.warehouses group known, c.in_ok-openings.ensures.all_there) in
     let same = get_or_default openings (place_of group) (opened no_table no_table nothing) d here in

@@ -4,11 +4,11 @@ use Rattle.std.specs.List.{remove}
 use Rattle.std.specs.List.Sorted.{IsPermutation}
 use Rattle.std.proofs.lemmas.List.Sorted.{IsPermutation-remove}
 use Rattle.wait_die.specs.declared.deciding.Holder.{Holder}
-use Rattle.groups.specs.declared.wishes.Mode.{Mode}
-use Rattle.groups.specs.declared.wishes.Mode.TheVariants.{Shared, Exclusive}
-use Rattle.tickets.specs.Boxes.{Boxed}
+use Rattle.groups.specs.declared.group_wants.Mode.{Mode}
+use Rattle.groups.specs.declared.group_wants.Mode.TheVariants.{Shared, Exclusive}
+use Rattle.tickets.specs.Boxes.{TicketBoxView}
 use Rattle.tickets.proofs.Apart.{by_mode}
-use Rattle.local_locks.specs.Locks.{Agree, IsLocked, Locked, locked}
+use Rattle.local_locks.specs.Locks.{Agree, IsLocked, LockView, lock_view}
 use Rattle.local_locks.proofs.lock.Lock.take_back.Goals as goal
 
 -- the place that was found, or the first, is there
@@ -31,7 +31,7 @@ taken_out whole inside shown left index by same showing small is taken =
     subst P (sym taken) (subst Q (sym same) (IsPermutation-remove inside index by here at))
 
 -- while a claim is out somebody holds it
-some_hold : (lock : Locked) (mode : Mode) → IsLocked lock → mode ≡ lock.ticket_box.mode → (mode ≡ Shared → (0 < lock.ticket_box.shared) × (lock.ticket_box.shared ≤ 8)) → 0 < length lock.holders
+some_hold : (lock : LockView) (mode : Mode) → IsLocked lock → mode ≡ lock.ticket_box.mode → (mode ≡ Shared → (0 < lock.ticket_box.shared) × (lock.ticket_box.shared ≤ 8)) → 0 < length lock.holders
 some_hold lock mode agree same some =
     by_mode lock.ticket_box.mode refl
     (λ exclusive.
@@ -40,18 +40,18 @@ some_hold lock mode agree same some =
     (λ shared.
     let many : Agree Shared lock.ticket_box lock.holders = subst (λ m. Agree m lock.ticket_box lock.holders) shared agree in
     let out = some (same ∙ shared) in
-    omega (arith, out.0, ap (λ (b : Boxed). b.shared) many.0))
+    omega (arith, out.0, ap (λ (b : TicketBoxView). b.shared) many.0))
 
 pub remove-requires : goal.remove-requires
 remove-requires g c =
     let holders = c.self.inside.holders.items in
     let shown = c.as_slice.ensures.value in
-    let held = some_hold (locked c.self.inside.ticket_box holders) c.args.claim.mode c.self.invariant c.take_back.ensures.mode c.take_back.ensures.some in
+    let held = some_hold (lock_view c.self.inside.ticket_box holders) c.args.claim.mode c.self.invariant c.take_back.ensures.mode c.take_back.ensures.some in
     let inside = subst (λ (hs : List Holder). IfSome c.index_of.result (λ k. k < length hs)) shown c.index_of.ensures.inside in
     (omega arith, there holders c.index_of.result c.unwrap_or-index.result c.unwrap_or-index.ensures inside held)
 
 pub returns-clause-fewer : goal.returns-clause-fewer
-returns-clause-fewer g c = omega (arith, c.remove.ensures.len, ap (λ (l : Locked). length l.holders) c.self.view_is)
+returns-clause-fewer g c = omega (arith, c.remove.ensures.len, ap (λ (l : LockView). length l.holders) c.self.view_is)
 
 pub returns-clause-holders : goal.returns-clause-holders
 returns-clause-holders g c = λ out.
@@ -59,8 +59,8 @@ returns-clause-holders g c = λ out.
     let by = c.args.claim.by in
     let shown = c.as_slice.ensures.value in
     let is : by ≡ c.by-by.result = sym c.by-by.ensures in
-    let same : c.args.self.now.holders ≡ holders = sym (ap (λ (l : Locked). l.holders) c.self.view_is) in
-    let held = some_hold (locked c.self.inside.ticket_box holders) c.args.claim.mode c.self.invariant c.take_back.ensures.mode c.take_back.ensures.some in
+    let same : c.args.self.now.holders ≡ holders = sym (ap (λ (l : LockView). l.holders) c.self.view_is) in
+    let held = some_hold (lock_view c.self.inside.ticket_box holders) c.args.claim.mode c.self.invariant c.take_back.ensures.mode c.take_back.ensures.some in
     let P : Holder → Type 0 = λ h. IfSome c.index_of.result (λ k. get_or c.as_slice.result.now k h ≡ h) in
     let Q : Holder → Type 0 = λ h. IfNone c.index_of.result (Contains c.as_slice.result.now h → ⊥) in
     let inside = c.index_of.ensures.inside in

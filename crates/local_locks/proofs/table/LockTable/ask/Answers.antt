@@ -7,9 +7,9 @@ use Rattle.local_locks.specs.declared.table.Asked.{Asked}
 use Rattle.local_locks.specs.declared.table.Asked.TheVariants.{Waits}
 use Rattle.local_locks.specs.Asking.{AnswersAtOnce}
 use Rattle.local_locks.specs.Conflicts.{MustDie, MustWait}
-use Rattle.local_locks.specs.Locking.{Locking}
-use Rattle.local_locks.specs.Locks.{IsParked, Parked, parked}
-use Rattle.local_locks.specs.Wishes.{CanAsk}
+use Rattle.local_locks.specs.LockTableView.{LockTableView}
+use Rattle.local_locks.specs.Locks.{IsParked, WaiterView, waiter_view}
+use Rattle.local_locks.specs.GroupWants.{CanAsk}
 use Rattle.local_locks.proofs.Apartness.{few_places}
 use Rattle.local_locks.proofs.Asks as asks
 use Rattle.local_locks.proofs.table.LockTable.ask.Goals as goal
@@ -19,27 +19,27 @@ on_err (Ok x) P p = tt
 on_err (Err e) P p = p
 
 -- who has to wait is told so, and nothing has changed
-told_to_wait : {J : Type 0} (by : Holder) (wants : List Want) (old new : Locking) (answered : Asked J) → answered ≡ Waits → AnswersAtOnce by wants old answered new → MustWait old.holdings by.age wants × (new ≡ old)
-told_to_wait {J} by wants old new answered is answers = subst (λ (a : Asked J). AnswersAtOnce by wants old a new) is answers
+recorded_to_wait : {J : Type 0} (by : Holder) (wants : List Want) (old new : LockTableView) (answered : Asked J) → answered ≡ Waits → AnswersAtOnce by wants old answered new → MustWait old.holdings by.age wants × (new ≡ old)
+recorded_to_wait {J} by wants old new answered is answers = subst (λ (a : Asked J). AnswersAtOnce by wants old a new) is answers
 
 -- so what is asked is asked of this warehouse still
-still_own : (warehouses w_id : ℕ) (old new : Locking) (wants : List Want) → w_id ≡ new.w_id → new ≡ old → CanAsk warehouses old.w_id wants → CanAsk warehouses w_id wants
-still_own warehouses w_id old new wants here same can = subst (λ (w : ℕ). CanAsk warehouses w wants) (sym (here ∙ ap (λ (t : Locking). t.w_id) same)) can
+still_own : (warehouses w_id : ℕ) (old new : LockTableView) (wants : List Want) → w_id ≡ new.w_id → new ≡ old → CanAsk warehouses old.w_id wants → CanAsk warehouses w_id wants
+still_own warehouses w_id old new wants here same can = subst (λ (w : ℕ). CanAsk warehouses w wants) (sym (here ∙ ap (λ (t : LockTableView). t.w_id) same)) can
 
 -- one more stands last
-put_last : (old new : List Parked) (waiter : Parked) (by : Holder) (wants : List Want) (count : ℕ) → new ≡ old ++ waiter ∷ [] → waiter ≡ parked by wants count → new ≡ old ++ parked by wants count ∷ []
-put_last old new waiter by wants count put is = put ∙ ap (λ (w : Parked). old ++ w ∷ []) is
+put_last : (old new : List WaiterView) (waiter : WaiterView) (by : Holder) (wants : List Want) (count : ℕ) → new ≡ old ++ waiter ∷ [] → waiter ≡ waiter_view by wants count → new ≡ old ++ waiter_view by wants count ∷ []
+put_last old new waiter by wants count put is = put ∙ ap (λ (w : WaiterView). old ++ w ∷ []) is
 
 -- and for what has to wait nothing dies
-no_death : {J : Type 0} (by : Holder) (wants : List Want) (old new : Locking) (answered : Asked J) → answered ≡ Waits → AnswersAtOnce by wants old answered new
+no_death : {J : Type 0} (by : Holder) (wants : List Want) (old new : LockTableView) (answered : Asked J) → answered ≡ Waits → AnswersAtOnce by wants old answered new
     → (group : Group) (oldest : ℕ) → MustDie old.holdings by.age wants group oldest → ⊥
 no_death by wants old new answered is answers group oldest death =
-    asks.wait_is_no_death old.holdings by.age wants group oldest (told_to_wait by wants old new answered is answers).0 death
+    asks.wait_is_no_death old.holdings by.age wants group oldest (recorded_to_wait by wants old new answered is answers).0 death
 
 pub count_of-requires-clause-few : goal.count_of-requires-clause-few
 count_of-requires-clause-few g c =
-    let waits = told_to_wait c.args.by c.args.wants.now c.args.self.now c.ask_at_once.new.self c.in_ok-answered.answered c.in-Waits.is c.in_ok-answered.ensures.answers in
-    let can = still_own g.J.GroupNames.warehouses c.self.inside.w_id c.args.self.now c.ask_at_once.new.self c.args.wants.now (ap (λ (t : Locking). t.w_id) c.self.view_is) waits.1 c.requires in
+    let waits = recorded_to_wait c.args.by c.args.wants.now c.args.self.now c.ask_at_once.new.self c.in_ok-answered.answered c.in-Waits.is c.in_ok-answered.ensures.answers in
+    let can = still_own g.J.GroupNames.warehouses c.self.inside.w_id c.args.self.now c.ask_at_once.new.self c.args.wants.now (ap (λ (t : LockTableView). t.w_id) c.self.view_is) waits.1 c.requires in
     few_places g.J.GroupNames.warehouses c.self.inside.w_id c.self.inside.locks.items c.args.wants.now c.self.invariant.0 can.own can.once
 
 pub returns-in_err-waiter-in-Waits-clause-death_takes_none : goal.returns-in_err-waiter-in-Waits-clause-death_takes_none
@@ -52,8 +52,8 @@ returns-in_err-push-in-Waits-clause-death_takes_none g c =
 
 pub invariant_of-self-in-Waits : goal.invariant_of-self-in-Waits
 invariant_of-self-in-Waits g c =
-    let waits = told_to_wait c.args.by c.args.wants.now c.args.self.now c.ask_at_once.new.self c.in_ok-answered.answered c.in-Waits.is c.in_ok-answered.ensures.answers in
-    let can = still_own g.J.GroupNames.warehouses c.self.inside.w_id c.args.self.now c.ask_at_once.new.self c.args.wants.now (ap (λ (t : Locking). t.w_id) c.self.view_is) waits.1 c.requires in
+    let waits = recorded_to_wait c.args.by c.args.wants.now c.args.self.now c.ask_at_once.new.self c.in_ok-answered.answered c.in-Waits.is c.in_ok-answered.ensures.answers in
+    let can = still_own g.J.GroupNames.warehouses c.self.inside.w_id c.args.self.now c.ask_at_once.new.self c.args.wants.now (ap (λ (t : LockTableView). t.w_id) c.self.view_is) waits.1 c.requires in
     let home = asks.home_there g.J.GroupNames.warehouses c.self.inside.w_id c.self.inside.locks.items c.self.invariant.0 in
     let more = asks.parked_more g.J.GroupNames.warehouses c.self.inside.w_id c.self.inside.waiters.items c.args.by c.args.wants.now c.count_of.result c.self.invariant.1 can home c.count_of.ensures in (
       c.self.invariant.0,

@@ -4,16 +4,16 @@ use Rattle.std.specs.List.{flat_map}
 use Rattle.requests.specs.declared.group.Group.{Group}
 use Rattle.groups.specs.declared.wants.Want.{Want}
 use Rattle.local_locks.specs.declared.rulings.Ruling.TheVariants.{Free, Waits, Dies}
-use Rattle.local_locks.specs.Locking.{Locking}
+use Rattle.local_locks.specs.LockTableView.{LockTableView}
 use Rattle.local_locks.specs.Conflicts.{IsFree, MustWait, MustDie}
-use Rattle.local_locks.specs.Wishes.{IsOwn, CanAsk}
-use Rattle.local_locks.specs.Locks.{Locked, Parked, holdings_of, locking, AreLocksOf}
+use Rattle.local_locks.specs.GroupWants.{IsOwn, CanAsk}
+use Rattle.local_locks.specs.Locks.{LockView, WaiterView, holdings_of, locking, AreLocksOf}
 use Rattle.local_locks.specs.Rulings.{IsRuling, spots_of}
 use Rattle.local_locks.proofs.Apartness.{few_places, places_apart}
 use Rattle.local_locks.proofs.Asks as asks
 use Rattle.local_locks.proofs.Asks.{no_lock}
 use Rattle.local_locks.proofs.Grants.{same_length}
-use Rattle.local_locks.proofs.Views.{tells_free, tells_wait, tells_death}
+use Rattle.local_locks.proofs.Views.{records_free, records_wait, records_death}
 use Rattle.local_locks.proofs.table.LockTable.ask_at_once.Goals as goal
 
 on_err : {T E : Type 0} (r : Result T E) (P : Type 0) → P → OnErr r P
@@ -21,32 +21,32 @@ on_err (Ok x) P p = tt
 on_err (Err e) P p = p
 
 -- what is asked is asked of this warehouse
-own_of : (warehouses w_id : ℕ) (table : Locking) (locks : List Locked) (waiters : List Parked) (wants : List Want) → locking w_id locks waiters ≡ table → CanAsk warehouses table.w_id wants → CanAsk warehouses w_id wants
+own_of : (warehouses w_id : ℕ) (table : LockTableView) (locks : List LockView) (waiters : List WaiterView) (wants : List Want) → locking w_id locks waiters ≡ table → CanAsk warehouses table.w_id wants → CanAsk warehouses w_id wants
 own_of warehouses w_id table locks waiters wants view can =
-    subst (λ (w : ℕ). CanAsk warehouses w wants) (sym (ap (λ (t : Locking). t.w_id) view)) can
+    subst (λ (w : ℕ). CanAsk warehouses w wants) (sym (ap (λ (t : LockTableView). t.w_id) view)) can
 
-no_death_free : (warehouses w_id age : ℕ) (table : Locking) (locks shown : List Locked) (waiters : List Parked) (wants : List Want) → locking w_id locks waiters ≡ table → shown ≡ locks → AreLocksOf warehouses w_id locks
+no_death_free : (warehouses w_id age : ℕ) (table : LockTableView) (locks shown : List LockView) (waiters : List WaiterView) (wants : List Want) → locking w_id locks waiters ≡ table → shown ≡ locks → AreLocksOf warehouses w_id locks
     → IsRuling age shown (flat_map spots_of wants) Free → (group : Group) (oldest : ℕ) → MustDie table.holdings age wants group oldest → ⊥
 no_death_free warehouses w_id age table locks shown waiters wants view showing are free group oldest death =
-    let P : List Locked → Type 0 = λ ls. IsRuling age ls (flat_map spots_of wants) Free in
-    let Q : Locking → Type 0 = λ t. IsFree t.holdings wants in
-    asks.free_is_no_death table.holdings age wants group oldest (subst Q view (tells_free warehouses w_id locks wants age are (subst P showing free))) death
+    let P : List LockView → Type 0 = λ ls. IsRuling age ls (flat_map spots_of wants) Free in
+    let Q : LockTableView → Type 0 = λ t. IsFree t.holdings wants in
+    asks.free_is_no_death table.holdings age wants group oldest (subst Q view (records_free warehouses w_id locks wants age are (subst P showing free))) death
 
-waits_of : (warehouses w_id age : ℕ) (table : Locking) (locks shown : List Locked) (waiters : List Parked) (wants : List Want) → locking w_id locks waiters ≡ table → shown ≡ locks → AreLocksOf warehouses w_id locks
+waits_of : (warehouses w_id age : ℕ) (table : LockTableView) (locks shown : List LockView) (waiters : List WaiterView) (wants : List Want) → locking w_id locks waiters ≡ table → shown ≡ locks → AreLocksOf warehouses w_id locks
     → All (IsOwn warehouses w_id) wants → IsRuling age shown (flat_map spots_of wants) Waits → MustWait table.holdings age wants
 waits_of warehouses w_id age table locks shown waiters wants view showing are own waits =
-    let P : List Locked → Type 0 = λ ls. IsRuling age ls (flat_map spots_of wants) Waits in
-    let Q : Locking → Type 0 = λ t. MustWait t.holdings age wants in
-    subst Q view (tells_wait warehouses w_id locks wants age no_lock are own (subst P showing waits))
+    let P : List LockView → Type 0 = λ ls. IsRuling age ls (flat_map spots_of wants) Waits in
+    let Q : LockTableView → Type 0 = λ t. MustWait t.holdings age wants in
+    subst Q view (records_wait warehouses w_id locks wants age no_lock are own (subst P showing waits))
 
-dies_of : (warehouses w_id age : ℕ) (table : Locking) (locks shown : List Locked) (waiters : List Parked) (wants : List Want) (number oldest : ℕ) (lock : Locked) (group : Group) → locking w_id locks waiters ≡ table → shown ≡ locks
+dies_of : (warehouses w_id age : ℕ) (table : LockTableView) (locks shown : List LockView) (waiters : List WaiterView) (wants : List Want) (number oldest : ℕ) (lock : LockView) (group : Group) → locking w_id locks waiters ≡ table → shown ≡ locks
     → AreLocksOf warehouses w_id locks → All (IsOwn warehouses w_id) wants → IsRuling age shown (flat_map spots_of wants) (Dies number oldest) → lock ≡ get_or locks number lock → group ≡ lock.ticket_box.group → MustDie table.holdings age wants group oldest
 dies_of warehouses w_id age table locks shown waiters wants number oldest lock group view showing are own dies is named =
-    let P : List Locked → Type 0 = λ ls. IsRuling age ls (flat_map spots_of wants) (Dies number oldest) in
-    let Q : Locking → Type 0 = λ t. MustDie t.holdings age wants group oldest in
+    let P : List LockView → Type 0 = λ ls. IsRuling age ls (flat_map spots_of wants) (Dies number oldest) in
+    let Q : LockTableView → Type 0 = λ t. MustDie t.holdings age wants group oldest in
     let R : Group → Type 0 = λ own. MustDie (flat_map holdings_of locks) age wants own oldest in
-    let same : (get_or locks number lock).ticket_box.group ≡ group = ap (λ (l : Locked). l.ticket_box.group) (sym is) ∙ sym named in
-    subst Q view (subst R same (tells_death warehouses w_id locks wants age number oldest lock are own (subst P showing dies)).1)
+    let same : (get_or locks number lock).ticket_box.group ≡ group = ap (λ (l : LockView). l.ticket_box.group) (sym is) ∙ sym named in
+    subst Q view (subst R same (records_death warehouses w_id locks wants age number oldest lock are own (subst P showing dies)).1)
 
 pub count_of-requires-clause-few : goal.count_of-requires-clause-few
 count_of-requires-clause-few g c =
@@ -60,7 +60,7 @@ returns-in_err-claims-in-Free-clause-death_takes_none g c =
 
 pub grant_all-requires-clause-open : goal.grant_all-requires-clause-open
 grant_all-requires-clause-open g c =
-    let P : List Locked → Type 0 = λ ls. IsRuling c.args.by.age ls (flat_map spots_of c.args.wants.now) Free in
+    let P : List LockView → Type 0 = λ ls. IsRuling c.args.by.age ls (flat_map spots_of c.args.wants.now) Free in
     asks.all_open c.args.by.age c.deref_mut.result.now (flat_map spots_of c.args.wants.now) (subst P (c.deref.ensures.value ∙ sym c.deref_mut.ensures.value) c.in-Free.ensures)
 
 pub grant_all-requires-clause-once : goal.grant_all-requires-clause-once
@@ -82,11 +82,11 @@ returns-in_ok-claims-in-Free-clause-answers g c =
     let can = own_of g.J.GroupNames.warehouses c.self.inside.w_id c.args.self.now c.self.inside.locks.items c.self.inside.waiters.items c.args.wants.now c.self.view_is c.requires in
     let locks = c.self.inside.locks in
     let long : length c.grant_all.new.locks ≡ length locks.items = same_length g.J.GroupNames.warehouses c.args.by (flat_map spots_of c.args.wants.now) c.deref_mut.result.now c.grant_all.new.locks c.grant_all.ensures.granted ∙ ap length c.deref_mut.ensures.value in
-    let P : List Locked → Type 0 = λ ls. IsRuling c.args.by.age ls (flat_map spots_of c.args.wants.now) Free in (
+    let P : List LockView → Type 0 = λ ls. IsRuling c.args.by.age ls (flat_map spots_of c.args.wants.now) Free in (
       asks.answered_free g.J.GroupNames.warehouses c.self.inside.w_id c.args.by.age c.args.by c.args.wants.now c.args.self.now locks.items c.deref_mut.result.now c.grant_all.new.locks (take locks.len (c.grant_all.new.locks ++ drop (length c.grant_all.new.locks) locks.items))
           c.self.inside.waiters.items c.self.inside.waiters.items c.in_ok-claims-in-Free.claims.items c.grant_all.new.claims.items c.self.view_is c.deref_mut.ensures.value (asks.refilled locks.len locks.items c.grant_all.new.locks locks.ok.0 long)
           c.in_ok-claims-in-Free.ensures.items c.self.invariant.0 can.own (subst P c.deref.ensures.value c.in-Free.ensures) c.grant_all.ensures.claims c.grant_all.ensures.granted,
-      ap (λ (t : Locking). t.waiters) c.self.view_is,
+      ap (λ (t : LockTableView). t.waiters) c.self.view_is,
     )
 
 pub returns-in-Waits-clause-answers : goal.returns-in-Waits-clause-answers

@@ -2,9 +2,9 @@ use Rattle.std.proofs.Common.{rules, ◌≡◌, [], ◌∷◌, List, refl, sym, 
 use Rattle.std.specs.Prelude.{All}
 use Rattle.std.proofs.lemmas.List.{nil_from_length}
 use Rattle.std.proofs.lemmas.List.Elements.{All-head, All-tail}
-use Rattle.tickets.specs.Claims.{Claiming}
+use Rattle.tickets.specs.Claims.{ClaimView}
 use Rattle.local_locks.specs.Asking.{all_kept_after, IsOfHome, IsSettled}
-use Rattle.local_locks.specs.Locking.{Stand}
+use Rattle.local_locks.specs.LockTableView.{Stand}
 use Rattle.local_locks.proofs.Returns.{AreBack, all_back, all_out, none_back, one_back}
 use Rattle.local_locks.proofs.table.LockTable.give_back.Goals as goal
 
@@ -16,12 +16,12 @@ loop-claim-init g c =
     record {
       can_next = tt;
       finite = tt;
-      back = subst (λ (cs : List Claiming). AreBack holdings c.args.claims.items cs holdings) (sym same) (none_back holdings c.args.claims.items);
-      stands = ap (λ (cs : List Claiming). all_kept_after cs c.args.self.now.stands) same;
+      back = subst (λ (cs : List ClaimView). AreBack holdings c.args.claims.items cs holdings) (sym same) (none_back holdings c.args.claims.items);
+      stands = ap (λ (cs : List ClaimView). all_kept_after cs c.args.self.now.stands) same;
       waiters = refl;
       warehouse = refl;
-      home = subst (λ (cs : List Claiming). All home cs) (sym same) c.requires.home;
-      settled = subst (λ (cs : List Claiming). All IsSettled cs) (sym same) c.requires.committed;
+      home = subst (λ (cs : List ClaimView). All home cs) (sym same) c.requires.home;
+      settled = subst (λ (cs : List ClaimView). All IsSettled cs) (sym same) c.requires.committed;
     }
 
 pub take_back-requires : goal.take_back-requires
@@ -30,8 +30,8 @@ take_back-requires g c =
     let listed : c.loop-claim.claim-iterator.rest.items ≡ c.in-Some.claim ∷ rest = search rules in
     let home = IsOfHome c.args.self.now.w_id in
     record {
-      home = All-head home c.in-Some.claim rest (subst (λ (cs : List Claiming). All home cs) listed c.loop-claim.invariant.home) ∙ sym c.loop-claim.invariant.warehouse;
-      committed = All-head IsSettled c.in-Some.claim rest (subst (λ (cs : List Claiming). All IsSettled cs) listed c.loop-claim.invariant.settled);
+      home = All-head home c.in-Some.claim rest (subst (λ (cs : List ClaimView). All home cs) listed c.loop-claim.invariant.home) ∙ sym c.loop-claim.invariant.warehouse;
+      committed = All-head IsSettled c.in-Some.claim rest (subst (λ (cs : List ClaimView). All IsSettled cs) listed c.loop-claim.invariant.settled);
     }
 
 pub loop-claim-preserved : goal.loop-claim-preserved
@@ -46,13 +46,13 @@ loop-claim-preserved g c =
     record {
       can_next = tt;
       finite = tt;
-      back = one_back before.holdings table.holdings later.holdings claim c.args.claims.items rest (subst (λ (cs : List Claiming). AreBack before.holdings c.args.claims.items cs table.holdings) listed c.loop-claim.invariant.back)
+      back = one_back before.holdings table.holdings later.holdings claim c.args.claims.items rest (subst (λ (cs : List ClaimView). AreBack before.holdings c.args.claims.items cs table.holdings) listed c.loop-claim.invariant.back)
           c.take_back.ensures.out c.take_back.ensures.holdings;
-      stands = ap (λ (ss : List Stand). all_kept_after rest ss) c.take_back.ensures.stands ∙ sym (ap (λ (cs : List Claiming). all_kept_after cs table.stands) listed) ∙ c.loop-claim.invariant.stands;
+      stands = ap (λ (ss : List Stand). all_kept_after rest ss) c.take_back.ensures.stands ∙ sym (ap (λ (cs : List ClaimView). all_kept_after cs table.stands) listed) ∙ c.loop-claim.invariant.stands;
       waiters = c.take_back.ensures.waiters ∙ c.loop-claim.invariant.waiters;
       warehouse = c.take_back.ensures.warehouse ∙ c.loop-claim.invariant.warehouse;
-      home = All-tail home claim rest (subst (λ (cs : List Claiming). All home cs) listed c.loop-claim.invariant.home);
-      settled = All-tail IsSettled claim rest (subst (λ (cs : List Claiming). All IsSettled cs) listed c.loop-claim.invariant.settled);
+      home = All-tail home claim rest (subst (λ (cs : List ClaimView). All home cs) listed c.loop-claim.invariant.home);
+      settled = All-tail IsSettled claim rest (subst (λ (cs : List ClaimView). All IsSettled cs) listed c.loop-claim.invariant.settled);
     }
 
 pub returns-clause-out : goal.returns-clause-out
@@ -71,4 +71,4 @@ pub returns-clause-stands : goal.returns-clause-stands
 returns-clause-stands g c =
     let rest = c.loop-claim.claim-iterator.rest.items in
     let none : rest ≡ [] = nil_from_length rest (let long = c.loop-claim.claim-iterator.rest.ok in omega (arith, c.in-None.ensures.steps.0, long)) in
-    sym (ap (λ (cs : List Claiming). all_kept_after cs c.loop-claim.self.stands) none) ∙ c.loop-claim.invariant.stands
+    sym (ap (λ (cs : List ClaimView). all_kept_after cs c.loop-claim.self.stands) none) ∙ c.loop-claim.invariant.stands

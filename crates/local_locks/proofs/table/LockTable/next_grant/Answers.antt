@@ -4,10 +4,10 @@ use Rattle.std.specs.List.{flat_map}
 use Rattle.requests.specs.declared.group.Group.{Group}
 use Rattle.groups.specs.declared.wants.Want.{Want}
 use Rattle.local_locks.specs.declared.rulings.Ruling.TheVariants.{Free}
-use Rattle.local_locks.specs.Locking.{Locking}
+use Rattle.local_locks.specs.LockTableView.{LockTableView}
 use Rattle.local_locks.specs.Conflicts.{MustDie}
 use Rattle.local_locks.specs.Asking.{StillWaits}
-use Rattle.local_locks.specs.Locks.{Locked, Parked, stand_in, waiting_of}
+use Rattle.local_locks.specs.Locks.{LockView, WaiterView, stand_in, waiting_of}
 use Rattle.local_locks.specs.Rulings.{IsRuling, spots_of}
 use Rattle.local_locks.specs.Granting.{AreElsewhere, AreGranted, claim_at}
 use Rattle.local_locks.specs.Turns.{StaysParked}
@@ -19,9 +19,9 @@ use Rattle.local_locks.proofs.table.LockTable.next_grant.Goals as goal
 
 pub returns-in_err-index-clause-none : goal.returns-in_err-index-clause-none
 returns-in_err-index-clause-none g c =
-    let P : List Parked → Type 0 = λ ws. All (StaysParked c.deref.result.now) ws in
-    let Q : List Locked → Type 0 = λ ls. All (StaysParked ls) c.self.inside.waiters.items in
-    let R : Locking → Type 0 = λ t. All (StillWaits t.holdings) t.waiters in
+    let P : List WaiterView → Type 0 = λ ws. All (StaysParked c.deref.result.now) ws in
+    let Q : List LockView → Type 0 = λ ls. All (StaysParked ls) c.self.inside.waiters.items in
+    let R : LockTableView → Type 0 = λ t. All (StillWaits t.holdings) t.waiters in
     let S : Option _ → Type 0 = λ r. IfNone r (All (StillWaits c.args.self.now.holdings) c.args.self.now.waiters) in
     let stay = subst Q c.deref.ensures.value (subst P c.deref-2.ensures.value c.in_err-index.ensures.none) in
     subst S (sym c.from_residual.ensures) (subst R c.self.view_is (taken.all_still_wait g.J.GroupNames.warehouses c.self.inside.w_id c.self.inside.locks.items c.self.inside.waiters.items c.self.invariant.0 c.self.invariant.1 stay))
@@ -31,9 +31,9 @@ grant_all-requires-clause-open g c =
     let next = c.in_ok-index.field-0 in
     let locks = c.self.inside.locks.items in
     let t = taken.taken_from g.J.GroupNames.warehouses c.self.inside.w_id locks c.deref.result.now c.self.inside.waiters.items c.deref-2.result.now c.remove.new.self.items c.remove.result next c.deref.ensures.value c.deref-2.ensures.value c.self.invariant.0 c.self.invariant.1 c.in_ok-index.ensures.next c.remove.ensures.value c.remove.ensures.items in
-    let wants : c.remove.result.wants ≡ c.deref-in-Free.result.now = sym (ap (λ (q : Parked). q.wants) c.wants.view_is) ∙ sym c.deref-in-Free.ensures.value in
+    let wants : c.remove.result.wants ≡ c.deref-in-Free.result.now = sym (ap (λ (q : WaiterView). q.wants) c.wants.view_is) ∙ sym c.deref-in-Free.ensures.value in
     let P : List Want → Type 0 = λ ws. IsRuling next.by.age c.deref_mut.result.now (flat_map spots_of ws) Free in
-    let Q : List Locked → Type 0 = λ ls. IsRuling next.by.age ls (flat_map spots_of c.remove.result.wants) Free in
+    let Q : List LockView → Type 0 = λ ls. IsRuling next.by.age ls (flat_map spots_of c.remove.result.wants) Free in
     asks.all_open next.by.age c.deref_mut.result.now (flat_map spots_of c.deref-in-Free.result.now)
     (subst P wants (subst Q (sym c.deref_mut.ensures.value) (taken.said_taken g.J.GroupNames.warehouses c.self.inside.w_id locks c.self.inside.waiters.items c.remove.new.self.items c.remove.result next Free t c.in-Free.is)))
 
@@ -42,7 +42,7 @@ grant_all-requires-clause-once g c =
     let next = c.in_ok-index.field-0 in
     let locks = c.self.inside.locks.items in
     let t = taken.taken_from g.J.GroupNames.warehouses c.self.inside.w_id locks c.deref.result.now c.self.inside.waiters.items c.deref-2.result.now c.remove.new.self.items c.remove.result next c.deref.ensures.value c.deref-2.ensures.value c.self.invariant.0 c.self.invariant.1 c.in_ok-index.ensures.next c.remove.ensures.value c.remove.ensures.items in
-    let wants : c.remove.result.wants ≡ c.deref-in-Free.result.now = sym (ap (λ (q : Parked). q.wants) c.wants.view_is) ∙ sym c.deref-in-Free.ensures.value in
+    let wants : c.remove.result.wants ≡ c.deref-in-Free.result.now = sym (ap (λ (q : WaiterView). q.wants) c.wants.view_is) ∙ sym c.deref-in-Free.ensures.value in
     let is = taken.parked_taken g.J.GroupNames.warehouses c.self.inside.w_id locks c.self.inside.waiters.items c.remove.new.self.items c.remove.result next t in
     let P : List Want → Type 0 = λ ws. AllPairs AreElsewhere (flat_map spots_of ws) in
     subst P wants (places_apart g.J.GroupNames.warehouses c.self.inside.w_id locks c.remove.result.wants c.self.invariant.0 is.can.own is.can.once)
@@ -52,10 +52,10 @@ grant_all-requires-clause-room g c =
     let next = c.in_ok-index.field-0 in
     let locks = c.self.inside.locks.items in
     let t = taken.taken_from g.J.GroupNames.warehouses c.self.inside.w_id locks c.deref.result.now c.self.inside.waiters.items c.deref-2.result.now c.remove.new.self.items c.remove.result next c.deref.ensures.value c.deref-2.ensures.value c.self.invariant.0 c.self.invariant.1 c.in_ok-index.ensures.next c.remove.ensures.value c.remove.ensures.items in
-    let wants : c.remove.result.wants ≡ c.deref-in-Free.result.now = sym (ap (λ (q : Parked). q.wants) c.wants.view_is) ∙ sym c.deref-in-Free.ensures.value in
+    let wants : c.remove.result.wants ≡ c.deref-in-Free.result.now = sym (ap (λ (q : WaiterView). q.wants) c.wants.view_is) ∙ sym c.deref-in-Free.ensures.value in
     let room = taken.room_taken g.J.GroupNames.warehouses c.self.inside.w_id locks c.self.inside.waiters.items c.remove.new.self.items c.remove.result next t in
     let long : length (flat_map spots_of c.remove.result.wants) ≡ length (flat_map spots_of c.deref-in-Free.result.now) = ap (λ (ws : List Want). length (flat_map spots_of ws)) wants in
-    let capacity = ap (λ (q : Parked). q.room) c.wants.view_is in
+    let capacity = ap (λ (q : WaiterView). q.room) c.wants.view_is in
     let none = ap length c.wants.invariant in
     let count = c.wants.inside.room.ok.0 in
     omega (arith, room, long, capacity, none, count)
@@ -80,7 +80,7 @@ returns-in-Free-clause-turn g c =
     let rest = c.remove.new.self.items in
     let waiters = c.self.inside.waiters.items in
     let t = taken.taken_from g.J.GroupNames.warehouses c.self.inside.w_id locks.items c.deref.result.now waiters c.deref-2.result.now rest p next c.deref.ensures.value c.deref-2.ensures.value c.self.invariant.0 c.self.invariant.1 c.in_ok-index.ensures.next c.remove.ensures.value c.remove.ensures.items in
-    let wants : c.deref-in-Free.result.now ≡ p.wants = c.deref-in-Free.ensures.value ∙ ap (λ (q : Parked). q.wants) c.wants.view_is in
+    let wants : c.deref-in-Free.result.now ≡ p.wants = c.deref-in-Free.ensures.value ∙ ap (λ (q : WaiterView). q.wants) c.wants.view_is in
     let wanted = flat_map spots_of c.deref-in-Free.result.now in
     let back = take locks.len (c.grant_all.new.locks ++ drop (length c.grant_all.new.locks) locks.items) in
     let long : length c.grant_all.new.locks ≡ length locks.items = same_length g.J.GroupNames.warehouses next.by wanted c.deref_mut.result.now c.grant_all.new.locks c.grant_all.ensures.granted ∙ ap length c.deref_mut.ensures.value in
@@ -119,10 +119,10 @@ returns-in-Dies-clause-turn g c =
     let waiters = c.self.inside.waiters.items in
     let t = taken.taken_from g.J.GroupNames.warehouses c.self.inside.w_id locks c.deref.result.now waiters c.deref-2.result.now rest p next c.deref.ensures.value c.deref-2.ensures.value c.self.invariant.0 c.self.invariant.1 c.in_ok-index.ensures.next c.remove.ensures.value c.remove.ensures.items in
     let death = taken.death_taken g.J.GroupNames.warehouses c.self.inside.w_id c.args.self.now locks waiters rest p next c.in-Dies.number c.in-Dies.holder c.index.result.now c.self.view_is t c.in-Dies.is in
-    let same : (get_or locks c.in-Dies.number c.index.result.now).ticket_box.group ≡ c.group.result = ap (λ (l : Locked). l.ticket_box.group) (sym c.index.ensures) ∙ sym c.group.ensures in
+    let same : (get_or locks c.in-Dies.number c.index.result.now).ticket_box.group ≡ c.group.result = ap (λ (l : LockView). l.ticket_box.group) (sym c.index.ensures) ∙ sym c.group.ensures in
     let P : Group → Type 0 = λ group. MustDie c.args.self.now.holdings next.by.age p.wants group c.in-Dies.holder in (
       p.wants,
       taken.turn_taken g.J.GroupNames.warehouses c.self.inside.w_id c.args.self.now locks locks waiters rest p next c.self.view_is t,
       subst P same death.1,
-      ap (λ (u : Locking). record u { waiters = map waiting_of rest }) c.self.view_is,
+      ap (λ (u : LockTableView). record u { waiters = map waiting_of rest }) c.self.view_is,
     )

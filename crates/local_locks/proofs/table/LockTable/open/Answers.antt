@@ -1,12 +1,12 @@
 use Rattle.std.proofs.Common.{rules, ◌≡◌, [], ◌∷◌, List, length, refl, subst, ◌∙◌, sym, arith}
 use Rattle.std.specs.Prelude.{All}
 use Rattle.std.proofs.lemmas.List.Elements.{All-nil, All-tail}
-use Rattle.tickets.specs.Boxes.{Boxed}
-use Rattle.local_locks.specs.Locks.{Locked, Parked, AreLocksOf, IsParked, locking}
+use Rattle.tickets.specs.Boxes.{TicketBoxView}
+use Rattle.local_locks.specs.Locks.{LockView, WaiterView, AreLocksOf, IsParked, locking}
 use Rattle.local_locks.proofs.Opened.{IsIdle, all_opened, one_more, opened_locks, opened_table}
 use Rattle.local_locks.proofs.table.LockTable.open.Goals as goal
 
-none_left : (boxes : List Boxed) → length boxes ≡ 0 → boxes ≡ []
+none_left : (boxes : List TicketBoxView) → length boxes ≡ 0 → boxes ≡ []
 none_left [] none = refl
 none_left (b ∷ boxes) none = absurd (omega (arith, none))
 
@@ -26,8 +26,8 @@ invariant_of-result g c =
     let rest = c.loop-ticket_box.ticket_box-iterator.rest in
     let none : rest.items ≡ [] = none_left rest.items (let long = rest.ok in omega (arith, c.in-None.ensures.steps.0, long)) in
     let all = all_opened c.args.boxes.items rest.items c.loop-ticket_box.locks.items c.loop-ticket_box.invariant.boxes none in
-    let P : List Locked → Type 0 = λ ls. AreLocksOf g.J.GroupNames.warehouses c.args.w_id ls in
-    let Q : List Parked → Type 0 = λ ws. All (IsParked g.J.GroupNames.warehouses c.args.w_id) ws in
+    let P : List LockView → Type 0 = λ ls. AreLocksOf g.J.GroupNames.warehouses c.args.w_id ls in
+    let Q : List WaiterView → Type 0 = λ ws. All (IsParked g.J.GroupNames.warehouses c.args.w_id) ws in
     (subst P (sym all) (opened_locks g.J.GroupNames.warehouses c.args.w_id c.args.boxes.items c.requires), subst Q (sym c.new-2.ensures.items) (All-nil (IsParked g.J.GroupNames.warehouses c.args.w_id)))
 
 pub returns : goal.returns

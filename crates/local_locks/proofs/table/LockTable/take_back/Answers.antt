@@ -3,7 +3,7 @@ use Rattle.std.specs.Prelude.{Contains}
 use Rattle.std.specs.List.{flat_map}
 use Rattle.std.specs.List.Sorted.{IsPermutation}
 use Rattle.local_locks.specs.Asking.{held_by, kept_after, AreTogether}
-use Rattle.local_locks.specs.Locking.{Locking}
+use Rattle.local_locks.specs.LockTableView.{LockTableView}
 use Rattle.local_locks.specs.Locks.{holdings_of}
 use Rattle.local_locks.proofs.Returns.{ComesBack, IsHome, back_held, back_locks, back_out, back_stands, comes_home}
 use Rattle.local_locks.proofs.table.LockTable.take_back.Given as given
@@ -13,7 +13,7 @@ use Rattle.local_locks.proofs.table.LockTable.take_back.Goals.{After-index_mut, 
 -- the lock that was found is that of the claim's group
 home : (g : given.Over) (c : After-index_mut g) → IsHome c.self.inside.locks.items c.args.claim c.place_of_claim-number.result c.index_mut.result.now
 home g c =
-    let own = ap (λ (t : Locking). t.w_id) c.self.view_is in
+    let own = ap (λ (t : LockTableView). t.w_id) c.self.view_is in
     comes_home g.J.GroupNames.warehouses c.self.inside.w_id c.self.inside.locks.items c.args.claim c.place_of_claim-number.result c.index_mut.result.now c.self.invariant.0 c.place_of_claim-number.ensures.known (c.requires.home ∙ sym own)
     c.place_of_claim-number.ensures.place c.index_mut.ensures.value
 
@@ -42,7 +42,7 @@ returns-clause-out g c =
     let is = home g at.After-index_mut in
     let locks = c.self.inside.locks.items in
     let later = flat_map holdings_of (set locks c.place_of_claim-number.result c.take_back.new.self) in
-    subst (λ (t : Locking). AreTogether t.holdings (held_by c.args.claim ∷ []) later) c.self.view_is
+    subst (λ (t : LockTableView). AreTogether t.holdings (held_by c.args.claim ∷ []) later) c.self.view_is
     (back_out locks c.place_of_claim-number.result c.index_mut.result.now c.take_back.new.self c.args.claim is.small c.index_mut.ensures.value (comes_back g at.After-take_back is))
 
 pub returns-clause-holdings : goal.returns-clause-holdings
@@ -51,7 +51,7 @@ returns-clause-holdings g c =
     let is = home g at.After-index_mut in
     let locks = c.self.inside.locks.items in
     let later = flat_map holdings_of (set locks c.place_of_claim-number.result c.take_back.new.self) in
-    subst (λ (t : Locking). Contains t.holdings (held_by c.args.claim) → IsPermutation t.holdings (held_by c.args.claim ∷ later)) c.self.view_is
+    subst (λ (t : LockTableView). Contains t.holdings (held_by c.args.claim) → IsPermutation t.holdings (held_by c.args.claim ∷ later)) c.self.view_is
     (λ out. back_held locks c.place_of_claim-number.result c.index_mut.result.now c.take_back.new.self c.args.claim is.small c.index_mut.ensures.value (comes_back g at.After-take_back is) (is.held out))
 
 pub returns-clause-stands : goal.returns-clause-stands
@@ -59,4 +59,4 @@ returns-clause-stands g c =
     let is = home g (goal.at.returns-clause-stands g c).After-index_mut in
     let locks = c.self.inside.locks.items in
     back_stands g.J.GroupNames.warehouses c.self.inside.w_id locks c.place_of_claim-number.result c.index_mut.result.now c.take_back.new.self c.args.claim c.self.invariant.0 is.small c.index_mut.ensures.value c.take_back.ensures.ticket_box is.group
-    ∙ ap (λ (t : Locking). map (kept_after c.args.claim) t.stands) c.self.view_is
+    ∙ ap (λ (t : LockTableView). map (kept_after c.args.claim) t.stands) c.self.view_is

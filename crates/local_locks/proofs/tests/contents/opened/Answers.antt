@@ -1,5 +1,5 @@
 use Rattle.std.proofs.Common.{ℕ, sym, subst}
-use Rattle.local_locks.specs.Locking.{AreBoxesOf}
+use Rattle.local_locks.specs.LockTableView.{AreBoxesOf}
 use Rattle.local_locks.proofs.Named.{boxes_of_one}
 use Rattle.local_locks.proofs.tests.contents.opened.Goals as goal
 

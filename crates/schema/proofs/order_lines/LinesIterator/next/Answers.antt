@@ -9,7 +9,7 @@ use Rattle.schema.specs.OrderRows.{line_key}
 use Rattle.schema.specs.PackedLines.{all_lines, with_keys}
 use Rattle.schema.proofs.order_lines.LinesIterator.next.Goals as goal
 
--- the first line of an order under way
+-- the first line of an order in flight
 first_line : (order : OrderKey) (lines : List (ℕ × OrderLine)) (later all : List (OrderLineKey × OrderLine)) (a d : ℕ × OrderLine) (key : OrderLineKey) → 1 ≤ length lines
     → key ≡ line_key order (get_or lines 0 a).0 → with_keys order lines ++ later ≡ all
     → all ≡ (key, (get_or lines 0 d).1) ∷ (with_keys order (between 1 (length lines) lines) ++ later)

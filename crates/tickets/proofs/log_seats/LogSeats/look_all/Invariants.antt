@@ -1,6 +1,6 @@
 use Rattle.std.proofs.Common.{◌≡◌}
 use Rattle.std.specs.List.{AllWithin}
-use Rattle.tickets.specs.LogSeats.{IsToldIn}
+use Rattle.tickets.specs.LogSeats.{IsRecordedIn}
 use Rattle.tickets.proofs.log_seats.LogSeats.look_all.Given as goal
 
 -- nothing has changed, and each claim so far is told
@@ -8,5 +8,5 @@ abbrev pub invariant-loop-k : goal.invariant-loop-k
 invariant-loop-k g l = record {
   seats : l.self ≡ l.initial.self;
   claims : l.claims ≡ l.initial.claims;
-  told : AllWithin (IsToldIn l.initial.self) l.initial.claims 0 l.k;
+  recorded : AllWithin (IsRecordedIn l.initial.self) l.initial.claims 0 l.k;
 }

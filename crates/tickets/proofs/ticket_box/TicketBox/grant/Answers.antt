@@ -1,7 +1,7 @@
 use Rattle.std.proofs.Common.{rules, ◌≡◌, ◌-◌, sym, ap, ◌∙◌, arith}
-use Rattle.agreement.specs.Telling.{with_value}
-use Rattle.groups.specs.declared.wishes.Mode.TheVariants.{Shared, Exclusive}
-use Rattle.tickets.specs.Boxes.{boxed}
+use Rattle.agreement.specs.SeatView.{with_value}
+use Rattle.groups.specs.declared.group_wants.Mode.TheVariants.{Shared, Exclusive}
+use Rattle.tickets.specs.Boxes.{ticket_box_view}
 use Rattle.tickets.specs.Seats.{work_seat, untouched}
 use Rattle.tickets.proofs.Boxes.{lend_keeps}
 use Rattle.tickets.proofs.Pairs.{spent_pop}
@@ -66,4 +66,4 @@ invariant_of-self g c =
 pub returns-clause-kept : goal.returns-clause-kept
 returns-clause-kept g c =
     let was = c.self.inside in
-    lend_keeps c.args.by c.args.self.now (boxed was.group Exclusive was.shared c.give-2.new.self.value) _ (search rules) (search rules) (search rules) (search rules)
+    lend_keeps c.args.by c.args.self.now (ticket_box_view was.group Exclusive was.shared c.give-2.new.self.value) _ (search rules) (search rules) (search rules) (search rules)

@@ -1,6 +1,6 @@
 use Rattle.std.proofs.Common.{rules, ◌≡◌, ◌+◌, ◌-◌, vec_len, sym, ap, ◌∙◌, arith}
-use Rattle.groups.specs.declared.wishes.Mode.TheVariants.{Shared}
-use Rattle.tickets.specs.Boxes.{boxed}
+use Rattle.groups.specs.declared.group_wants.Mode.TheVariants.{Shared}
+use Rattle.tickets.specs.Boxes.{ticket_box_view}
 use Rattle.tickets.proofs.Boxes.{share_keeps}
 use Rattle.tickets.proofs.Pairs.{spent_pop}
 use Rattle.tickets.proofs.Holding.{given, reshared, holds_claim, holds_sharing, is_sharing}
@@ -49,4 +49,4 @@ invariant_of-self g c =
 pub returns-clause-kept : goal.returns-clause-kept
 returns-clause-kept g c =
     let was = c.self.inside in
-    share_keeps c.args.by c.args.self.now (boxed was.group was.mode (was.shared + 1) c.give-2.new.self.value) _ (search rules) (search rules) (search rules) (search rules)
+    share_keeps c.args.by c.args.self.now (ticket_box_view was.group was.mode (was.shared + 1) c.give-2.new.self.value) _ (search rules) (search rules) (search rules) (search rules)

@@ -1,11 +1,11 @@
 use Rattle.std.proofs.Common.{◌≡◌, ◌+◌, ◌-◌, vec_len, refl, sym, ap, ◌∙◌, subst, arith}
-use Rattle.groups.specs.declared.wishes.Mode.TheVariants.{Shared, Exclusive}
-use Rattle.agreement.specs.Telling.{with_value}
+use Rattle.groups.specs.declared.group_wants.Mode.TheVariants.{Shared, Exclusive}
+use Rattle.agreement.specs.SeatView.{with_value}
 use Rattle.tickets.specs.Seats.{committed_seat, work_seat, untouched}
 use Rattle.tickets.specs.Claims.{HoldsClaim}
 use Rattle.tickets.specs.Boxes.{AreSpent}
 use Rattle.tickets.proofs.Pairs.{spent_push}
-use Rattle.tickets.proofs.Holding.{given, reshared, holds_sharing, mode_told, is_lent}
+use Rattle.tickets.proofs.Holding.{given, reshared, holds_sharing, mode_recorded, is_lent}
 use Rattle.tickets.proofs.ticket_box.TicketBox.take_exclusive.Goals as goal
 
 pub invariant_of-self : goal.invariant_of-self
@@ -14,9 +14,9 @@ invariant_of-self g c =
     let done = g.J.GroupNames.work c.self.inside.group in
     let group = sym (ap (λ b. b.group) c.self.view_is) in
     let holds = subst (λ group. HoldsClaim (g.J.GroupNames.committed group) (g.J.GroupNames.work group) Exclusive c.args.tickets c.args.work) group c.requires.holds in
-    let told = mode_told _ _ _ _ _ _ _ c.self.invariant.0 in
+    let recorded = mode_recorded _ _ _ _ _ _ _ c.self.invariant.0 in
     let same = ap (λ w. w.mode) (sym c.gather.ensures.equal) in
-    let exclusive : c.self.inside.mode ≡ Exclusive = sym told ∙ same ∙ holds.2 in
+    let exclusive : c.self.inside.mode ≡ Exclusive = sym recorded ∙ same ∙ holds.2 in
     let here = is_lent _ _ _ _ _ _ _ c.self.invariant.0 exclusive in
     let all : 9 ≡ 9 - c.self.inside.shared = omega (arith, here.2.0) in
     let content = c.args.tickets.value.content in

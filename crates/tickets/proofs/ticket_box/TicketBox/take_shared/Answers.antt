@@ -1,9 +1,9 @@
 use Rattle.std.proofs.Common.{◌≡◌, ◌+◌, ◌-◌, ◌≤◌, vec_len, sym, ap, ◌∙◌, subst, arith}
-use Rattle.groups.specs.declared.wishes.Mode.TheVariants.{Shared}
+use Rattle.groups.specs.declared.group_wants.Mode.TheVariants.{Shared}
 use Rattle.tickets.specs.Claims.{HoldsClaim}
 use Rattle.tickets.specs.Boxes.{AreSpent}
 use Rattle.tickets.proofs.Pairs.{spent_push}
-use Rattle.tickets.proofs.Holding.{reshared, holds_sharing, mode_told, is_sharing}
+use Rattle.tickets.proofs.Holding.{reshared, holds_sharing, mode_recorded, is_sharing}
 use Rattle.tickets.proofs.ticket_box.TicketBox.take_shared.Goals as goal
 
 pub invariant_of-self : goal.invariant_of-self
@@ -12,9 +12,9 @@ invariant_of-self g c =
     let done = g.J.GroupNames.work c.self.inside.group in
     let group = sym (ap (λ b. b.group) c.self.view_is) in
     let holds = subst (λ group. HoldsClaim (g.J.GroupNames.committed group) (g.J.GroupNames.work group) Shared c.args.tickets c.args.work) group c.requires in
-    let told = mode_told _ _ _ _ _ _ _ c.self.invariant.0 in
+    let recorded = mode_recorded _ _ _ _ _ _ _ c.self.invariant.0 in
     let same = ap (λ w. w.mode) (sym c.gather.ensures.equal) in
-    let shared : c.self.inside.mode ≡ Shared = sym told ∙ same ∙ ap (λ w. w.mode) holds.2 in
+    let shared : c.self.inside.mode ≡ Shared = sym recorded ∙ same ∙ ap (λ w. w.mode) holds.2 in
     let here = is_sharing _ _ _ _ _ _ _ c.self.invariant.0 shared in
     let some : 1 ≤ c.self.inside.shared =
     omega (arith, here.2, c.gather.ensures.at_most_all, ap (λ t. t.share) here.1, ap (λ t. t.agreement.count) here.1, ap (λ t. t.share) holds.1) in

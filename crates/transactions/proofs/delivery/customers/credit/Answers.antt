@@ -8,7 +8,7 @@ use Rattle.groups.specs.Content.{content}
 use Rattle.groups.specs.Laws.{with_customer}
 use Rattle.groups.proofs.RowsPut.{each_put_changes_one_group}
 use Rattle.tickets.specs.Claims.{leaving}
-use Rattle.slices.specs.Sliced.{Sliced}
+use Rattle.slices.specs.SliceView.{SliceView}
 use Rattle.transactions.specs.declared.delivery.OrderDelivered.{OrderDelivered}
 use Rattle.transactions.specs.Delivery.{IsCredited, IsOutOfRange}
 use Rattle.transactions.proofs.DeliveryDone as done
@@ -18,7 +18,7 @@ pub returns-in_default-customer-clause-credited : goal.returns-in_default-custom
 returns-in_default-customer-clause-credited g c =
     let order = c.in-Some.order in
     let t = c.args.slice.now.tables in
-    let seen = ap (λ (p : Part). p.tables) c.partition.ensures.rows ∙ ap (λ (s : Sliced). s.tables) c.look.ensures.same.0 in
+    let seen = ap (λ (p : Part). p.tables) c.partition.ensures.rows ∙ ap (λ (s : SliceView). s.tables) c.look.ensures.same.0 in
     subst (λ (one : Option OrderDelivered). IsOutOfRange c.args.home one c.look.new.claim) (sym c.in-Some.is)
     (done.customer_is_out t c.args.home order c.args.customers.now c.look.new.claim c.requires.claim c.requires.fresh c.look.ensures.left None c.look.ensures.same.1
     (c.in_default-customer.ensures ∙ ap (λ (s : Database). table.get s.customers (customer_key c.args.home order.c_id)) seen) (λ i. None))
@@ -27,7 +27,7 @@ pub returns-in_default-customer_delivered-clause-credited : goal.returns-in_defa
 returns-in_default-customer_delivered-clause-credited g c =
     let order = c.in-Some.order in
     let t = c.args.slice.now.tables in
-    let seen = ap (λ (p : Part). p.tables) c.partition.ensures.rows ∙ ap (λ (s : Sliced). s.tables) c.look.ensures.same.0 in
+    let seen = ap (λ (p : Part). p.tables) c.partition.ensures.rows ∙ ap (λ (s : SliceView). s.tables) c.look.ensures.same.0 in
     subst (λ (one : Option OrderDelivered). IsOutOfRange c.args.home one c.look.new.claim) (sym c.in-Some.is)
     (done.customer_is_out t c.args.home order c.args.customers.now c.look.new.claim c.requires.claim c.requires.fresh c.look.ensures.left (Some c.in-Some-customer.row.now) c.look.ensures.same.1
     (c.in-Some-customer.ensures ∙ ap (λ (s : Database). table.get s.customers (customer_key c.args.home order.c_id)) seen)
@@ -40,7 +40,7 @@ returns-clause-credited g c =
     let key = customer_key c.args.home order.c_id in
     let row = c.in-Some-customer.row.now in
     let new = c.in-Some-customer_delivered.row in
-    let seen = ap (λ (p : Part). p.tables) c.partition.ensures.rows ∙ ap (λ (s : Sliced). s.tables) c.look.ensures.same.0 in
+    let seen = ap (λ (p : Part). p.tables) c.partition.ensures.rows ∙ ap (λ (s : SliceView). s.tables) c.look.ensures.same.0 in
     subst (λ (one : Option OrderDelivered). IsCredited c.args.home one c.put_customer.new.claim) (sym c.in-Some.is)
     (done.customer_is_credited t c.args.home order c.args.customers.now c.put_customer.new.claim c.requires.claim c.requires.fresh c.look.ensures.left row new
     (c.in-Some-customer.ensures ∙ ap (λ (s : Database). table.get s.customers key) seen)
@@ -51,6 +51,6 @@ returns-clause-credited g c =
 pub returns-clause-elsewhere : goal.returns-clause-elsewhere
 returns-clause-elsewhere g c other apart =
     let key = customer_key c.args.home c.in-Some.order.c_id in
-    ap (λ (s : Sliced). content s.tables other) c.in_ok-put_customer.ensures.rows
+    ap (λ (s : SliceView). content s.tables other) c.in_ok-put_customer.ensures.rows
     ∙ ((each_put_changes_one_group c.look.new.self.tables).customers key c.in-Some-customer_delivered.row).elsewhere other (λ same. apart (same ∙ sym c.requires.claim.group))
-    ∙ ap (λ (s : Sliced). content s.tables other) c.look.ensures.same.0
+    ∙ ap (λ (s : SliceView). content s.tables other) c.look.ensures.same.0

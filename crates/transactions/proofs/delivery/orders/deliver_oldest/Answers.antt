@@ -4,7 +4,7 @@ use Rattle.schema.specs.OrderRows.{oldest_new_order}
 use Rattle.partitions.specs.Parts.{Part}
 use Rattle.groups.specs.Content.{content}
 use Rattle.tickets.specs.Claims.{leaving}
-use Rattle.slices.specs.Sliced.{Sliced}
+use Rattle.slices.specs.SliceView.{SliceView}
 use Rattle.slices.specs.Undo.{with_order_delivered}
 use Rattle.machine.specs.NewOrder.{order_key}
 use Rattle.transactions.specs.Delivery.{IsOldestOrder}
@@ -15,7 +15,7 @@ use Rattle.transactions.proofs.delivery.orders.deliver_oldest.Goals as goal
 pub returns-in_default-clause-delivered : goal.returns-in_default-clause-delivered
 returns-in_default-clause-delivered g c =
     let d = c.args.delivery.now in
-    let seen = ap (λ (p : Part). p.tables) c.partition.ensures.rows ∙ ap (λ (s : Sliced). s.tables) c.look.ensures.same.0 in
+    let seen = ap (λ (p : Part). p.tables) c.partition.ensures.rows ∙ ap (λ (s : SliceView). s.tables) c.look.ensures.same.0 in
     done.none_is_delivered c.args.home c.args.slice.now.tables d.carrier_id d.moment c.args.orders.now c.look.new.claim c.requires.claim c.requires.fresh c.look.ensures.left c.look.ensures.same.1
     (sym (c.oldest_new_order.ensures ∙ ap (λ (t : Database). oldest_new_order t c.args.home) seen) ∙ c.in_default.is)
 
@@ -23,7 +23,7 @@ pub returns-clause-delivered : goal.returns-clause-delivered
 returns-clause-delivered g c =
     let d = c.args.delivery.now in
     let order = c.order_of-order.result in
-    let seen = ap (λ (p : Part). p.tables) c.partition-2.ensures.rows ∙ ap (λ (s : Sliced). s.tables) c.look.ensures.same.0 in
+    let seen = ap (λ (p : Part). p.tables) c.partition-2.ensures.rows ∙ ap (λ (s : SliceView). s.tables) c.look.ensures.same.0 in
     let number = c.order_of-order.ensures.number in
     done.order_is_delivered c.args.home c.args.slice.now.tables d.carrier_id d.moment c.args.orders.now c.deliver_order.new.claim c.requires.claim c.requires.fresh c.look.ensures.left order
     (subst (λ (t : Database). IsOldestOrder t c.args.home order) seen c.order_of-order.ensures.order)
@@ -34,6 +34,6 @@ pub returns-clause-elsewhere : goal.returns-clause-elsewhere
 returns-clause-elsewhere g c other apart =
     let key = order_key c.args.home c.in-Some.o_id in
     let d = c.args.delivery.now in
-    ap (λ (s : Sliced). content s.tables other) c.in_ok-deliver_order.ensures.rows
+    ap (λ (s : SliceView). content s.tables other) c.in_ok-deliver_order.ensures.rows
     ∙ (order_changes key c.new-carrier.result d.moment c.look.new.self.tables).elsewhere other (λ same. apart (same ∙ sym c.requires.claim.group))
-    ∙ ap (λ (s : Sliced). content s.tables other) c.look.ensures.same.0
+    ∙ ap (λ (s : SliceView). content s.tables other) c.look.ensures.same.0

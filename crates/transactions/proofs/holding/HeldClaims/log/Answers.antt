@@ -1,9 +1,9 @@
 use Rattle.std.proofs.Common.{◌≡◌, ◌≤◌, ◌∙◌, ℕ, false, inl, inr, List, Ok, Err, length, map, ap, subst, arith}
 use Rattle.std.proofs.Math.Nat.{lt_of_not-le}
-use Rattle.tickets.specs.Claims.{Claiming}
+use Rattle.tickets.specs.Claims.{ClaimView}
 use Rattle.commit_log.specs.Claimed.{claims_logged}
 use Rattle.commit_log.specs.Items.{item}
-use Rattle.commit_log.specs.Passing.{after_item}
+use Rattle.commit_log.specs.PassView.{after_item}
 use Rattle.transactions.specs.Logged.{logged_at, refused_for}
 use Rattle.transactions.proofs.Granted.{written_back}
 use Rattle.transactions.proofs.holding.HeldClaims.log.Goals as goal
@@ -20,16 +20,16 @@ returns g c =
       | in-Ok w ↦
           let at = w.in-Ok.ensures.place in
           let pass = w.in-Ok.ensures.pass ∙ ap (λ n. after_item c.args.pass (item n entry.number entry.request entry.reply)) at in
-          let told : c.match-append.result ≡ logged_at {J = J} entries entry c.args.pass = w.result-is ∙ (λ i. record { answer = Ok (at i); pass = pass i; is_settled = c.is_settled-is_settled.ensures i }) in
+          let recorded : c.match-append.result ≡ logged_at {J = J} entries entry c.args.pass = w.result-is ∙ (λ i. record { answer = Ok (at i); pass = pass i; is_settled = c.is_settled-is_settled.ensures i }) in
           inl (
             lt_of_not-le w.in-Ok.ensures.full.1,
             subst (λ n. c.args.pass.seen ≤ n) at w.in-Ok.ensures.later,
-            told,
+            recorded,
             w.in-Ok.ensures.entry,
-            back ∙ w.in-Ok.ensures.claims ∙ ap (λ (held : List (List Claiming)). map (claims_logged entry.reply) held) lent,
+            back ∙ w.in-Ok.ensures.claims ∙ ap (λ (held : List (List ClaimView)). map (claims_logged entry.reply) held) lent,
           )
       | in-Err w ↦
-          let told : c.match-append.result ≡ refused_for {J = J} w.in-Err.fault entries c.args.pass =
+          let recorded : c.match-append.result ≡ refused_for {J = J} w.in-Err.fault entries c.args.pass =
           w.result-is ∙ (λ i. record { answer = Err (w.why_refused.ensures i); pass = w.in-Err.ensures.refused i; is_settled = false }) in
-          inr (w.in-Err.fault, w.in-Err.ensures.full, told, w.in-Err.ensures.err.0, back ∙ w.in-Err.ensures.err.1 ∙ lent)
+          inr (w.in-Err.fault, w.in-Err.ensures.full, recorded, w.in-Err.ensures.err.0, back ∙ w.in-Err.ensures.err.1 ∙ lent)
     ]

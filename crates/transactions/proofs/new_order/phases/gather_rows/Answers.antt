@@ -1,9 +1,9 @@
 use Rattle.std.proofs.Common.{◌≡◌, ◌≤◌, ◌∷◌, List, inl, inr, length, refl, ap, ◌∙◌, arith}
-use Rattle.partitions.specs.Parts.{Shared}
+use Rattle.partitions.specs.Parts.{SharedTables}
 use Rattle.requests.specs.declared.group.Group.{Group}
 use Rattle.requests.specs.declared.new_order.NewOrder.{NewOrder}
 use Rattle.groups.specs.NewOrder.{supplies_of}
-use Rattle.tickets.specs.Claims.{Claiming}
+use Rattle.tickets.specs.Claims.{ClaimView}
 use Rattle.transactions.specs.declared.new_order.phases.Progress.TheVariants.{ReadRows}
 use Rattle.transactions.specs.declared.work.Found.{Found}
 use Rattle.transactions.specs.NewOrder.{works_of}
@@ -13,7 +13,7 @@ use Rattle.transactions.proofs.NewOrderSteps.{nobody_follows, rows_done, rows_fo
 use Rattle.transactions.proofs.new_order.phases.gather_rows.Goals as goal
 
 -- an accepted order has a line, and so a group that supplies it
-some_group : (shared : Shared) (order : NewOrder) (found : List Found) (claims : List (List Claiming)) → HaveAllDone shared (works_of (ReadRows order)) found claims
+some_group : (shared : SharedTables) (order : NewOrder) (found : List Found) (claims : List (List ClaimView)) → HaveAllDone shared (works_of (ReadRows order)) found claims
     → (groups : List Group) → groups ≡ supplies_of order.lines → 1 ≤ length groups
 some_group shared order found claims done groups are =
     omega (arith, ap length are, some_supply order.lines (in_scale shared.scale order (rows_done shared order found claims done).accepted).some_line)

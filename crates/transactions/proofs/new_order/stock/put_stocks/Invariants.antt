@@ -2,7 +2,7 @@ use Rattle.std.proofs.Common.{◌≡◌, ◌≢◌, [], ◌∷◌, length}
 use Rattle.requests.specs.declared.group.Group.{Group}
 use Rattle.groups.specs.Content.{content}
 use Rattle.tickets.specs.Claims.{leaving}
-use Rattle.slices.specs.Sliced.{SliceKeeps}
+use Rattle.slices.specs.SliceView.{SliceKeeps}
 use Rattle.transactions.specs.NewOrderStock.{AreOfGroup, puts_done}
 use Rattle.transactions.proofs.new_order.stock.put_stocks.Given as goal
 

@@ -4,11 +4,11 @@ use Rattle.partitions.specs.Parts.{shared_of}
 use Rattle.range_moves.specs.declared.order.Moving.TheVariants as moving
 use Rattle.world.specs.declared.flight.Load.TheVariants.{Move, Work}
 use Rattle.world.specs.declared.flight.Message.{Message}
-use Rattle.world.specs.declared.flight.Posted.{Posted}
-use Rattle.world.specs.declared.flight.Posted.TheVariants as posted
+use Rattle.world.specs.declared.flight.Outgoing.{Outgoing}
+use Rattle.world.specs.declared.flight.Outgoing.TheVariants as outgoing
 use Rattle.world.specs.declared.world.Core.{Core}
 use Rattle.world.specs.Happening.{posting}
-use Rattle.world.specs.Letters.{HasHome, home_of_message, is_at_home, letter}
+use Rattle.world.specs.Envelopes.{HasHome, home_of_message, is_at_home, envelope}
 use Rattle.world.specs.Queues.{queue_of}
 use Rattle.world.proofs.Rounds.{round_first, round_goes, round_stays, some_left}
 use Rattle.world.proofs.Steps.{can_install, can_open, parked_homes}
@@ -29,14 +29,14 @@ loop-init g c =
     let old = c.args.self.now in
     let e = c.args.executor in
     let can = can_open (shared_of g.J.LogNames.opening) e (Move (moving.Parcel c.args.w_id)) old c.requires in
-    let one : List (Posted g.row.J.Denot) = posted.Arrived ∷ [] in
+    let one : List (Outgoing g.row.J.Denot) = outgoing.Arrived ∷ [] in
     let queue : queue_of e c.put.new.self ≡ queue_of e old.outboxes ++ one =
-    ap (λ (qs : List (List (Posted g.row.J.Denot))). queue_of e qs) c.put.ensures ∙ get_or-set_same old.outboxes e (queue_of e old.outboxes ++ one) [] can.there in
+    ap (λ (qs : List (List (Outgoing g.row.J.Denot))). queue_of e qs) c.put.ensures ∙ get_or-set_same old.outboxes e (queue_of e old.outboxes ++ one) [] can.there in
     record {
-      there = omega (arith, can.there, ap (λ (qs : List (List (Posted g.row.J.Denot))). length qs) c.put.ensures, length-set old.outboxes e (queue_of e old.outboxes ++ one));
-      room = omega (arith, can.room, can.parked, ap (λ (q : List (Posted g.row.J.Denot)). length q) queue, length-append (queue_of e old.outboxes) one);
+      there = omega (arith, can.there, ap (λ (qs : List (List (Outgoing g.row.J.Denot))). length qs) c.put.ensures, length-set old.outboxes e (queue_of e old.outboxes ++ one));
+      room = omega (arith, can.room, can.parked, ap (λ (q : List (Outgoing g.row.J.Denot)). length q) queue, length-append (queue_of e old.outboxes) one);
       few = omega arith;
-      round = ([], (old.parked, (refl, (refl, λ k. record old { houses = c.install.ensures k; parked = sym (append-nil old.parked) k; outboxes = c.put.ensures k }))));
+      round = ([], (old.parked, (refl, (refl, λ k. record old { placements = c.install.ensures k; parked = sym (append-nil old.parked) k; outboxes = c.put.ensures k }))));
     }
 
 pub unreachable-requires : goal.unreachable-requires
@@ -74,14 +74,14 @@ loop-preserved g c =
     let below : c.loop.counter < length old.parked = omega (arith, c.loop-test.true, c.len-end.ensures) in
     elim c.if-home_of_message-w_id.branch [
       | then-home_of_message-w_id w ↦
-          let one : List (Posted g.row.J.Denot) = posted.Letter (letter e (Work m)) ∷ [] in
+          let one : List (Outgoing g.row.J.Denot) = outgoing.Envelope (envelope e (Work m)) ∷ [] in
           let home : is_at_home w_id m ≡ true = eq-eqb (home_of_message m) w_id (sym c.home_of_message.ensures ∙ w.if-home_of_message-w_id.true) in
           let new_is : new ≡ posting e one (record now { parked = rest }) = w.self-is ∙ (λ k. record now { parked = rest; outboxes = w.put-then-home_of_message-w_id.ensures k }) in
           let queue : queue_of e new.outboxes ≡ queue_of e now.outboxes ++ one =
           ap (λ (v : Core g.row.J.Denot). queue_of e v.outboxes) new_is ∙ get_or-set_same now.outboxes e (queue_of e now.outboxes ++ one) [] inv.there in
           record {
             there = omega (arith, inv.there, ap (λ (v : Core g.row.J.Denot). length v.outboxes) new_is, length-set now.outboxes e (queue_of e now.outboxes ++ one));
-            room = omega (arith, inv.room, below, ap (λ (q : List (Posted g.row.J.Denot)). length q) queue, length-append (queue_of e now.outboxes) one);
+            room = omega (arith, inv.room, below, ap (λ (q : List (Outgoing g.row.J.Denot)). length q) queue, length-append (queue_of e now.outboxes) one);
             few = omega (arith, inv.few, fewer, ap (λ (v : Core g.row.J.Denot). length v.parked) new_is);
             round = round_goes e w_id c.loop.counter old now new m rest inv.round can.there below first home new_is;
           }

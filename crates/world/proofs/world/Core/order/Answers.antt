@@ -10,13 +10,13 @@ use Rattle.world.proofs.world.Core.order.Given as given
 use Rattle.world.proofs.world.Core.order.Goals.{After-put}
 
 -- it could be ordered, and is
-ordered : (g : given.Over) (c : After-put g) → GoesOnWith (shared_of g.J.LogNames.opening) c.args.self.now (Order c.args.order.now) Ordered (record c.args.self.now { houses = c.order.new.self; inboxes = c.put.new.self })
+ordered : (g : given.Over) (c : After-put g) → GoesOnWith (shared_of g.J.LogNames.opening) c.args.self.now (Order c.args.order.now) Ordered (record c.args.self.now { placements = c.order.new.self; inboxes = c.put.new.self })
 ordered g c =
     let old = c.args.self.now in
     let order = c.args.order.now in
     let can = c.can_order.ensures.0 c.if-not-can_order.false in
     let can_order : CanOrder order old = record { none = can.0; within = can.1; room = omega (arith, c.waiting.ensures, c.if-waiting-ge-INBOX.false) } in
-    orders (shared_of g.J.LogNames.opening) old c.requires.sound order _ can_order (λ k. record old { houses = c.order.ensures k; inboxes = c.put.ensures k })
+    orders (shared_of g.J.LogNames.opening) old c.requires.sound order _ can_order (λ k. record old { placements = c.order.ensures k; inboxes = c.put.ensures k })
 
 pub returns-then-not-can_order-clause-advances : goal.returns-then-not-can_order-clause-advances
 returns-then-not-can_order-clause-advances g c = (stays_quiet (shared_of g.J.LogNames.opening) c.args.self.now c.requires.sound (Order c.args.order.now) Nothing tt).1

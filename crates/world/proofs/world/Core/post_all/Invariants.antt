@@ -1,6 +1,6 @@
 use Rattle.std.proofs.Common.{◌≡◌, ◌≤◌, ◌<◌, ◌+◌, All, length}
 use Rattle.world.specs.Happening.{bringing}
-use Rattle.world.specs.Letters.{HasHomeIn}
+use Rattle.world.specs.Envelopes.{HasHomeIn}
 use Rattle.world.specs.Queues.{queue_of}
 use Rattle.world.proofs.world.Core.post_all.Given as goal
 

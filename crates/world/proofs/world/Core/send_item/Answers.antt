@@ -1,11 +1,11 @@
 use Rattle.std.proofs.Common.{arith}
 use Rattle.partitions.specs.Parts.{shared_of}
-use Rattle.world.specs.declared.flight.Posted.TheVariants as posted
+use Rattle.world.specs.declared.flight.Outgoing.TheVariants as outgoing
 use Rattle.world.proofs.Steps.{can_post, can_post_item, can_send_item}
 use Rattle.world.proofs.world.Core.send_item.Goals as goal
 
 pub send_item-answer-requires-clause-no_push : goal.send_item-answer-requires-clause-no_push
-send_item-answer-requires-clause-no_push g c = (can_post (shared_of g.J.LogNames.opening) c.args.executor (posted.Item c.args.item) c.args.self.now c.requires.sending).1
+send_item-answer-requires-clause-no_push g c = (can_post (shared_of g.J.LogNames.opening) c.args.executor (outgoing.Item c.args.item) c.args.self.now c.requires.sending).1
 
 pub send_item-answer-requires-clause-can : goal.send_item-answer-requires-clause-can
 send_item-answer-requires-clause-can g c = can_send_item g.J.LogNames.opening c.args.executor c.args.item c.args.self.now c.requires.sending
@@ -16,7 +16,7 @@ post_all-requires-clause-homes g c =
 
 pub post_all-requires-clause-room : goal.post_all-requires-clause-room
 post_all-requires-clause-room g c =
-    let can = can_post (shared_of g.J.LogNames.opening) c.args.executor (posted.Item c.args.item) c.args.self.now c.requires.sending in
+    let can = can_post (shared_of g.J.LogNames.opening) c.args.executor (outgoing.Item c.args.item) c.args.self.now c.requires.sending in
     let more = can_post_item (shared_of g.J.LogNames.opening) c.args.executor c.args.item c.args.self.now c.requires.sending c.send_item-answer.result c.send_item-answer.new.self c.send_item-answer.ensures.sends in
     omega (arith, can.0.room, more.1)
 

@@ -1,7 +1,7 @@
 use Rattle.std.proofs.Common.{◌≡◌, true, nat_lt, ltb-true, length, arith, ap, subst, ◌∙◌}
 use Rattle.std.specs.Prelude.{slice_get}
 use Rattle.partitions.specs.Parts.{shared_of}
-use Rattle.range_moves.specs.Housing.{route_of}
+use Rattle.range_moves.specs.Placements.{route_of}
 use Rattle.world.specs.Happening.{SubmitsAt, begins_at, beginning_at, has_room}
 use Rattle.world.specs.Queues.{queue_of}
 use Rattle.world.proofs.Executing.{GoesOnWith}
@@ -41,7 +41,7 @@ returns-clause-happens g c =
     let old = c.args.self.now in
     let parts = c.submit-answer.new.self in
     let answer = c.submit-answer.result in
-    let to_is : c.route-to.result ≡ begins_at c.args.request.now old = c.route-to.ensures.executor ∙ ap (route_of old.houses) c.home_of_request.ensures in
+    let to_is : c.route-to.result ≡ begins_at c.args.request.now old = c.route-to.ensures.executor ∙ ap (route_of old.placements) c.home_of_request.ensures in
     let room_is : nat_lt c.waiting-has_room.result 1024 ≡ has_room (begins_at c.args.request.now old) old =
     ap (λ n. nat_lt n 1024) (c.waiting-has_room.ensures ∙ ap (λ t. length (queue_of t old.inboxes)) to_is) in (
       parts,

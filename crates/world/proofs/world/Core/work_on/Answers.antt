@@ -1,5 +1,5 @@
 use Rattle.std.proofs.Common.{ap, arith, length, subst, sym, List}
-use Rattle.partitions.specs.Parts.{Shared, shared_of}
+use Rattle.partitions.specs.Parts.{SharedTables, shared_of}
 use Rattle.world.specs.declared.flight.Item.{Item}
 use Rattle.world.specs.declared.flight.Load.TheVariants.{Work}
 use Rattle.world.specs.Events.{CanWork}
@@ -14,7 +14,7 @@ work-requires-clause-room g c =
 pub work-requires-clause-can : goal.work-requires-clause-can
 work-requires-clause-can g c =
     let can = can_open (shared_of g.J.LogNames.opening) c.args.executor (Work c.args.message) c.args.self.now c.requires.opening in
-    subst (λ (s : Shared). CanWork s c.args.message) (sym can.catalog) (can_take (shared_of g.J.LogNames.opening) c.args.executor c.args.message c.args.self.now c.requires.opening).0
+    subst (λ (s : SharedTables). CanWork s c.args.message) (sym can.catalog) (can_take (shared_of g.J.LogNames.opening) c.args.executor c.args.message c.args.self.now c.requires.opening).0
 
 pub post_all-requires-clause-homes : goal.post_all-requires-clause-homes
 post_all-requires-clause-homes g c = (can_post_work c.requires.once (shared_of g.J.LogNames.opening) c.args.executor c.args.message c.args.self.now c.requires.opening c.work.new.self c.work.ensures.takes).0

@@ -25,6 +25,6 @@ returns g c =
       logs = subst
           (λ n. Logs {J = g.row.J.Denot} (record { session = n; number = t.number; request = t.request; reply = c.args.commit.reply }) t.pass c.args.self.now.log t.held now.result now.new.log now.new.self)
           c.session.ensures now.ensures;
-      answered = c.told_of.ensures;
+      answered = c.recorded_of.ensures;
       over = c.release.ensures;
     }

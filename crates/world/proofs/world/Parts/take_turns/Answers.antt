@@ -1,11 +1,11 @@
 use Rattle.std.proofs.Common.{◌-◌, ◌≤◌, List, [], ◌∷◌, ◌++◌, refl, sym, ap, subst, ◌∙◌, arith}
 use Rattle.std.specs.Prelude.{All}
-use Rattle.transactions.specs.Stations.{OneTurn, Stationed}
+use Rattle.transactions.specs.Shards.{OneTurn, ShardView}
 use Rattle.world.specs.declared.flight.Carried.{Carried}
 use Rattle.world.specs.declared.world.Parts.{Parts}
 use Rattle.world.specs.Events.{TakesTurn, report_of}
-use Rattle.world.specs.Stations.{IsStationOf}
-use Rattle.world.proofs.Placed.{found_there, place_within, placed, stations_set}
+use Rattle.world.specs.Shards.{IsShardOf}
+use Rattle.world.proofs.Placed.{found_there, place_within, placed, shards_set}
 use Rattle.world.proofs.Turning.{all_turned, one_turn_more, set_again, turn_catalog, turn_room, turn_slices, turn_smaller}
 use Rattle.world.proofs.world.Parts.take_turns.Given as given
 use Rattle.world.proofs.world.Parts.take_turns.Goals as goal
@@ -38,8 +38,8 @@ loop-turned-preserved g c =
       home = refl;
       catalog = turn_catalog before after c.loop-turned.invariant.slices c.args.home c.in-Some.turned one ∙ c.loop-turned.invariant.catalog;
       slices = turn_slices before after c.loop-turned.invariant.slices c.args.home c.in-Some.turned one;
-      stations = subst (λ (w : Parts g.row.J.Denot). All (IsStationOf g.J.GroupNames.warehouses) w.stations.items) (sym c.put_report.ensures)
-          (stations_set g.J.GroupNames.warehouses before.stations.items (c.args.home - 1) c.turn.new.self c.index.result.now below c.loop-turned.invariant.stations c.index.ensures c.slice.ensures.station);
+      shards = subst (λ (w : Parts g.row.J.Denot). All (IsShardOf g.J.GroupNames.warehouses) w.shards.items) (sym c.put_report.ensures)
+          (shards_set g.J.GroupNames.warehouses before.shards.items (c.args.home - 1) c.turn.new.self c.index.result.now below c.loop-turned.invariant.shards c.index.ensures c.slice.ensures.shard);
       room = turn_room before after c.loop-turned.invariant.slices c.args.home c.in-Some.turned one below c.loop-turned.invariant.room;
       follow = (
         c.loop-turned.invariant.follow.0 ++ c.in-Some.turned ∷ [],
@@ -56,12 +56,12 @@ returns-clause-turns g c =
     all_turned c.args.home c.args.self.now mid c.loop-turned.invariant.follow.0 c.loop-turned.invariant.follow.1 c.index_mut.result.now c.turn.new.self there c.in_default.ensures.same c.in_default.ensures.none
     (place_within mid are c.args.home c.requires.home up) _ refl
 
-pub returns-clause-stations : goal.returns-clause-stations
-returns-clause-stations g c =
-    let up = last g (goal.at.returns-clause-stations g c).After-index_mut in
+pub returns-clause-shards : goal.returns-clause-shards
+returns-clause-shards g c =
+    let up = last g (goal.at.returns-clause-shards g c).After-index_mut in
     let mid = c.loop-turned.self in
     let are = c.loop-turned.invariant.slices in
     let there = found_there mid are c.args.home c.requires.home up c.index_mut.result.now c.index_mut.ensures.value in
     let same = set_again c.args.home c.args.self.now mid c.loop-turned.invariant.follow.0 c.loop-turned.invariant.follow.1 c.index_mut.result.now c.turn.new.self there c.in_default.ensures.same c.in_default.ensures.none
     (place_within mid are c.args.home c.requires.home up) in
-    subst (λ (l : List (Stationed (Carried g.row.J.Denot))). All (IsStationOf g.J.GroupNames.warehouses) l) (sym same) c.loop-turned.invariant.stations
+    subst (λ (l : List (ShardView (Carried g.row.J.Denot))). All (IsShardOf g.J.GroupNames.warehouses) l) (sym same) c.loop-turned.invariant.shards

@@ -1,16 +1,16 @@
 use Rattle.std.proofs.Common.{◌≡◌, ◌≤◌, ◌-◌, [], ◌∷◌, sym, subst, ap, refl, arith}
 use Rattle.std.specs.Prelude.{All}
 use Rattle.std.specs.Vec.{with_item}
-use Rattle.slices.specs.Sliced.{IsClaimAt, SliceKeeps}
+use Rattle.slices.specs.SliceView.{IsClaimAt, SliceKeeps}
 use Rattle.transactions.specs.Works.{CanDo}
 use Rattle.transactions.specs.Acting.{CanAllBeSettled, CanAllBeUndone}
 use Rattle.transactions.proofs.ClaimHomes.{home_is, some_claims}
 use Rattle.world.specs.declared.flight.Item.TheVariants as item
 use Rattle.world.specs.declared.flight.Message.{Message}
 use Rattle.world.specs.Events.{AllTurns, CanWork, TakesMessage}
-use Rattle.world.specs.Stations.{HasRoomFor}
+use Rattle.world.specs.Shards.{HasRoomFor}
 use Rattle.world.proofs.Parted.{claims_at_home, work_within}
-use Rattle.world.proofs.Placed.{home_there, place_within, placed_with, stations_set}
+use Rattle.world.proofs.Placed.{home_there, place_within, placed_with, shards_set}
 use Rattle.world.proofs.Turning.{asks_catalog, asks_room, asks_slices, gives_room, gives_slices, gives_turns}
 use Rattle.world.proofs.world.Parts.work.Given as given
 use Rattle.world.proofs.world.Parts.work.Goals as goal
@@ -18,29 +18,29 @@ use Rattle.world.proofs.world.Parts.work.Goals.{After-ask}
 
 -- ---- an action
 
-can_do : (g : given.Over) (c : After-ask g) → CanDo c.args.self.now.catalog c.in-Errand.errand.work
-can_do g c = subst (λ (m : Message g.row.J.Denot). CanWork c.args.self.now.catalog m) c.in-Errand.is c.requires.can
+can_do : (g : given.Over) (c : After-ask g) → CanDo c.args.self.now.catalog c.in-Act.act.work
+can_do g c = subst (λ (m : Message g.row.J.Denot). CanWork c.args.self.now.catalog m) c.in-Act.is c.requires.can
 
 within : (g : given.Over) (c : After-ask g) → (1 ≤ c.home-home.result) × (c.home-home.result ≤ c.args.self.now.catalog.scale.warehouses)
-within g c = work_within c.args.self.now.catalog c.in-Errand.errand.work c.home-home.result c.home-home.ensures (can_do g c)
+within g c = work_within c.args.self.now.catalog c.in-Act.act.work c.home-home.result c.home-home.ensures (can_do g c)
 
 pub take_turns-requires-clause-home : goal.take_turns-requires-clause-home
 take_turns-requires-clause-home g c = (within g (goal.at.take_turns-requires-clause-home g c).After-ask).0
 
 pub take_turns-requires-clause-warehouses : goal.take_turns-requires-clause-warehouses
 take_turns-requires-clause-warehouses g c =
-    omega (arith, (within g (goal.at.take_turns-requires-clause-warehouses g c).After-ask).1, ap (λ s. s.scale.warehouses) (asks_catalog c.args.self.now c.ask.new.self c.requires.slices c.in-Errand.errand c.ask.ensures.asks))
+    omega (arith, (within g (goal.at.take_turns-requires-clause-warehouses g c).After-ask).1, ap (λ s. s.scale.warehouses) (asks_catalog c.args.self.now c.ask.new.self c.requires.slices c.in-Act.act c.ask.ensures.asks))
 
 pub take_turns-requires-clause-slices : goal.take_turns-requires-clause-slices
-take_turns-requires-clause-slices g c = asks_slices c.args.self.now c.ask.new.self c.requires.slices c.in-Errand.errand c.ask.ensures.asks
+take_turns-requires-clause-slices g c = asks_slices c.args.self.now c.ask.new.self c.requires.slices c.in-Act.act c.ask.ensures.asks
 
 pub take_turns-requires-clause-room : goal.take_turns-requires-clause-room
 take_turns-requires-clause-room g c =
-    subst (λ n. HasRoomFor n c.ask.new.self) (sym c.home-home.ensures) (asks_room c.args.self.now c.ask.new.self c.requires.slices c.in-Errand.errand c.ask.ensures.asks c.requires.room)
+    subst (λ n. HasRoomFor n c.ask.new.self) (sym c.home-home.ensures) (asks_room c.args.self.now c.ask.new.self c.requires.slices c.in-Act.act c.ask.ensures.asks c.requires.room)
 
-pub returns-in-Errand-clause-takes : goal.returns-in-Errand-clause-takes
-returns-in-Errand-clause-takes g c =
-    subst (λ (m : Message g.row.J.Denot). TakesMessage m c.args.self.now c.take_turns.new.self) (sym c.in-Errand.is)
+pub returns-in-Act-clause-takes : goal.returns-in-Act-clause-takes
+returns-in-Act-clause-takes g c =
+    subst (λ (m : Message g.row.J.Denot). TakesMessage m c.args.self.now c.take_turns.new.self) (sym c.in-Act.is)
     (c.ask.new.self, (c.ask.ensures.asks, subst (λ n. AllTurns n c.ask.new.self c.take_turns.new.self) c.home-home.ensures c.take_turns.ensures.turns))
 
 -- ---- claims that are settled
@@ -62,16 +62,16 @@ take_turns-requires-in-Settle-clause-slices g c =
     let can : CanAllBeSettled claims = subst (λ (m : Message g.row.J.Denot). CanWork old.catalog m) c.in-Settle.is c.requires.can in
     let last : home ≤ old.catalog.scale.warehouses = subst (λ n. home ≤ n) c.requires.warehouses c.home-home-in-Settle.ensures.known.1 in
     gives_slices old _ c.requires.slices home c.in-Settle.slot claims
-    (placed_with old c.requires.slices home c.home-home-in-Settle.ensures.known.0 last c.index_mut.result.now c.index_mut.ensures.value home refl c.settle.new.self (with_item old.stations (home - 1) c.settle.new.self) (item.Ended c.in-Settle.slot ∷ []) c.put.new.self
+    (placed_with old c.requires.slices home c.home-home-in-Settle.ensures.known.0 last c.index_mut.result.now c.index_mut.ensures.value home refl c.settle.new.self (with_item old.shards (home - 1) c.settle.new.self) (item.Ended c.in-Settle.slot ∷ []) c.put.new.self
     (λ was now. SliceKeeps claims was.slice [] now.slice × (now.parked ≡ was.parked)) refl c.put.ensures (c.settle.ensures.kept, c.settle.ensures.parked))
     (claims_at_home claims home c.home-home-in-Settle.ensures.home can.1)
 
-pub take_turns-requires-in-Settle-clause-stations : goal.take_turns-requires-in-Settle-clause-stations
-take_turns-requires-in-Settle-clause-stations g c =
+pub take_turns-requires-in-Settle-clause-shards : goal.take_turns-requires-in-Settle-clause-shards
+take_turns-requires-in-Settle-clause-shards g c =
     let old = c.args.self.now in
     let home = c.home-home-in-Settle.result in
     let last : home ≤ old.catalog.scale.warehouses = subst (λ n. home ≤ n) c.requires.warehouses c.home-home-in-Settle.ensures.known.1 in
-    stations_set g.J.GroupNames.warehouses old.stations.items (home - 1) c.settle.new.self c.index.result.now (place_within old c.requires.slices home c.home-home-in-Settle.ensures.known.0 last) c.requires.stations c.index.ensures c.slice.ensures.station
+    shards_set g.J.GroupNames.warehouses old.shards.items (home - 1) c.settle.new.self c.index.result.now (place_within old c.requires.slices home c.home-home-in-Settle.ensures.known.0 last) c.requires.shards c.index.ensures c.slice.ensures.shard
 
 pub take_turns-requires-in-Settle-clause-room : goal.take_turns-requires-in-Settle-clause-room
 take_turns-requires-in-Settle-clause-room g c =
@@ -80,7 +80,7 @@ take_turns-requires-in-Settle-clause-room g c =
     let claims = c.in-Settle.claims in
     let last : home ≤ old.catalog.scale.warehouses = subst (λ n. home ≤ n) c.requires.warehouses c.home-home-in-Settle.ensures.known.1 in
     gives_room old _ c.requires.slices home c.in-Settle.slot claims
-    (placed_with old c.requires.slices home c.home-home-in-Settle.ensures.known.0 last c.index_mut.result.now c.index_mut.ensures.value home refl c.settle.new.self (with_item old.stations (home - 1) c.settle.new.self) (item.Ended c.in-Settle.slot ∷ []) c.put.new.self
+    (placed_with old c.requires.slices home c.home-home-in-Settle.ensures.known.0 last c.index_mut.result.now c.index_mut.ensures.value home refl c.settle.new.self (with_item old.shards (home - 1) c.settle.new.self) (item.Ended c.in-Settle.slot ∷ []) c.put.new.self
     (λ was now. SliceKeeps claims was.slice [] now.slice × (now.parked ≡ was.parked)) refl c.put.ensures (c.settle.ensures.kept, c.settle.ensures.parked))
     c.requires.room
 
@@ -93,7 +93,7 @@ returns-in-Settle-clause-takes g c =
     let last : home ≤ old.catalog.scale.warehouses = subst (λ n. home ≤ n) c.requires.warehouses c.home-home-in-Settle.ensures.known.1 in
     subst (λ (m : Message g.row.J.Denot). TakesMessage m old c.take_turns-in-Settle.new.self) (sym c.in-Settle.is)
     (gives_turns home c.in-Settle.slot claims old _ c.take_turns-in-Settle.new.self (home_is claims home (some_claims claims can.1) c.home-home-in-Settle.ensures.home)
-    (placed_with old c.requires.slices home c.home-home-in-Settle.ensures.known.0 last c.index_mut.result.now c.index_mut.ensures.value home refl c.settle.new.self (with_item old.stations (home - 1) c.settle.new.self) (item.Ended c.in-Settle.slot ∷ []) c.put.new.self
+    (placed_with old c.requires.slices home c.home-home-in-Settle.ensures.known.0 last c.index_mut.result.now c.index_mut.ensures.value home refl c.settle.new.self (with_item old.shards (home - 1) c.settle.new.self) (item.Ended c.in-Settle.slot ∷ []) c.put.new.self
     (λ was now. SliceKeeps claims was.slice [] now.slice × (now.parked ≡ was.parked)) refl c.put.ensures (c.settle.ensures.kept, c.settle.ensures.parked))
     c.take_turns-in-Settle.ensures.turns)
 
@@ -116,16 +116,16 @@ take_turns-requires-in-Undo-clause-slices g c =
     let can : CanAllBeUndone claims = subst (λ (m : Message g.row.J.Denot). CanWork old.catalog m) c.in-Undo.is c.requires.can in
     let last : home ≤ old.catalog.scale.warehouses = subst (λ n. home ≤ n) c.requires.warehouses c.home-home-in-Undo.ensures.known.1 in
     gives_slices old _ c.requires.slices home c.in-Undo.slot claims
-    (placed_with old c.requires.slices home c.home-home-in-Undo.ensures.known.0 last c.index_mut-in-Undo.result.now c.index_mut-in-Undo.ensures.value home refl c.undo.new.self (with_item old.stations (home - 1) c.undo.new.self) (item.Ended c.in-Undo.slot ∷ []) c.put-in-Undo.new.self
+    (placed_with old c.requires.slices home c.home-home-in-Undo.ensures.known.0 last c.index_mut-in-Undo.result.now c.index_mut-in-Undo.ensures.value home refl c.undo.new.self (with_item old.shards (home - 1) c.undo.new.self) (item.Ended c.in-Undo.slot ∷ []) c.put-in-Undo.new.self
     (λ was now. SliceKeeps claims was.slice [] now.slice × (now.parked ≡ was.parked)) refl c.put-in-Undo.ensures (c.undo.ensures.kept, c.undo.ensures.parked))
     (claims_at_home claims home c.home-home-in-Undo.ensures.home can.1)
 
-pub take_turns-requires-in-Undo-clause-stations : goal.take_turns-requires-in-Undo-clause-stations
-take_turns-requires-in-Undo-clause-stations g c =
+pub take_turns-requires-in-Undo-clause-shards : goal.take_turns-requires-in-Undo-clause-shards
+take_turns-requires-in-Undo-clause-shards g c =
     let old = c.args.self.now in
     let home = c.home-home-in-Undo.result in
     let last : home ≤ old.catalog.scale.warehouses = subst (λ n. home ≤ n) c.requires.warehouses c.home-home-in-Undo.ensures.known.1 in
-    stations_set g.J.GroupNames.warehouses old.stations.items (home - 1) c.undo.new.self c.index-in-Undo.result.now (place_within old c.requires.slices home c.home-home-in-Undo.ensures.known.0 last) c.requires.stations c.index-in-Undo.ensures c.slice-in-Undo.ensures.station
+    shards_set g.J.GroupNames.warehouses old.shards.items (home - 1) c.undo.new.self c.index-in-Undo.result.now (place_within old c.requires.slices home c.home-home-in-Undo.ensures.known.0 last) c.requires.shards c.index-in-Undo.ensures c.slice-in-Undo.ensures.shard
 
 pub take_turns-requires-in-Undo-clause-room : goal.take_turns-requires-in-Undo-clause-room
 take_turns-requires-in-Undo-clause-room g c =
@@ -134,7 +134,7 @@ take_turns-requires-in-Undo-clause-room g c =
     let claims = c.in-Undo.claims in
     let last : home ≤ old.catalog.scale.warehouses = subst (λ n. home ≤ n) c.requires.warehouses c.home-home-in-Undo.ensures.known.1 in
     gives_room old _ c.requires.slices home c.in-Undo.slot claims
-    (placed_with old c.requires.slices home c.home-home-in-Undo.ensures.known.0 last c.index_mut-in-Undo.result.now c.index_mut-in-Undo.ensures.value home refl c.undo.new.self (with_item old.stations (home - 1) c.undo.new.self) (item.Ended c.in-Undo.slot ∷ []) c.put-in-Undo.new.self
+    (placed_with old c.requires.slices home c.home-home-in-Undo.ensures.known.0 last c.index_mut-in-Undo.result.now c.index_mut-in-Undo.ensures.value home refl c.undo.new.self (with_item old.shards (home - 1) c.undo.new.self) (item.Ended c.in-Undo.slot ∷ []) c.put-in-Undo.new.self
     (λ was now. SliceKeeps claims was.slice [] now.slice × (now.parked ≡ was.parked)) refl c.put-in-Undo.ensures (c.undo.ensures.kept, c.undo.ensures.parked))
     c.requires.room
 
@@ -147,6 +147,6 @@ returns-in-Undo-clause-takes g c =
     let last : home ≤ old.catalog.scale.warehouses = subst (λ n. home ≤ n) c.requires.warehouses c.home-home-in-Undo.ensures.known.1 in
     subst (λ (m : Message g.row.J.Denot). TakesMessage m old c.take_turns-in-Undo.new.self) (sym c.in-Undo.is)
     (gives_turns home c.in-Undo.slot claims old _ c.take_turns-in-Undo.new.self (home_is claims home (some_claims claims can.1) c.home-home-in-Undo.ensures.home)
-    (placed_with old c.requires.slices home c.home-home-in-Undo.ensures.known.0 last c.index_mut-in-Undo.result.now c.index_mut-in-Undo.ensures.value home refl c.undo.new.self (with_item old.stations (home - 1) c.undo.new.self) (item.Ended c.in-Undo.slot ∷ []) c.put-in-Undo.new.self
+    (placed_with old c.requires.slices home c.home-home-in-Undo.ensures.known.0 last c.index_mut-in-Undo.result.now c.index_mut-in-Undo.ensures.value home refl c.undo.new.self (with_item old.shards (home - 1) c.undo.new.self) (item.Ended c.in-Undo.slot ∷ []) c.put-in-Undo.new.self
     (λ was now. SliceKeeps claims was.slice [] now.slice × (now.parked ≡ was.parked)) refl c.put-in-Undo.ensures (c.undo.ensures.kept, c.undo.ensures.parked))
     c.take_turns-in-Undo.ensures.turns)

@@ -1,11 +1,11 @@
 use Rattle.std.proofs.Common.{◌≡◌, ◌≢◌, Bool, false, ℕ, ◌≤◌, zero, suc, List, Ok, Err, inl, inr, refl, sym, ◌∙◌, ap, subst, arith, map}
 use Rattle.std.specs.Prelude.{IsTrue}
-use Rattle.world.specs.Stations.{slice_of}
+use Rattle.world.specs.Shards.{slice_of}
 use Rattle.world.specs.declared.flight.Carried.{Carried}
-use Rattle.transactions.specs.Stations.{Stationed}
-use Rattle.partitions.specs.Parts.{Shared, shared_of}
+use Rattle.transactions.specs.Shards.{ShardView}
+use Rattle.partitions.specs.Parts.{SharedTables, shared_of}
 use Rattle.schema.specs.Database.{Database}
-use Rattle.slices.specs.Sliced.{Sliced, joined}
+use Rattle.slices.specs.SliceView.{SliceView, joined}
 use Rattle.world.specs.declared.world.GatherFault.TheVariants as gather
 use Rattle.world.specs.declared.world.Core.{Core}
 use Rattle.world.specs.Openings.{IsGathered}
@@ -53,12 +53,12 @@ returns-clause-at_rest g c = rests_idle (shared_of g.J.LogNames.opening) c.self.
 pub returns-in-Ok-whole-clause-tables : goal.returns-in-Ok-whole-clause-tables
 returns-in-Ok-whole-clause-tables g c opening history f =
     let w = together c.self.inside.core in
-    let left = c.into_log_and_stations-entries in
+    let left = c.into_log_and_shards-entries in
     let slices = c.in-Ok.slices.items in
     let idle : count_busy c.self.inside.core ≡ 0 = c.is_idle-is_idle.ensures.0 c.if-not-is_idle.false in
     let none : count_active w.desk.active ≡ 0 = omega (arith, idle) in
     let moved : (joined left.result.1 slices).tables ≡ (joined_in w).tables =
-    ap (λ (s : Shared). (joined s slices).tables) left.ensures.catalog ∙ ap (λ (l : List Sliced). (joined w.catalog l).tables) (c.in-Ok.ensures ∙ ap (λ (l : List (Stationed (Carried g.row.J.Denot))). map slice_of l) left.ensures.stations) in
+    ap (λ (s : SharedTables). (joined s slices).tables) left.ensures.catalog ∙ ap (λ (l : List SliceView). (joined w.catalog l).tables) (c.in-Ok.ensures ∙ ap (λ (l : List (ShardView (Carried g.row.J.Denot))). map slice_of l) left.ensures.shards) in
     let is = idle_tables (shared_of g.J.LogNames.opening) w c.self.invariant.0.all none opening history (subst (λ (v : Core g.row.J.Denot). Fits opening history (together v)) (sym c.self.view_is) f) in
     subst (λ (v : Core g.row.J.Denot). IsGathered (count_busy v) (tables_now opening v.parts.log) (Ok c.in-Ok-whole.tables)) c.self.view_is
     (subst (λ n. IsGathered n (tables_now opening w.log) (Ok c.in-Ok-whole.tables)) (sym idle) (inl (ap Ok (c.in-Ok-whole.ensures ∙ moved ∙ is))))

@@ -1,9 +1,9 @@
 use Rattle.std.proofs.Common.{◌≡◌, List, sym, ◌∙◌, ap, subst, arith, map}
-use Rattle.world.specs.Stations.{slice_of}
+use Rattle.world.specs.Shards.{slice_of}
 use Rattle.world.specs.declared.flight.Carried.{Carried}
-use Rattle.transactions.specs.Stations.{Stationed}
+use Rattle.transactions.specs.Shards.{ShardView}
 use Rattle.partitions.specs.Parts.{shared_of}
-use Rattle.slices.specs.Sliced.{joined}
+use Rattle.slices.specs.SliceView.{joined}
 use Rattle.world.specs.declared.world.Core.{Core}
 use Rattle.world.specs.Slots.{count_active}
 use Rattle.world.specs.Together.{together}
@@ -17,7 +17,7 @@ returns-in-Ok-clause-tables g c opening history f =
     let w = (together c.self.inside.core) in
     let idle : count_busy c.self.inside.core ≡ 0 = c.is_idle.ensures.0 c.if-not-is_idle.false in
     let none : count_active w.desk.active ≡ 0 = omega (arith, idle) in
-    c.in-Ok.ensures ∙ ap (λ (l : List (Stationed (Carried g.row.J.Denot))). (joined w.catalog (map slice_of l)).tables) c.deref.ensures.value
+    c.in-Ok.ensures ∙ ap (λ (l : List (ShardView (Carried g.row.J.Denot))). (joined w.catalog (map slice_of l)).tables) c.deref.ensures.value
     ∙ idle_tables (shared_of g.J.LogNames.opening) w c.self.invariant.0.all none opening history (subst (λ (v : Core g.row.J.Denot). Fits opening history (together v)) (sym c.self.view_is) f)
     ∙ ap (λ (v : Core g.row.J.Denot). tables_now opening v.parts.log) c.self.view_is
 

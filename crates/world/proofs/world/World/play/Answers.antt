@@ -12,7 +12,7 @@ use Rattle.world.proofs.world.World.play.Goals as goal
 
 pub returns-in_err-outputs-clause-err : goal.returns-in_err-outputs-clause-err
 returns-in_err-outputs-clause-err g c =
-    on_err c.from_residual.result ([], (begins_none c.args.self.now.houses.executors c.args.schedule.now, (refl, no_events (together c.args.self.now))))
+    on_err c.from_residual.result ([], (begins_none c.args.self.now.placements.executors c.args.schedule.now, (refl, no_events (together c.args.self.now))))
 
 pub returns-in_err-play_item-clause-err : goal.returns-in_err-play_item-clause-err
 returns-in_err-play_item-clause-err g c =
@@ -21,7 +21,7 @@ returns-in_err-play_item-clause-err g c =
     let item = c.item-item.result in
     let one_more : take (i + 1) schedule ≡ take i schedule ++ item ∷ [] =
     take_more schedule i item c.loop-item-test.true ∙ ap (λ (s : Scheduled). take i schedule ++ s ∷ []) (sym c.item-item.is) in
-    let n = c.args.self.now.houses.executors in
+    let n = c.args.self.now.placements.executors in
     let so_far = c.loop-item.invariant.played in
     let more : (steps : List Step) × (Begins n (item ∷ []) steps × ComeAbout steps c.loop-item.self c.play_item.new.self) =
     subst (λ (r : ℕ). (steps : List Step) × (Begins r (item ∷ []) steps × ComeAbout steps c.loop-item.self c.play_item.new.self)) c.loop-item.invariant.executors c.in_err-play_item.ensures.err in
@@ -43,7 +43,7 @@ loop-item-preserved g c =
     let item = c.item-item.result in
     let one_more : take (i + 1) schedule ≡ take i schedule ++ item ∷ [] =
     take_more schedule i item c.loop-item-test.true ∙ ap (λ (s : Scheduled). take i schedule ++ s ∷ []) (sym c.item-item.is) in
-    let n = c.args.self.now.houses.executors in
+    let n = c.args.self.now.placements.executors in
     let so_far = c.loop-item.invariant.played in
     let more : (more : List Output) × ((steps : List Step)
     × ((c.play_item.new.outputs.items ≡ c.loop-item.outputs.items ++ more) × (Follows n item more steps × ComeAbout steps c.loop-item.self c.play_item.new.self))) =
@@ -58,7 +58,7 @@ loop-item-preserved g c =
       played = (
         so_far.0 ++ steps,
         (
-          subst (λ (told : List Output). Plays n (take (i + 1) schedule) told (so_far.0 ++ steps)) (sym more.1.1.0)
+          subst (λ (recorded : List Output). Plays n (take (i + 1) schedule) recorded (so_far.0 ++ steps)) (sym more.1.1.0)
               (subst (λ (some : List Scheduled). Plays n some (c.loop-item.outputs.items ++ added) (so_far.0 ++ steps)) (sym one_more) played),
           comes_after so_far.0 steps c.args.self.now c.loop-item.self c.play_item.new.self so_far.1.1 more.1.1.1.1,
         ),

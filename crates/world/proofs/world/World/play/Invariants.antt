@@ -7,7 +7,7 @@ use Rattle.world.proofs.world.World.play.Given as goal
 
 abbrev pub invariant-loop-item : goal.invariant-loop-item
 invariant-loop-item g l = record {
-  played : (steps : List Step) × (Plays l.fn.self.houses.executors (take l.item-index l.schedule) l.outputs.items steps × ComeAbout steps l.fn.self l.self);
+  played : (steps : List Step) × (Plays l.fn.self.placements.executors (take l.item-index l.schedule) l.outputs.items steps × ComeAbout steps l.fn.self l.self);
   rest : EndsQuiet l.outputs.items → IsAtRest l.self;
-  executors : l.self.houses.executors ≡ l.fn.self.houses.executors;
+  executors : l.self.placements.executors ≡ l.fn.self.placements.executors;
 }

@@ -16,7 +16,7 @@ returns-in_err-push-in-Event-clause-err g c =
     on_err c.from_residual.result (
       steps,
       (
-        subst (λ item. Begins c.args.self.now.houses.executors (item ∷ []) steps) (sym c.in-Event.is) (begins_all c.args.self.now.houses.executors (scheduled.Event event) (output.Event answer ∷ []) steps (answer, (refl, refl))),
+        subst (λ item. Begins c.args.self.now.placements.executors (item ∷ []) steps) (sym c.in-Event.is) (begins_all c.args.self.now.placements.executors (scheduled.Event event) (output.Event answer ∷ []) steps (answer, (refl, refl))),
         event_comes (step event answer) c.args.self.now c.step-answer.new.self (record {
           advances = c.step-answer.ensures.advances;
           happens = c.step-answer.ensures.happens;
@@ -46,7 +46,7 @@ returns-in_ok-push-in-Event-clause-follows g c =
         (
           c.in_ok-push-in-Event.ensures.items,
           (
-            subst (λ item. Follows c.args.self.now.houses.executors item added steps) (sym c.in-Event.is) (answer, (refl, refl)),
+            subst (λ item. Follows c.args.self.now.placements.executors item added steps) (sym c.in-Event.is) (answer, (refl, refl)),
             event_comes (step event answer) c.args.self.now c.step-answer.new.self (record {
               advances = c.step-answer.ensures.advances;
               happens = c.step-answer.ensures.happens;
@@ -68,5 +68,5 @@ returns-in_ok-push-in-Event-clause-follows g c =
 
 pub returns-in-Rounds-clause-err : goal.returns-in-Rounds-clause-err
 returns-in-Rounds-clause-err g c =
-    subst (λ item. OnErr c.run_rounds.result ((steps : List Step) × (Begins c.args.self.now.houses.executors (item ∷ []) steps × ComeAbout steps c.args.self.now c.run_rounds.new.self))) (sym c.in-Rounds.is)
+    subst (λ item. OnErr c.run_rounds.result ((steps : List Step) × (Begins c.args.self.now.placements.executors (item ∷ []) steps × ComeAbout steps c.args.self.now c.run_rounds.new.self))) (sym c.in-Rounds.is)
     c.run_rounds.ensures.err

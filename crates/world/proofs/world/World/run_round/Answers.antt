@@ -13,7 +13,7 @@ use Rattle.world.proofs.world.World.run_round.Goals as goal
 pub loop-executor-init : goal.loop-executor-init
 loop-executor-init g c =
     let self = c.args.self.now in
-    let many : c.executors-executors.result ≡ self.houses.executors = c.executors-executors.ensures ∙ ap (λ (w : Core g.row.J.Denot). w.houses.executors) c.self.view_is in
+    let many : c.executors-executors.result ≡ self.placements.executors = c.executors-executors.ensures ∙ ap (λ (w : Core g.row.J.Denot). w.placements.executors) c.self.view_is in
     record {
       turns = ([], (refl, (sym (append-nil c.args.outputs.now.items), ((refl, no_events (together self)), (λ is. All-nil IsIdleTurn, λ idle. refl)))));
       rest = λ is. record { same = refl; inboxes = λ place below. absurd (omega (arith, below)); outboxes = λ place below. absurd (omega (arith, below)) };
@@ -97,6 +97,6 @@ loop-executor-preserved g c =
 pub returns-clause-rest : goal.returns-clause-rest
 returns-clause-rest g c is =
     let l = c.loop-executor in
-    let many : c.executors-executors.result ≡ c.args.self.now.houses.executors = c.executors-executors.ensures ∙ ap (λ (w : Core g.row.J.Denot). w.houses.executors) c.self.view_is in
+    let many : c.executors-executors.result ≡ c.args.self.now.placements.executors = c.executors-executors.ensures ∙ ap (λ (w : Core g.row.J.Denot). w.placements.executors) c.self.view_is in
     let sound : IsSound (shared_of g.J.LogNames.opening) c.args.self.now = subst (λ (w : Core g.row.J.Denot). IsSound (shared_of g.J.LogNames.opening) w) c.self.view_is c.self.invariant.0 in
     round_rests (shared_of g.J.LogNames.opening) l.executor c.args.self.now l.self sound (omega (arith, c.loop-executor-test.false, l.auto.executor-end, many)) (l.invariant.rest is)

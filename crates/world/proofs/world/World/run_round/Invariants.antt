@@ -11,6 +11,6 @@ invariant-loop-executor g l = record {
   turns : (turns : List Turn) × ((length turns ≡ l.executor)
       × ((l.outputs.items ≡ l.fn.outputs.items ++ outputs_of_round turns) × (ComeAbout (steps_of_round turns) l.fn.self l.self × IsIdleExactly l.is_idle turns)));
   rest : IsTrue l.is_idle → RestSoFar l.executor l.fn.self l.self;
-  executors : l.self.houses.executors ≡ l.fn.self.houses.executors;
+  executors : l.self.placements.executors ≡ l.fn.self.placements.executors;
   room : length l.outputs.items + 2 * (l.executors - l.executor) ≤ vec_capacity l.outputs;
 }

@@ -14,13 +14,13 @@ pub loop-init : goal.loop-init
 loop-init g c =
     let self = c.args.self.now in
     record {
-      rounds = ([], (record { busy = All-nil IsBusy; turns = All-nil (IsRoundOf self.houses.executors); many = refl }, (sym (append-nil c.args.outputs.now.items), (refl, no_events (together self)))));
+      rounds = ([], (record { busy = All-nil IsBusy; turns = All-nil (IsRoundOf self.placements.executors); many = refl }, (sym (append-nil c.args.outputs.now.items), (refl, no_events (together self)))));
       executors = refl;
     }
 
 pub returns-in_err-reserve-clause-err : goal.returns-in_err-reserve-clause-err
 returns-in_err-reserve-clause-err g c =
-    let n = c.args.self.now.houses.executors in
+    let n = c.args.self.now.placements.executors in
     let inv = c.loop.invariant in
     let rounds = inv.rounds.0 in
     let are = inv.rounds.1.0 in
@@ -29,7 +29,7 @@ returns-in_err-reserve-clause-err g c =
 
 pub returns-in_err-push-clause-err : goal.returns-in_err-push-clause-err
 returns-in_err-push-clause-err g c =
-    let n = c.args.self.now.houses.executors in
+    let n = c.args.self.now.placements.executors in
     let inv = c.loop.invariant in
     let rounds = inv.rounds.0 in
     let are = inv.rounds.1.0 in
@@ -52,7 +52,7 @@ returns-in_err-push-clause-err g c =
 
 pub returns-then-run_round-clause-follows : goal.returns-then-run_round-clause-follows
 returns-then-run_round-clause-follows g c =
-    let n = c.args.self.now.houses.executors in
+    let n = c.args.self.now.placements.executors in
     let inv = c.loop.invariant in
     let rounds = inv.rounds.0 in
     let are = inv.rounds.1.0 in
@@ -76,7 +76,7 @@ returns-then-run_round-clause-follows g c =
 
 pub loop-preserved : goal.loop-preserved
 loop-preserved g c =
-    let n = c.args.self.now.houses.executors in
+    let n = c.args.self.now.placements.executors in
     let inv = c.loop.invariant in
     let rounds = inv.rounds.0 in
     let are = inv.rounds.1.0 in
@@ -100,7 +100,7 @@ loop-preserved g c =
 
 pub returns-in_err-push-2-clause-err : goal.returns-in_err-push-2-clause-err
 returns-in_err-push-2-clause-err g c =
-    let n = c.args.self.now.houses.executors in
+    let n = c.args.self.now.placements.executors in
     let inv = c.loop.invariant in
     let rounds = inv.rounds.0 in
     let are = inv.rounds.1.0 in

@@ -8,7 +8,7 @@ use Rattle.world.proofs.world.World.run_rounds.Given as goal
 
 abbrev pub invariant-loop : goal.invariant-loop
 invariant-loop g l = record {
-  rounds : (rounds : List Round) × (AreRounds l.fn.self.houses.executors rounds l.counter
+  rounds : (rounds : List Round) × (AreRounds l.fn.self.placements.executors rounds l.counter
       × ((l.outputs.items ≡ l.fn.outputs.items ++ flat_map outputs_of_round rounds) × ComeAbout (flat_map steps_of_round rounds) l.fn.self l.self));
-  executors : l.self.houses.executors ≡ l.fn.self.houses.executors;
+  executors : l.self.placements.executors ≡ l.fn.self.placements.executors;
 }

@@ -5,14 +5,14 @@ use Rattle.history.specs.History.{Step, step}
 use Rattle.world.specs.declared.world.Core.{Core}
 use Rattle.world.specs.Slots.{count_active}
 use Rattle.world.specs.Together.{together}
-use Rattle.world.specs.Worlds.{Advances, AllDieOfOlder, AnswersWhoAsked, Fits, IsBusyExactly, NoneDies, TellsOfOlder}
+use Rattle.world.specs.Worlds.{Advances, AllDieOfOlder, AnswersWhoAsked, Fits, IsBusyExactly, NoneDies, RecordsOfOlder}
 use Rattle.world.specs.Changes.{ChangesOnly}
 use Rattle.world.specs.Happening.{Happens}
 use Rattle.world.proofs.Alone.{none_dies}
 use Rattle.world.proofs.NeverStuck.{is_owned, never_stuck}
 use Rattle.world.proofs.Busy.{busy_exactly}
 use Rattle.world.proofs.WhoAsked.{answers_who_asked}
-use Rattle.world.proofs.Deaths.{tells_of_older}
+use Rattle.world.proofs.Deaths.{records_of_older}
 use Rattle.world.proofs.Dying.{die_of_older}
 use Rattle.world.proofs.Answered.{nothing_exactly}
 use Rattle.world.proofs.Changed.{changes_only}
@@ -45,8 +45,8 @@ returns-clause-asked g c =
 
 pub returns-clause-died : goal.returns-clause-died
 returns-clause-died g c =
-    subst (λ (old : Core g.row.J.Denot). TellsOfOlder old c.happen.result) c.self.view_is
-    (tells_of_older (shared_of g.J.LogNames.opening) c.args.event.now c.self.inside.core c.happen.new.self c.happen.result c.self.invariant.0 c.happen.ensures.happens)
+    subst (λ (old : Core g.row.J.Denot). RecordsOfOlder old c.happen.result) c.self.view_is
+    (records_of_older (shared_of g.J.LogNames.opening) c.args.event.now c.self.inside.core c.happen.new.self c.happen.result c.self.invariant.0 c.happen.ensures.happens)
 
 pub returns-clause-dies : goal.returns-clause-dies
 returns-clause-dies g c =
@@ -60,7 +60,7 @@ returns-clause-alone g c =
 
 pub returns-clause-executors : goal.returns-clause-executors
 returns-clause-executors g c =
-    subst (λ (old : Core g.row.J.Denot). c.happen.new.self.houses.executors ≡ old.houses.executors) c.self.view_is
+    subst (λ (old : Core g.row.J.Denot). c.happen.new.self.placements.executors ≡ old.placements.executors) c.self.view_is
     (executors_stay c.args.event.now c.self.inside.core c.happen.new.self c.happen.result c.happen.ensures.happens)
 
 pub returns-clause-never_stuck : goal.returns-clause-never_stuck

@@ -1,6 +1,0 @@
--- as many courses were opened as there were turns
-use Rattle.std.proofs.Common.{◌≡◌, vec_len}
-use Rattle.engine.proofs.opening.open_courses.Given as goal
-
-abbrev pub invariant-loop-slot : goal.invariant-loop-slot
-invariant-loop-slot l = vec_len l.courses ≡ l._slot

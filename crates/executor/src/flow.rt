@@ -1,0 +1,199 @@
+//! A transaction on its way.
+ghost use Rattle.std.specs.Prelude.{◌≡◌, List, IfErr, IfOk};
+ghost use Rattle.partitions.specs.Parts.{SharedTables};
+ghost use Rattle.requests.specs.Check.{IsAccepted};
+ghost use Rattle.requests.specs.declared.request.Request.{Request as AnyRequest};
+ghost use Rattle.tickets.specs.Claims.{ClaimView};
+ghost use Rattle.transactions.specs.Granted.{IsAsked};
+ghost use Rattle.transactions.specs.Progresses.{IsReached};
+ghost use Rattle.executor.specs.Flows.{HasBegun, IsAskedBy};
+ghost use Rattle.executor.specs.Transactions.{transaction_view};
+
+use crate::PhaseNames;
+use commit_log::Pass;
+use requests::{Fault, Reply, Request, StockLevel};
+use schema::{DistrictKey, NoMemory};
+use std::alloc::Global;
+use std::marker::Model;
+use std::mem;
+use transactions::{HeldClaims, Progress, stock_level};
+
+/// What is large of a transaction, in a box: that is made as the transaction begins, and goes with it until its session is told
+/// what came of it, so whoever passes the transaction on copies none of it.
+#[derive(Drop)]
+pub(crate) struct FlowBody {
+    pub(crate) request: Request,
+    /// How far it has come, while it is on its way.
+    pub(crate) progress: Progress,
+    /// What it shows, once it was carried out.
+    pub(crate) reply: Reply,
+}
+
+/// Who a transaction is, and the pass of its session.
+#[derive(Drop)]
+pub(crate) struct Transaction<J: PhaseNames> {
+    pub(crate) age: u64,
+    pub(crate) slot: usize,
+    pub(crate) number: u32,
+    pub(crate) body: Box<FlowBody>,
+    pub(crate) pass: Pass<J>,
+}
+
+/// A transaction on its way, with its session's pass, and with the claims of its actions of earlier phases.
+///
+/// Contracts see its age, its slot, the number of its request in its session, the request, the pass, those claims by place, and
+/// how far it has come. It keeps that its session asks it with this pass, which is as it was then; that the request has come so
+/// far under these claims; and that all that was done under them can be taken back.
+#[derive(Drop)]
+pub struct Flow<J: PhaseNames> {
+    pub(crate) transaction: Transaction<J>,
+    // The claims of the actions of earlier phases, by place.
+    pub(crate) held: HeldClaims<J>,
+}
+
+impl<J: PhaseNames> Model for Flow<J> {
+    ghost use Rattle.std.specs.Coded.{codes};
+    ghost use Rattle.groups.specs.contracts.content.Content as content;
+    ghost use Rattle.executor.specs.Flows.{FlowView};
+
+    ghost Value = { FlowView };
+
+    ghost coded = { Prim.hlevel (codes, content.the_row.coded) };
+
+    ghost use Rattle.partitions.specs.Parts.{shared_of};
+    ghost use Rattle.executor.specs.Flows.{CarriesFlow, flow_view};
+
+    ghost view = { λ j. flow_view j.transaction.age j.transaction.slot j.transaction.number j.transaction.body.value.request j.transaction.pass
+        j.held j.transaction.body.value.progress };
+
+    ghost invariant = { λ j. CarriesFlow (shared_of J.opening)
+        (flow_view j.transaction.age j.transaction.slot j.transaction.number j.transaction.body.value.request j.transaction.pass
+        j.held j.transaction.body.value.progress) };
+}
+
+impl<J: PhaseNames> Flow<J> {
+    /// A transaction of this age begins in this slot: its session has asked the request with its pass, and the check accepts it.
+    /// Where there is no memory, the pass comes back.
+    pub fn begin(
+        alloc: Global,
+        age: u64,
+        slot: usize,
+        number: u32,
+        request: &Request,
+        pass: Pass<J>,
+    ) -> Result<Flow<J>, Pass<J>>
+        requires accepted { IsAccepted J.opening.scale request.now }
+        requires asked { IsAskedBy number request.now pass }
+        ensures begun { IfOk result (HasBegun age slot number request.now pass) }
+        ensures err { IfErr result (λ back. back ≡ pass) }
+    {
+        let Ok(own) = request.try_clone() else {
+            return Err(pass);
+        };
+        let Ok(given) = request.try_clone() else {
+            return Err(pass);
+        };
+        let Ok(held) = HeldClaims::open(alloc) else {
+            return Err(pass);
+        };
+        let Ok(body) = FlowBody::begin(alloc, own, given) else {
+            return Err(pass);
+        };
+        Ok(Flow {
+            transaction: Transaction {
+                age,
+                slot,
+                number,
+                body,
+                pass,
+            },
+            held,
+        })
+    }
+
+    /// Its age.
+    pub fn age(&self) -> u64
+        ensures { result ≡ self.now.age }
+    {
+        self.transaction.age
+    }
+
+    /// Its slot.
+    pub fn slot(&self) -> usize
+        ensures { result ≡ self.now.slot }
+    {
+        self.transaction.slot
+    }
+}
+
+impl FlowBody {
+    // The body of a transaction that begins with this request, which is given twice.
+    fn begin(alloc: Global, request: Request, given: Request) -> Result<Box<FlowBody>, NoMemory>
+        ensures request { IfOk result (λ body. body.value.request ≡ request) }
+        ensures reached { IfOk result (λ body. (shared : SharedTables) (asked : AnyRequest) (held : List (List ClaimView)) → IsAsked shared asked given held → IsReached shared asked body.value.progress held) }
+    {
+        let body = FlowBody {
+            request,
+            progress: Progress::begin(given),
+            reply: no_reply(),
+        };
+        Ok(Box::new(alloc, body)?)
+    }
+
+    // The request, to be kept elsewhere.
+    pub(crate) fn take_request(&mut self) -> Request
+        ensures request { result ≡ self.old.request }
+        ensures reply { self.new.reply ≡ self.old.reply }
+    {
+        mem::replace(&mut self.request, Request::StockLevel(nothing_asked()))
+    }
+
+    // What it shows, to be kept elsewhere.
+    pub(crate) fn take_reply(&mut self) -> Reply
+        ensures { result ≡ self.old.reply }
+    {
+        mem::replace(&mut self.reply, no_reply())
+    }
+}
+
+impl<J: PhaseNames> Transaction<J> {
+    // How far it has come, to be gone on with.
+    pub(crate) fn take_progress(&mut self) -> Progress
+        ensures progress { result ≡ self.old.body.value.progress }
+        ensures same { transaction_view self.new ≡ transaction_view self.old }
+    {
+        let begun = stock_level::Progress::ReadNext(nothing_asked());
+        mem::replace(&mut self.body.progress, Progress::StockLevel(begun))
+    }
+
+    // It has come so far.
+    #[inline(never)]
+    pub(crate) fn put_progress(&mut self, progress: Progress)
+        ensures progress { self.new.body.value.progress ≡ progress }
+        ensures same { transaction_view self.new ≡ transaction_view self.old }
+    {
+        self.body.progress = progress;
+    }
+
+    // It was carried out, and shows this.
+    #[inline(never)]
+    pub(crate) fn put_reply(&mut self, reply: Reply)
+        ensures reply { self.new.body.value.reply ≡ reply }
+        ensures same { transaction_view self.new ≡ transaction_view self.old }
+    {
+        self.body.reply = reply;
+    }
+}
+
+// Stands where no request is.
+fn nothing_asked() -> StockLevel {
+    StockLevel {
+        home: DistrictKey { w_id: 0, d_id: 0 },
+        threshold: 0,
+    }
+}
+
+// Stands where no reply is.
+fn no_reply() -> Reply {
+    Reply::RolledBack(Fault::Range)
+}

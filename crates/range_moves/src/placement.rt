@@ -1,0 +1,118 @@
+//! Where the slice of a warehouse is, and what executors noted of it.
+ghost use Rattle.std.specs.Prelude.{◌≡◌, ◌<◌, ◌↔◌, IsTrue, length};
+ghost use Rattle.range_moves.specs.Placements.{comes_to, fetched_from, found_in, placement_installed, placement_moved, placement_taken, is_at};
+
+/// Where the slice of a warehouse is.
+#[derive(Clone, Copy, Debug, PartialEq, Eq)]
+pub enum Whereabouts {
+    /// At this executor.
+    Rests(u32),
+    /// At executor `here`, to which a fetch is on its way; it goes to executor `to` then.
+    Leaves { here: u32, to: u32 },
+    /// In a parcel on its way to this executor.
+    Travels(u32),
+}
+
+impl Whereabouts {
+    /// The executor that has the slice, or to which it comes if it is to go.
+    pub(crate) fn comes_to(&self) -> u32
+        ensures { result ≡ comes_to self.now }
+    {
+        match self {
+            Whereabouts::Rests(here) => *here,
+            Whereabouts::Leaves { to, .. } | Whereabouts::Travels(to) => *to,
+        }
+    }
+
+    /// Whether the executor has the slice.
+    pub(crate) fn is_at(&self, executor: u32) -> bool
+        ensures { result ≡ is_at self.now executor }
+    {
+        match self {
+            Whereabouts::Rests(here) | Whereabouts::Leaves { here, .. } => executor == *here,
+            Whereabouts::Travels(_) => false,
+        }
+    }
+
+    /// From whom it has to be fetched if it is to go to this executor: `None` where it is there.
+    pub(crate) fn fetched_from(&self, to: u32) -> Option<u32>
+        ensures { result ≡ fetched_from self.now to }
+    {
+        if self.is_at(to) {
+            None
+        } else {
+            Some(self.comes_to())
+        }
+    }
+}
+
+/// The slice of a warehouse.
+#[derive(Clone, Copy, Debug, PartialEq, Eq)]
+pub struct Placement {
+    pub place: Whereabouts,
+    /// By the executors' numbers: to whom the executor has sent the slice last, since a move last brought it there.
+    pub notes: [Option<u32>; 16],
+}
+
+impl Placement {
+    /// What an executor finds of it.
+    pub(crate) fn find(&self, executor: u32) -> Found
+        ensures { result ≡ found_in self.now executor }
+    {
+        if self.place.is_at(executor) {
+            return Found::Here;
+        }
+        match self.notes.get(executor as usize) {
+            Some(Some(to)) => Found::Went(*to),
+            _ => Found::Unknown,
+        }
+    }
+
+    /// What it is where it is to go to an executor, which forgets where it went: it stays where it is there.
+    pub(crate) fn moved(&self, to: u32) -> Placement
+        requires { to < 16 }
+        ensures { result ≡ placement_moved self.now to }
+    {
+        let place = match self.place.fetched_from(to) {
+            None => self.place,
+            Some(here) => Whereabouts::Leaves { here, to },
+        };
+        let mut notes = self.notes;
+        notes[to as usize] = None;
+        Placement { place, notes }
+    }
+
+    /// What it is where an executor took it out, and noted where it goes.
+    pub(crate) fn taken(&self, here: u32, to: u32) -> Placement
+        requires { here < 16 }
+        ensures { result ≡ placement_taken self.now here to }
+    {
+        let mut notes = self.notes;
+        notes[here as usize] = Some(to);
+        Placement {
+            place: Whereabouts::Travels(to),
+            notes,
+        }
+    }
+
+    /// What it is where an executor installed it.
+    pub(crate) fn installed(&self, here: u32) -> Placement
+        ensures { result ≡ placement_installed self.now here }
+    {
+        Placement {
+            place: Whereabouts::Rests(here),
+            notes: self.notes,
+        }
+    }
+}
+
+/// What an executor finds of a slice.
+#[derive(Clone, Copy, Debug, PartialEq, Eq)]
+pub enum Found {
+    /// It has the slice.
+    Here,
+    /// It noted that the slice went to this executor.
+    Went(u32),
+    /// Neither: the slice is on its way here.
+    Unknown,
+}

@@ -1,0 +1,73 @@
+//! What takes back what was done in a group.
+ghost use Rattle.std.specs.Prelude.{◌≡◌, ◌<◌, ◌∷◌, ◌++◌, [], length, OnOk};
+ghost use Rattle.requests.specs.declared.group.Group.{Group as AnyGroup};
+ghost use Rattle.groups.specs.Content.{content};
+ghost use Rattle.slices.specs.Undo.{all_put_back_in, AreKept, ChangesGroup};
+
+use crate::indexed::IndexedRows;
+use crate::kept::{UndoRecord, put_all_back};
+use schema::NoMemory;
+use std::alloc::Global;
+use std::marker::Model;
+
+/// What takes back what was done in a group under the exclusive claim on it, step by step.
+#[derive(Drop)]
+pub(crate) struct UndoLog {
+    undo: Vec<UndoRecord>,
+}
+
+impl Model for UndoLog {
+    ghost use Rattle.std.specs.Prelude.{vec_capacity};
+    ghost use Rattle.std.specs.Coded.{codes};
+    ghost use Rattle.slices.specs.contracts.kept.UndoRecord as kept;
+    ghost use Rattle.slices.specs.UndoLogs.{UndoLogView, undo_log_view};
+
+    ghost Value = { UndoLogView };
+
+    ghost coded = { Prim.hlevel (codes, kept.the_row.coded) };
+
+    ghost view = { λ g. undo_log_view g.undo.items (vec_capacity g.undo) };
+}
+
+impl UndoLog {
+    /// A group in which nothing was done.
+    pub(crate) fn new(alloc: Global) -> UndoLog
+        ensures { result.undo ≡ [] }
+    {
+        UndoLog {
+            undo: Vec::new(alloc),
+        }
+    }
+
+    /// Makes room for what takes one more step back.
+    pub(crate) fn make_room(&mut self) -> Result<(), NoMemory>
+        ensures room { OnOk result (length self.new.undo < self.new.room) }
+        ensures undo { self.new.undo ≡ self.old.undo }
+    {
+        self.undo.reserve(1)
+    }
+
+    /// One more step was done, and this takes it back.
+    pub(crate) fn keep(&mut self, kept: UndoRecord)
+        requires room { length self.old.undo < self.old.room }
+        ensures { self.new.undo ≡ self.old.undo ++ kept ∷ [] }
+    {
+        self.undo.push_reserved(kept);
+    }
+
+    /// Takes all steps back, the last one first. None is left.
+    pub(crate) fn put_back(&mut self, rows: &mut IndexedRows)
+        requires kept { (group : AnyGroup) × AreKept rows.old.tables.scale group self.old.undo (content rows.old.tables group) }
+        ensures rows { (group : AnyGroup) → AreKept rows.old.tables.scale group self.old.undo (content rows.old.tables group) → ChangesGroup group (all_put_back_in self.old.undo) rows.old rows.new }
+        ensures none { self.new.undo ≡ [] }
+    {
+        put_all_back(&mut self.undo, rows);
+    }
+
+    /// No step is to be taken back any more.
+    pub(crate) fn forget(&mut self)
+        ensures { self.new.undo ≡ [] }
+    {
+        self.undo.clear();
+    }
+}
