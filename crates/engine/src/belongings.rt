@@ -1,7 +1,7 @@
 //! What an executor has to itself.
 use crate::MOST_SESSIONS;
 use crate::message::Message;
-use executor::{PhaseNames, ExecutorShards};
+use executor::{ExecutorShards, PhaseNames};
 use queues::{Sender, Taker};
 use schema::NoMemory;
 use std::alloc::Global;

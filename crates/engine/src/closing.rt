@@ -192,7 +192,10 @@ fn slice_of<J: ServeNames>(executors: &mut Vec<Executor<J>>, home: u32) -> Optio
 }
 
 // The shard of a warehouse, at whichever executor it is.
-fn shard_of<J: ServeNames>(executors: &mut Vec<Executor<J>>, home: u32) -> Option<Box<CountedShard<J>>> {
+fn shard_of<J: ServeNames>(
+    executors: &mut Vec<Executor<J>>,
+    home: u32,
+) -> Option<Box<CountedShard<J>>> {
     for executor in executors.iter_mut() {
         if let Some(shard) = executor.shards.take(home) {
             return Some(shard);

@@ -1,13 +1,13 @@
 //! What all executors share.
 ghost use Rattle.std.specs.Prelude.{◌≡◌};
 
-use crate::parking::Parking;
 use crate::moves::Moves;
+use crate::parking::Parking;
 use crate::place::{Advanced, Ended, Place, Unexpected};
 use crate::{Gate, ServeNames};
 use commit_log::Log;
 use crossbeam_utils::Backoff;
-use executor::{Flow, PhaseOwner, Met, Phase, Report, SessionAnswer};
+use executor::{Flow, Met, Phase, PhaseOwner, Report, SessionAnswer};
 use requests::{Request, Script};
 use routing::SharedRouting;
 use schema::Scale;
@@ -149,7 +149,9 @@ impl<J: ServeNames, G: Gate> Engine<'_, J, G> {
         ending: usize,
     ) -> Result<Ended, Unexpected> {
         match self.places.get(slot) {
-            Some(place) => place.lock(rt).end(recorded, phase_owner, ending, self.tries),
+            Some(place) => place
+                .lock(rt)
+                .end(recorded, phase_owner, ending, self.tries),
             None => Err(Unexpected),
         }
     }

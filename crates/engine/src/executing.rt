@@ -5,7 +5,7 @@ use crate::message::Message;
 use crate::place::{Advanced, Ended, Unexpected};
 use crate::{Gate, ServeNames};
 use crossbeam_utils::Backoff;
-use executor::{Commit, Act, Following, GivenBack, Paused, Release, Report, Returns, Tried};
+use executor::{Act, Commit, Following, GivenBack, Paused, Release, Report, Returns, Tried};
 use std::alloc::Global;
 use std::sync::Wait;
 use std::time::Duration;
@@ -325,7 +325,10 @@ impl<J: ServeNames, G: Gate, R: Wait> AtWork<'_, '_, J, G, R> {
         let ending = returns
             .len()
             .saturating_add(usize::from(elsewhere.is_some()));
-        let Ok(ended) = self.engine.end(self.rt, slot, recorded, phase_owner, ending) else {
+        let Ok(ended) = self
+            .engine
+            .end(self.rt, slot, recorded, phase_owner, ending)
+        else {
             self.engine.stop();
             return;
         };

@@ -5,7 +5,6 @@
 
 mod answers;
 mod asking;
-mod parking;
 mod belongings;
 mod client;
 mod closing;
@@ -19,6 +18,7 @@ mod moving;
 mod names;
 mod opening;
 mod outcome;
+mod parking;
 mod place;
 mod serving;
 mod session;

@@ -1,5 +1,5 @@
 //! What goes from executor to executor.
-use executor::{PhaseNames, Act, GivenBack, CountedShard};
+use executor::{Act, CountedShard, GivenBack, PhaseNames};
 use range_moves::MoveOrder;
 
 /// A message to an executor. What is known of it is kept by its own type.

@@ -7,15 +7,15 @@ ghost use Rattle.engine.specs.Opening.{AreAgreedPhasesFrom, IsNamedFor, IsToOpen
 ghost use Rattle.engine.specs.Sessions.{AreNewFrom};
 
 use crate::asking::Ready;
-use crate::parking::Parking;
 use crate::belongings::Executor;
 use crate::engine::Engine;
 use crate::message::Message;
 use crate::moves::Moves;
+use crate::parking::Parking;
 use crate::place::Place;
 use crate::{Gate, Idle, ServeNames, Session};
 use commit_log::{Log, LogBook, Pass, SessionSeat, UnnamedLog};
-use executor::{OpenedPhaseAgreement, CountedShard};
+use executor::{CountedShard, OpenedPhaseAgreement};
 use partitions::Catalog;
 use queues::Sender;
 use range_moves::MoveOrder;
@@ -190,7 +190,11 @@ fn open_posts<J: ServeNames>(
 }
 
 // An executor has this shard. One that nobody has would be missed at the end.
-fn put_shard<J: ServeNames>(executors: &mut Vec<Executor<J>>, to: usize, shard: Box<CountedShard<J>>) {
+fn put_shard<J: ServeNames>(
+    executors: &mut Vec<Executor<J>>,
+    to: usize,
+    shard: Box<CountedShard<J>>,
+) {
     if let Some(executor) = executors.get_mut(to) {
         executor.shards.put(shard);
     }

@@ -3,7 +3,7 @@ ghost use Rattle.std.specs.Prelude.{◌≡◌};
 
 use crate::ServeNames;
 use crate::asking::{Asked, Next, Ready};
-use executor::{Flow, PhaseOwner, Met, Paused, Phase, Report, Reported, SessionAnswer};
+use executor::{Flow, Met, Paused, Phase, PhaseOwner, Report, Reported, SessionAnswer};
 use schema::Scale;
 use std::alloc::Global;
 use std::sync::atomic::AtomicU64;

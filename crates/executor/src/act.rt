@@ -2,7 +2,7 @@
 ghost use Rattle.std.specs.Prelude.{◌≡◌};
 ghost use Rattle.transactions.specs.Works.{home_of};
 
-use crate::{PhaseNames, Flow, Share};
+use crate::{Flow, PhaseNames, Share};
 use std::marker::Model;
 use transactions::{Ran, Work};
 use wait_die::Holder;

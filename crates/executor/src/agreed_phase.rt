@@ -85,7 +85,10 @@ impl OpenedPhaseAgreement {
 }
 
 // A seat without a share for each action that may be in flight.
-fn spare_seats(alloc: Global, seat: &mut Seat<AgreedPhase>) -> Result<Vec<Seat<AgreedPhase>>, NoMemory>
+fn spare_seats(
+    alloc: Global,
+    seat: &mut Seat<AgreedPhase>,
+) -> Result<Vec<Seat<AgreedPhase>>, NoMemory>
     requires count { seat.old.agreement ≡ agreed_phase_agreement seat.old.agreement.table }
     ensures same { seat.new ≡ seat.old }
     ensures all { IfOk result (λ spare. vec_len spare ≡ MOST_ACTIONS) }

@@ -9,7 +9,7 @@ ghost use Rattle.partitions.specs.Parts.{shared_of};
 ghost use Rattle.transactions.specs.Progresses.{works_of};
 ghost use Rattle.transactions.specs.Works.{CanDo};
 
-use crate::{PhaseNames, Act, Flow, PhaseOwner, Paused, Phase, Release};
+use crate::{Act, Flow, Paused, Phase, PhaseNames, PhaseOwner, Release};
 use rendezvous::Meeting;
 use requests::Refusal;
 use std::alloc::Global;

@@ -8,7 +8,7 @@ ghost use Rattle.transactions.specs.Acting.{IsRanBy};
 ghost use Rattle.executor.specs.ExecutorShards.{TurnsAt, WorksAt};
 ghost use Rattle.executor.specs.Released.{giving_of};
 
-use crate::{Carried, PhaseNames, Act, GivenBack, Report, Settle, Undo};
+use crate::{Act, Carried, GivenBack, PhaseNames, Report, Settle, Undo};
 use slices::Slice;
 use std::alloc::Global;
 use std::marker::Model;

@@ -9,7 +9,7 @@ ghost use Rattle.executor.specs.Transactions.{transaction_view};
 ghost use Rattle.transactions.specs.SortedOut.{found_in, held_in, refusal_of};
 
 use crate::flow::Transaction;
-use crate::{Commit, PhaseNames, Flow, PhaseOwner, Met, Paused, Release};
+use crate::{Commit, Flow, Met, Paused, PhaseNames, PhaseOwner, Release};
 use rendezvous::Results;
 use std::alloc::Global;
 use transactions::{

@@ -8,29 +8,29 @@
 //! the phase has `Met`. What follows is the next phase, or a `Commit`, or a `Release`.
 #![tactic(auto)]
 
+mod act;
+mod agreed_phase;
 mod beginning;
 mod committing;
-mod agreed_phase;
-mod act;
+mod counted_shard;
+mod flow;
 mod following;
 mod giving_back;
-mod flow;
 mod names;
 mod paused;
 mod phase;
-mod counted_shard;
-mod shards;
 mod release;
+mod shards;
 
+pub use act::{Act, Carried, Report};
+pub use agreed_phase::{AgreedPhase, OpenedPhaseAgreement, PhaseOwner, Share};
 pub use committing::Commit;
-pub use agreed_phase::{AgreedPhase, PhaseOwner, OpenedPhaseAgreement, Share};
-pub use act::{Carried, Act, Report};
+pub use counted_shard::CountedShard;
+pub use flow::Flow;
 pub use following::Following;
 pub use giving_back::{Settle, Undo};
-pub use flow::Flow;
 pub use names::PhaseNames;
 pub use paused::{Paused, Tried};
 pub use phase::{Met, Phase, Reported};
-pub use counted_shard::CountedShard;
-pub use shards::ExecutorShards;
 pub use release::{GivenBack, Release, Returns, SessionAnswer};
+pub use shards::ExecutorShards;

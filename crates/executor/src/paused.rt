@@ -8,7 +8,7 @@ ghost use Rattle.transactions.specs.Acting.{AreUndoneBy, CanAllBeUndone};
 ghost use Rattle.executor.specs.PausedView.{paused_view};
 
 use crate::following::go_on;
-use crate::{PhaseNames, Following, GivenBack, Flow, PhaseOwner, ExecutorShards, Undo};
+use crate::{ExecutorShards, Flow, Following, GivenBack, PhaseNames, PhaseOwner, Undo};
 use std::alloc::Global;
 use std::marker::Model;
 use transactions::{

@@ -4,7 +4,7 @@ ghost use Rattle.executor.specs.Phases as spec;
 ghost use Rattle.executor.specs.Phases.{AwaitsNumber};
 ghost use Rattle.executor.specs.Reports.{Reports};
 
-use crate::{PhaseNames, Flow, PhaseOwner, Report};
+use crate::{Flow, PhaseNames, PhaseOwner, Report};
 use rendezvous::Results;
 use std::marker::Model;
 use transactions::Ran;
@@ -116,9 +116,7 @@ impl<J: PhaseNames> Phase<J> {
                 meeting,
             }),
             rendezvous::Reported::Last(rans) => {
-                let Some(flow) = flow else {
-                    unreachable!()
-                };
+                let Some(flow) = flow else { unreachable!() };
                 Reported::Met(Met {
                     phase_owner,
                     flow,
@@ -130,10 +128,7 @@ impl<J: PhaseNames> Phase<J> {
 }
 
 // What is here once this has come.
-fn come_with<J: PhaseNames>(
-    own: Option<Flow<J>>,
-    before: Option<Flow<J>>,
-) -> Option<Flow<J>>
+fn come_with<J: PhaseNames>(own: Option<Flow<J>>, before: Option<Flow<J>>) -> Option<Flow<J>>
     ensures { result ≡ spec.come_with own before }
 {
     match own {

@@ -4,7 +4,7 @@ ghost use Rattle.partitions.specs.Parts.{shared_of};
 ghost use Rattle.transactions.specs.Works.{CanDo, HasDone};
 ghost use Rattle.transactions.specs.Acting.{AreUndoneBy};
 
-use crate::{PhaseNames, GivenBack, CountedShard};
+use crate::{CountedShard, GivenBack, PhaseNames};
 use schema::NoMemory;
 use std::alloc::Global;
 use tickets::Claims;

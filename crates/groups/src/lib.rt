@@ -4,6 +4,7 @@
 
 mod content;
 mod delivery;
+mod group_wants;
 mod grouping;
 mod laws;
 mod new_order;
@@ -11,13 +12,12 @@ mod order_status;
 mod payment;
 mod stock_level;
 mod wants;
-mod group_wants;
 
 pub use content::Content;
+pub use group_wants::{GroupWant, Mode, footprint};
 pub use grouping::group_of_stock;
 pub use laws::{
     contents_make_tables, each_put_changes_one_group, each_row_stands_in_one_group,
     footprints_name_each_group_once, groups_are_ordered, items_stand_in_no_group,
 };
 pub use wants::{Extent, Kind, Prefix, Want, kind_of, warehouse_of};
-pub use group_wants::{Mode, GroupWant, footprint};

@@ -3,9 +3,9 @@ use requests::{Choice, Payment, Request};
 use schema::{DistrictKey, Moment, NoMemory, Tables};
 use std::test::Fail;
 
-mod interactive;
 mod claims;
 mod footprints;
+mod interactive;
 mod lengths;
 mod pictures;
 mod places;

@@ -3,11 +3,11 @@
 //! no memory, nothing is drawn until rounds have ended quiet, after which nothing is in flight.
 use crate::asides::Aside;
 use crate::graph::{Action, actions_of};
+use crate::in_flight::{Content, Executor, Flow, Item};
 use crate::lanes::{Lanes, outside};
 use crate::phrase::Phrase;
 use crate::row::{Deed, Row, RowAnswer};
 use crate::slices::Slices;
-use crate::in_flight::{Content, Executor, Flow, Item};
 use history::{Event, Scheduled};
 use range_moves::MoveOrder;
 use requests::Request;
@@ -70,7 +70,11 @@ pub fn put_course(
 impl<'a> Course<'a> {
     fn follow(&mut self, at: usize, row: Row, schedule: &[Scheduled]) -> Result<(), NoMemory> {
         match row {
-            Row::Event { number, deed, reported } => {
+            Row::Event {
+                number,
+                deed,
+                reported,
+            } => {
                 let can_be = self.note_order(deed, reported);
                 if self.known && !(can_be && self.happen(at, number, deed, reported, schedule)?) {
                     self.known = false;

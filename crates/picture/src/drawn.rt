@@ -1,8 +1,8 @@
 //! What is drawn of a course.
 use crate::asides::Aside;
 use crate::course::Course;
-use crate::phrase::Phrase;
 use crate::in_flight::{Content, Item, Ran};
+use crate::phrase::Phrase;
 use range_moves::MoveOrder;
 use schema::NoMemory;
 

@@ -1,7 +1,7 @@
 //! The flow graphs, as far as a picture needs them: the actions of a request, where each is done, and which groups it
 //! claims.
 use crate::phrase::Phrase;
-use groups::{Mode, GroupWant, footprint, warehouse_of};
+use groups::{GroupWant, Mode, footprint, warehouse_of};
 use requests::{Group, Request};
 use schema::NoMemory;
 use std::alloc::Global;
@@ -31,7 +31,9 @@ pub fn actions_of(alloc: Global, request: &Request) -> Result<Vec<Action>, NoMem
     let mut actions: Vec<Action> = Vec::new(alloc);
     for &group_want in footprint(alloc, request)?.iter() {
         match actions.last_mut() {
-            Some(last) if last.claims_too(request, group_want) => last.claimed = last.claimed.with(group_want),
+            Some(last) if last.claims_too(request, group_want) => last.claimed = last
+                .claimed
+                .with(group_want),
             _ => actions.push(Action {
                 phase: phase_of(request, group_want.group),
                 claimed: Claimed::One(group_want),
@@ -89,7 +91,8 @@ impl Claimed {
                 one.group == group_want.group && conflict(one, group_want)
                     || other.group == group_want.group && conflict(other, group_want)
             }
-            Claimed::All(one, _) => is_beside(one.group, group_want.group) && conflict(one, group_want),
+            Claimed::All(one, _) => is_beside(one.group, group_want.group)
+                && conflict(one, group_want),
         }
     }
 }

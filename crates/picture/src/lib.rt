@@ -11,6 +11,7 @@ mod course;
 mod drawing;
 mod drawn;
 mod graph;
+mod in_flight;
 mod lanes;
 mod marks;
 mod phrase;
@@ -19,6 +20,5 @@ mod row_marks;
 mod sheet;
 mod slices;
 mod steps;
-mod in_flight;
 
 pub use drawing::write_picture;

@@ -70,11 +70,19 @@ pub enum RowAnswer {
 #[derive(Clone, Copy)]
 pub enum Row {
     /// One event. The first item of a schedule has the number 1.
-    Event { number: u64, deed: Deed, reported: RowAnswer },
+    Event {
+        number: u64,
+        deed: Deed,
+        reported: RowAnswer,
+    },
     /// Rounds begin. Their events are not shown.
-    Rounds { number: u64 },
+    Rounds {
+        number: u64,
+    },
     /// What is told of rounds.
-    InRounds { reported: RowAnswer },
+    InRounds {
+        reported: RowAnswer,
+    },
 }
 
 /// The rows of a schedule of which this is told, in order. Places that answers name are those of the log.
@@ -203,7 +211,12 @@ fn reported_of_event(log: &[Entry], answer: &EventAnswer) -> RowAnswer
     }
 }
 
-fn reported_of_answer(log: &[Entry], session: u32, number: u32, answer: &Result<u32, Refusal>) -> RowAnswer
+fn reported_of_answer(
+    log: &[Entry],
+    session: u32,
+    number: u32,
+    answer: &Result<u32, Refusal>,
+) -> RowAnswer
     ensures { result ≡ spec.reported_of_answer log.now session number answer.now }
 {
     match answer {

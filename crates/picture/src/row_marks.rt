@@ -25,9 +25,18 @@ fn put_row(marks: &mut Vec<Mark>, lanes: &Lanes, at: usize, row: Row) -> Result<
     ensures { OnOk result (marks.new.items ≡ marks.old.items ++ spec.row_marks lanes.now.sessions.items lanes.now.executors at row) }
 {
     match row {
-        Row::Event { number, deed, reported } => {
+        Row::Event {
+            number,
+            deed,
+            reported,
+        } => {
             put_number(marks, at, number, Phrase::Deed(deed))?;
-            marks.push(words(Style::Plain, lanes.reported(), at, Phrase::RowAnswer(reported)))?;
+            marks.push(words(
+                Style::Plain,
+                lanes.reported(),
+                at,
+                Phrase::RowAnswer(reported),
+            ))?;
             put_event(marks, lanes, at, deed, reported)
         }
         Row::Rounds { number } => {
@@ -36,7 +45,12 @@ fn put_row(marks: &mut Vec<Mark>, lanes: &Lanes, at: usize, row: Row) -> Result<
             Ok(())
         }
         Row::InRounds { reported } => {
-            marks.push(words(Style::Plain, lanes.reported(), at, Phrase::RowAnswer(reported)))?;
+            marks.push(words(
+                Style::Plain,
+                lanes.reported(),
+                at,
+                Phrase::RowAnswer(reported),
+            ))?;
             put_reported(marks, lanes, at, reported)
         }
     }
@@ -130,7 +144,12 @@ fn step_spot(style: Style, x: u128, at: usize, reported: RowAnswer) -> Mark
 }
 
 // Adds the signs of what is logged or answered.
-fn put_reported(marks: &mut Vec<Mark>, lanes: &Lanes, at: usize, reported: RowAnswer) -> Result<(), NoMemory>
+fn put_reported(
+    marks: &mut Vec<Mark>,
+    lanes: &Lanes,
+    at: usize,
+    reported: RowAnswer,
+) -> Result<(), NoMemory>
     ensures { OnOk result (marks.new.items ≡ marks.old.items ++ spec.reported_signs lanes.now.sessions.items lanes.now.executors at reported) }
 {
     match reported {

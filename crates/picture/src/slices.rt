@@ -2,7 +2,7 @@
 ghost use Rattle.std.specs.Prelude.{◌<◌, ◌≤◌, IsTrue};
 ghost use Rattle.range_moves.specs.Placements.{IsWarehouse};
 
-use range_moves::{Found, Placements, MoveOrder};
+use range_moves::{Found, MoveOrder, Placements};
 use routing::{MOST_EXECUTORS, Routing};
 use schema::{NoMemory, Scale};
 use std::alloc::Global;

@@ -1,7 +1,7 @@
 //! What an executor's step takes or sends, and what it puts.
 use crate::course::Course;
-use crate::row::RowAnswer;
 use crate::in_flight::{Content, Item, Parked, Ran};
+use crate::row::RowAnswer;
 use range_moves::{Found, MoveOrder};
 use schema::NoMemory;
 
@@ -201,7 +201,12 @@ impl<'a> Course<'a> {
 
     /// The first item of an outbox is sent. What has followed a phase shows by what is told of it. It gives whether it
     /// is known still what is in flight.
-    pub fn send(&mut self, at: usize, executor: u32, reported: RowAnswer) -> Result<bool, NoMemory> {
+    pub fn send(
+        &mut self,
+        at: usize,
+        executor: u32,
+        reported: RowAnswer,
+    ) -> Result<bool, NoMemory> {
         let item = match self.executors.get_mut(executor as usize) {
             Some(one) => one.outbox.pop_front(),
             None => None,
@@ -260,8 +265,12 @@ impl<'a> Course<'a> {
         match (item.content, reported) {
             (Content::Fetch { from, .. }, RowAnswer::Sent) => return self.put_in(from, item),
             (Content::Parcel { to, .. }, RowAnswer::Sent) => return self.put_in(to, item),
-            (Content::Arrival { .. }, RowAnswer::Sent) => return Ok(self.slices.report() == Some(false)),
-            (Content::Arrival { .. }, RowAnswer::Moved) => return Ok(self.slices.report() == Some(true)),
+            (Content::Arrival { .. }, RowAnswer::Sent) => return Ok(
+                self.slices.report() == Some(false),
+            ),
+            (Content::Arrival { .. }, RowAnswer::Moved) => return Ok(
+                self.slices.report() == Some(true),
+            ),
             _ => {}
         }
         let Some(flow) = self.flows.get_mut(item.flow) else {

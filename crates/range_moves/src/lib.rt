@@ -6,12 +6,12 @@
 //! takes memory but the opening.
 #![tactic(auto)]
 
-mod placement;
-mod placements;
 mod laws;
 mod order;
+mod placement;
+mod placements;
 
-pub use placement::{Found, Placement, Whereabouts};
-pub use placements::Placements;
 pub use laws::{knowing_stays, messages_follow, nothing_is_parked};
 pub use order::{MoveOrder, Moving};
+pub use placement::{Found, Placement, Whereabouts};
+pub use placements::Placements;

@@ -4,8 +4,8 @@ ghost use Rattle.routing.specs.Routes.{Routes};
 ghost use Rattle.range_moves.specs.Orders.{IsWithin, size_of};
 ghost use Rattle.range_moves.specs.Placements.{AreKept, IsPlacementOf, IsOpenedBy, IsWarehouse, fetched_from, found_by, placement_installed, placement_moved, placement_of, placement_taken, no_placement, place_of, route_of, with_placement};
 
-use crate::placement::{Found, Placement, Whereabouts};
 use crate::order::MoveOrder;
+use crate::placement::{Found, Placement, Whereabouts};
 use routing::Routing;
 use schema::{NoMemory, Scale};
 use std::alloc::Global;

@@ -11,7 +11,6 @@
 
 mod changes;
 mod cutting;
-mod undo_log;
 mod indexed;
 mod kept;
 mod laws;
@@ -19,6 +18,7 @@ mod opening;
 mod row_steps;
 mod slice;
 mod step;
+mod undo_log;
 
 pub use cutting::{cut, whole};
 pub use laws::{

@@ -25,12 +25,12 @@ ghost use Rattle.slices.specs.SliceView.{at_rest, part_in, with_waiters, HasLock
 ghost use Rattle.slices.specs.Undo.{with_order_delivered, with_order_more, with_payment_more, AreNamesAt};
 
 use crate::changes::ContentOf;
-use crate::undo_log::UndoLog;
 use crate::indexed::IndexedRows;
 use crate::row_steps::{
     AddOrder, AddPayment, DeliverOrder, PutCustomer, PutDistrict, PutStock, PutWarehouse,
 };
 use crate::step::Step;
+use crate::undo_log::UndoLog;
 use groups::Want;
 use indexes::{LatestOrders, NameIndex};
 use local_locks::{Asked, LockTable, Turn};

@@ -116,7 +116,11 @@ pub trait WrittenRecord {
 
 /// Writes the record of each item, and then the end record, to the sink. An error is as `RecordWriter` says it;
 /// after one the sink has got a beginning of their text.
-pub fn write<T: WrittenRecord, W: Write>(alloc: Global, sink: &mut W, items: &[T]) -> Result<(), FileError>
+pub fn write<T: WrittenRecord, W: Write>(
+    alloc: Global,
+    sink: &mut W,
+    items: &[T],
+) -> Result<(), FileError>
     ensures written { OnOk result (Writes (W.contents sink.old) (W.contents sink.new) (IsListing T.is_record items.now)) }
     ensures begun { OnErr result (BeginsToWrite (W.contents sink.old) (W.contents sink.new) (BeginsListing T.is_record items.now)) }
     ensures failed { IfErr result IsOfWriting }

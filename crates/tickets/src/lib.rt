@@ -24,10 +24,10 @@ pub use claim::Claim;
 pub use claims::Claims;
 pub use group_names::GroupNames;
 pub use laws::{
-    claims_elsewhere_say_nothing, claims_given_back_keep_committed, claims_record_what_is_committed,
-    commits_make_the_next_tables, exclusive_claims_are_alone, grants_keep_committed,
-    only_what_is_here_counts, order_does_not_matter, rest_is_committed, seats_record_the_tables,
-    steps_keep_committed, undos_keep_committed, writes_keep_committed,
+    claims_elsewhere_say_nothing, claims_given_back_keep_committed,
+    claims_record_what_is_committed, commits_make_the_next_tables, exclusive_claims_are_alone,
+    grants_keep_committed, only_what_is_here_counts, order_does_not_matter, rest_is_committed,
+    seats_record_the_tables, steps_keep_committed, undos_keep_committed, writes_keep_committed,
 };
 pub use log_seat::LogSeat;
 pub use log_seats::LogSeats;

@@ -5,7 +5,7 @@ ghost use Rattle.tickets.specs.Openings.{AreNamed, boxes_beside, contents_commit
 ghost use Rattle.tickets.specs.Places.{AreInPlace, IsGroupOf};
 ghost use Rattle.tickets.specs.Unset.{nothing};
 
-use crate::work::{Leaves, CommittedContent, Work};
+use crate::work::{CommittedContent, Leaves, Work};
 use crate::{GroupNames, LogSeat, LogSeats, TicketBox, group_at};
 use agreement::{Change, Seat};
 use groups::{Content, Mode};

@@ -3,7 +3,7 @@ ghost use Rattle.groups.specs.declared.group_wants.Mode.TheVariants.{Shared, Exc
 ghost use Rattle.tickets.specs.Claims.{fresh, leaving, HoldsClaim};
 ghost use Rattle.tickets.specs.Boxes.{BoxKeepsCommitted, sharing, lent, taken_back, with_left};
 
-use crate::work::{Leaves, CommittedContent, Undone, Work};
+use crate::work::{CommittedContent, Leaves, Undone, Work};
 use crate::{Claim, GroupNames};
 use agreement::{Change, Seat};
 use groups::{Content, Mode};

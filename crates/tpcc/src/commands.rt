@@ -3,7 +3,7 @@ ghost use Rattle.command_line.specs.Settings.{IsWithinLimits};
 
 use crate::meaning::Inputs;
 use crate::progress::NotingWriter;
-use crate::report::{Report, FaultReporter};
+use crate::report::{FaultReporter, Report};
 use crate::streams::STANDARD_OUTPUT;
 use crate::trouble::Trouble;
 use command_line::{Settings, Status};

@@ -4,8 +4,8 @@ ghost use Rattle.std.specs.Prelude.{None};
 
 use crate::command_fault::CommandFault;
 use crate::other_name::other_name;
-use crate::progress::Meter;
 use crate::output_files::OutputFiles;
+use crate::progress::Meter;
 use crate::trouble::Trouble;
 use std::fs::{OpenFile, OpenOptions, Permissions};
 use std::io::{ErrorKind, Stderr, Write};

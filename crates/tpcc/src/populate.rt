@@ -3,8 +3,8 @@ ghost use Rattle.tpcc.specs.Faults.{IsOfWriting};
 ghost use Rattle.tpcc.specs.Populate.{Populates, PopulateEnds};
 
 use crate::command_fault::CommandFault;
-use crate::report::Report;
 use crate::output_files::OutputFiles;
+use crate::report::Report;
 use crate::streams::name_tables;
 use command_line::{PopulateSettings, Status};
 use population::populate;

@@ -10,8 +10,8 @@ ghost use Rattle.commit_log.specs.Replay.{IsReplayOf};
 ghost use Rattle.tpcc.specs.Replay.{ReportsReplay, ReplayEnds, ReplaysSome, found_of, found_text};
 
 use crate::command_fault::CommandFault;
-use crate::report::Report;
 use crate::output_files::OutputFiles;
+use crate::report::Report;
 use crate::stopwatch::Stopwatch;
 use crate::streams::{print_lines, read_tables, write_tables};
 use crate::summary::Summary;
@@ -55,7 +55,17 @@ pub fn replay_over<
     requires { is_some tables ≡ is_some settings.now.tables }
     ensures { ReplayEnds T.contents tables settings.entry.now (D.remaining «data») (D.lasts «data») (L.remaining log) (L.lasts log) (A.contents found.old) (A.contents found.new) (N.named output_files.old) (N.named output_files.new) (E.reported errors.old) (E.reported errors.new) result }
 {
-    match replay_log(rt, alloc, settings, data, log, found, tables, output_files, errors) {
+    match replay_log(
+        rt,
+        alloc,
+        settings,
+        data,
+        log,
+        found,
+        tables,
+        output_files,
+        errors,
+    ) {
         Ok(status) => status,
         Err(fault) => errors.report(fault),
     }

@@ -11,8 +11,8 @@ ghost use Rattle.tpcc.specs.Run.{AreAllAnswers, AreAllInLog, BeginAllAnswers, Gi
 ghost use Rattle.command_line.specs.Settings.{IsRunnable};
 
 use crate::command_fault::CommandFault;
-use crate::report::Report;
 use crate::output_files::OutputFiles;
+use crate::report::Report;
 use crate::streams::{STANDARD_OUTPUT, name_printed, read_tables, write_entries, write_tables};
 use crate::summary::Summary;
 use crate::tally::Tally;
@@ -73,7 +73,18 @@ pub fn run_over<
     ensures early { IfErr result (EndsEarly (IsOfRunning S.remaining S.lasts settings.now (D.remaining «data») (D.lasts «data») scripts.old moves) (E.reported errors.old) (E.reported errors.new)) }
 {
     match run(
-        rt, alloc, settings, data, scripts, moves, answers, log, tables, output_files, watch, errors,
+        rt,
+        alloc,
+        settings,
+        data,
+        scripts,
+        moves,
+        answers,
+        log,
+        tables,
+        output_files,
+        watch,
+        errors,
     ) {
         Ok(()) => Ok(()),
         Err(fault) => Err(errors.report(fault)),
@@ -131,7 +142,15 @@ fn run<
         Err(fault) => return Err(CommandFault::of_serving(fault)),
     };
     watch.end();
-    hand_out(alloc, settings, &outcome, answers, log, tables, output_files)?;
+    hand_out(
+        alloc,
+        settings,
+        &outcome,
+        answers,
+        log,
+        tables,
+        output_files,
+    )?;
     sum_up(alloc, &watch, scripts.as_slice(), &outcome, errors);
     // The end of the process gives all rows, entries and answers back at once.
     mem::forget(outcome);
@@ -161,7 +180,13 @@ fn hand_out<'a, A: Write, F: Write + Drop, N: OutputFiles<F>>(
     let log = write_entries(alloc, settings.log, log, entries, output_files)?;
     let printed = print_answers(alloc, answers, outcome.answers.as_slice(), entries);
     name_printed(printed, log, output_files)?;
-    write_tables(alloc, settings.tables, tables, &outcome.tables, output_files)
+    write_tables(
+        alloc,
+        settings.tables,
+        tables,
+        &outcome.tables,
+        output_files,
+    )
 }
 
 // The scripts of these paths.

@@ -5,8 +5,8 @@ ghost use Rattle.tpcc.specs.Script.{GivesScale, IsNoWarehouse, IsOfMaking, Makes
 ghost use Rattle.command_line.specs.Settings.{HasFiles};
 
 use crate::command_fault::CommandFault;
-use crate::report::Report;
 use crate::output_files::OutputFiles;
+use crate::report::Report;
 use crate::streams::write_requests;
 use command_line::{ScriptSettings, Status};
 use dataset::read_scale;

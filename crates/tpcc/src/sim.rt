@@ -10,8 +10,8 @@ ghost use Rattle.command_line.specs.Settings.{HasExecutors};
 ghost use Rattle.tpcc.specs.Sim.{NamesPicture, NamesTables, Shows, ShowsSome, SimulatesAll, SimulatesSome};
 
 use crate::command_fault::CommandFault;
-use crate::report::Report;
 use crate::output_files::OutputFiles;
+use crate::report::Report;
 use crate::streams::{
     STANDARD_OUTPUT, finished, name_printed, read_tables, write_entries, write_tables,
 };
@@ -63,14 +63,31 @@ pub fn sim_over<
     ensures early { IfErr result (EndsEarly (IsOfSimulating settings.entry.now (D.remaining «data») (D.lasts «data») (S.remaining schedule) (S.lasts schedule)) (E.reported errors.old) (E.reported errors.new)) }
 {
     match sim(
-        alloc, settings, data, schedule, reported, log, picture, tables, output_files, errors,
+        alloc,
+        settings,
+        data,
+        schedule,
+        reported,
+        log,
+        picture,
+        tables,
+        output_files,
+        errors,
     ) {
         Ok(()) => Ok(()),
         Err(fault) => Err(errors.report(fault)),
     }
 }
 
-fn sim<'a, D: Input + Drop, S: Input + Drop, A: Write, F: Write + Drop, N: OutputFiles<F>, E: Report>(
+fn sim<
+    'a,
+    D: Input + Drop,
+    S: Input + Drop,
+    A: Write,
+    F: Write + Drop,
+    N: OutputFiles<F>,
+    E: Report,
+>(
     alloc: Global,
     settings: &SimSettings<'a>,
     data: D,
@@ -144,9 +161,22 @@ fn show<'a, A: Write, F: Write + Drop, N: OutputFiles<F>>(
     let printed = print_outputs(alloc, reported, outputs, entries);
     name_printed(printed, log, output_files)?;
     draw(
-        alloc, settings, picture, schedule, outputs, entries, scale, output_files,
+        alloc,
+        settings,
+        picture,
+        schedule,
+        outputs,
+        entries,
+        scale,
+        output_files,
     )?;
-    name_gathered(alloc, settings.tables, tables, &simulation.tables, output_files)
+    name_gathered(
+        alloc,
+        settings.tables,
+        tables,
+        &simulation.tables,
+        output_files,
+    )
 }
 
 // The items of the schedule of that path.

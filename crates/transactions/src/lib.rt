@@ -22,8 +22,8 @@ pub mod new_order;
 pub mod order_status;
 pub mod payment;
 mod progress;
-mod sorting;
 mod shard;
+mod sorting;
 pub mod stock_level;
 mod work;
 
@@ -33,11 +33,11 @@ pub use laws::{
     MOST_ACTIONS, accepted_requests_have_their_groups, actions_can_do_their_work,
     claims_are_of_the_footprint, phases_have_actions, reached_requests_are_accepted,
     rolled_back_claims_can_be_undone, transactions_have_few_actions, works_are_at_warehouses,
-    works_are_done_at_home, works_claim_at_home, works_have_their_groups, works_have_group_wants,
+    works_are_done_at_home, works_claim_at_home, works_have_group_wants, works_have_their_groups,
 };
 pub use listed::Listed;
 pub use logging::Logged;
 pub use progress::{Gathered, Progress};
-pub use sorting::Sorted;
 pub use shard::{Acted, Parked, Shard, Turned};
+pub use sorting::Sorted;
 pub use work::{Found, Work, home_of_request, run};

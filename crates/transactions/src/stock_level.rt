@@ -121,10 +121,12 @@ impl Work {
                 let DistrictKey { w_id, d_id } = asked.home;
                 Some(GroupWant::shared(Group::Orders { w_id, d_id }))
             }
-            Work::CountLow(asked, _) if number < STOCK_GROUPS => Some(GroupWant::shared(Group::Stock {
-                w_id: asked.home.w_id,
-                residue: number as u32,
-            })),
+            Work::CountLow(asked, _) if number < STOCK_GROUPS => Some(GroupWant::shared(
+                Group::Stock {
+                    w_id: asked.home.w_id,
+                    residue: number as u32,
+                },
+            )),
             _ => None,
         }
     }

@@ -7,7 +7,7 @@ ghost use Rattle.transactions.specs.Works as spec;
 ghost use Rattle.transactions.specs.Works.{CanDo, HasDone, home_of, wants_of, group_wants_of};
 
 use crate::{delivery, new_order, order_status, payment, stock_level};
-use groups::{Extent, Want, GroupWant};
+use groups::{Extent, GroupWant, Want};
 use requests::Request;
 use schema::NoMemory;
 use slices::Slice;

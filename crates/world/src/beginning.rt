@@ -3,7 +3,7 @@ ghost use Rattle.std.specs.Prelude.{◌≡◌, ◌≤◌, ◌+◌, ◌++◌, len
 ghost use Rattle.transactions.specs.Progresses.{works_of};
 ghost use Rattle.world.specs.Following.{acts_of};
 
-use crate::flight::{Act, Item, Flow, Message, Report};
+use crate::flight::{Act, Flow, Item, Message, Report};
 use crate::world::Parts;
 use commit_log::Names;
 use rendezvous::Meeting;

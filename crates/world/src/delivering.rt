@@ -9,7 +9,7 @@ ghost use Rattle.world.specs.Queues.{queue_of};
 ghost use Rattle.transactions.specs.Laws.{TransactionsClaimEachGroupOnce};
 ghost use Rattle.world.specs.Shards.{IsShardOf};
 
-use crate::flight::{Item, Envelope, Load, Message, Outgoing};
+use crate::flight::{Envelope, Item, Load, Message, Outgoing};
 use crate::homes::{home_of_message as home_of, is_for_slice as needs_slice};
 use crate::world::{Core, INBOX};
 use commit_log::Names;
@@ -56,7 +56,8 @@ impl<J: Names> Core<J> {
                     to,
                     load: Load::Work(message),
                 };
-                self.outboxes.put(executor as usize, Outgoing::Envelope(envelope));
+                self.outboxes
+                    .put(executor as usize, Outgoing::Envelope(envelope));
             }
             Found::Unknown => self.parked.put(message),
         }
@@ -105,7 +106,8 @@ impl<J: Names> Core<J> {
             self.inboxes.put(to, envelope);
             EventAnswer::Sent
         } else {
-            self.outboxes.put(executor as usize, Outgoing::Envelope(envelope));
+            self.outboxes
+                .put(executor as usize, Outgoing::Envelope(envelope));
             EventAnswer::Full
         }
     }

@@ -7,7 +7,7 @@ ghost use Rattle.world.specs.Events.{CanMeet, MeetsAs, goes_on};
 
 use crate::beginning::Phase;
 use crate::desk::Active;
-use crate::flight::{Commit, Item, Flow, Report, Transaction};
+use crate::flight::{Commit, Flow, Item, Report, Transaction};
 use crate::sending::Release;
 use crate::world::Parts;
 use commit_log::Names;
@@ -59,10 +59,7 @@ impl<J: Names> Parts<J> {
                 self.desk.active.put(flow.transaction.slot, Some(acting));
                 self.put_acts(flow, works);
             }
-            Err(_) => self.release(
-                Release::refused(flow.transaction, Refusal::NoMemory),
-                false,
-            ),
+            Err(_) => self.release(Release::refused(flow.transaction, Refusal::NoMemory), false),
         }
     }
 
@@ -97,9 +94,7 @@ fn sort_out<J: Names>(mut results: Results<Report<J>>, mut sorted: Sorted) -> (F
         flow,
         ran,
     } = first;
-    let Some(mut flow) = flow else {
-        unreachable!()
-    };
+    let Some(mut flow) = flow else { unreachable!() };
     sorted.sort_one(ran, &mut flow.transaction.held);
     while let Some(report) = results.next() {
         sorted.sort_one(ran_of(report), &mut flow.transaction.held);

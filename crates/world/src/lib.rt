@@ -23,15 +23,15 @@ mod playing;
 mod queue;
 mod queues;
 mod sending;
+mod shards;
 mod simulating;
 mod slots;
-mod shards;
 mod working;
 mod world;
 
 pub use desk::{Active, Desk, SessionDesk};
 pub use flight::{
-    Carried, Commit, Act, Item, Flow, Envelope, Load, Message, Outgoing, Report, SessionAnswer,
+    Act, Carried, Commit, Envelope, Flow, Item, Load, Message, Outgoing, Report, SessionAnswer,
     Transaction,
 };
 pub use opening::{OpenFault, Opening};

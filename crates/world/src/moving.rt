@@ -69,7 +69,8 @@ impl<J: Names> Core<J> {
             to,
             load: Load::Move(Moving::Parcel(w_id)),
         };
-        self.outboxes.put(executor as usize, Outgoing::Envelope(envelope));
+        self.outboxes
+            .put(executor as usize, Outgoing::Envelope(envelope));
     }
 
     // The slice of a warehouse is installed. It has arrived; and each message that was parked for it is sent to its executor, in the
@@ -90,7 +91,8 @@ impl<J: Names> Core<J> {
                     to: executor,
                     load: Load::Work(message),
                 };
-                self.outboxes.put(executor as usize, Outgoing::Envelope(envelope));
+                self.outboxes
+                    .put(executor as usize, Outgoing::Envelope(envelope));
             } else {
                 self.parked.put(message);
             }

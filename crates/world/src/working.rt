@@ -5,7 +5,7 @@ ghost use Rattle.transactions.specs.Works.{CanDo};
 ghost use Rattle.world.specs.Events.{AllTurns, Asks, CanWork, TakesMessage, report_of};
 ghost use Rattle.world.specs.Shards.{HasRoomFor, IsShardOf, slices_in, waiting_in};
 
-use crate::flight::{Carried, Act, Item, Message, Report};
+use crate::flight::{Act, Carried, Item, Message, Report};
 use crate::world::Parts;
 use commit_log::Names;
 use std::alloc::Global;

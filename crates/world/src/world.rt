@@ -10,7 +10,7 @@ ghost use Rattle.world.specs.Together.{together};
 ghost use Rattle.world.specs.Worlds.{Advances, AllDieOfOlder, AnswersWhoAsked, CannotHappen, Fits, HappenInTurn, IsAtRest, IsBusyExactly, IsNeverStuck, IsOwned, NoneDies, RecordsOfOlder, count_busy, steps_of, tables_now};
 
 use crate::desk::Desk;
-use crate::flight::{Carried, Item, Envelope, Message, Outgoing};
+use crate::flight::{Carried, Envelope, Item, Message, Outgoing};
 use crate::queue::Queue;
 use crate::queues::Queues;
 use crate::shards::{copy_whole, into_slices};

@@ -1,5 +1,5 @@
 use super::*;
-use groups::{Mode, GroupWant, footprint};
+use groups::{GroupWant, Mode, footprint};
 use requests::Group;
 
 #[test]

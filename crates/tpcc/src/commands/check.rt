@@ -2,7 +2,7 @@ use crate::check::check_over;
 use crate::meaning::Inputs;
 use crate::opening::Opener;
 use crate::progress::NotingWriter;
-use crate::report::{Report, FaultReporter};
+use crate::report::{FaultReporter, Report};
 use crate::trouble::Trouble;
 use command_line::{CheckSettings, Status};
 use std::io::{Stderr, Stdout};
@@ -17,7 +17,14 @@ pub fn carry_out<R: Files + AllocGlobal>(
 ) -> Status {
     let trouble = Trouble::new();
     let inputs = Inputs::dataset(settings.data);
-    let mut fault_reporter = FaultReporter::new(rt, stderr, settings.quiet, false, inputs, &trouble);
+    let mut fault_reporter = FaultReporter::new(
+        rt,
+        stderr,
+        settings.quiet,
+        false,
+        inputs,
+        &trouble,
+    );
     let opener = Opener::new(rt, stderr, settings.quiet, &trouble);
     match opener.open(settings.data) {
         Ok(data) => check_over(

@@ -6,7 +6,7 @@ use crate::opening::{Opener, Watched};
 use crate::output::{Folders, NewFile};
 use crate::progress::NotingWriter;
 use crate::replay::replay_over;
-use crate::report::{Report, FaultReporter};
+use crate::report::{FaultReporter, Report};
 use crate::trouble::Trouble;
 use command_line::{ReplaySettings, Status};
 use std::io::{Stderr, Stdout};

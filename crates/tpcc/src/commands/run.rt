@@ -7,7 +7,7 @@ use crate::meaning::{Format, Inputs};
 use crate::opening::{Opener, Watched};
 use crate::output::{Folders, NewFile};
 use crate::progress::NotingWriter;
-use crate::report::{Report, FaultReporter};
+use crate::report::{FaultReporter, Report};
 use crate::run::run_over;
 use crate::trouble::Trouble;
 use crate::watch::Watch;

@@ -5,7 +5,7 @@ use crate::command_fault::CommandFault;
 use crate::meaning::Inputs;
 use crate::opening::{Opener, Watched};
 use crate::output::{Folders, NewFile, make};
-use crate::report::{Report, FaultReporter};
+use crate::report::{FaultReporter, Report};
 use crate::script::script_over;
 use crate::trouble::Trouble;
 use command_line::{ScriptSettings, Status};
@@ -22,7 +22,14 @@ pub fn carry_out<R: Files + AllocGlobal>(
 {
     let trouble = Trouble::new();
     let inputs = Inputs::dataset(settings.data);
-    let mut fault_reporter = FaultReporter::new(rt, stderr, settings.quiet, false, inputs, &trouble);
+    let mut fault_reporter = FaultReporter::new(
+        rt,
+        stderr,
+        settings.quiet,
+        false,
+        inputs,
+        &trouble,
+    );
     let opener = Opener::new(rt, stderr, settings.quiet, &trouble);
     match ScriptFiles::open(&opener, settings) {
         Ok(ScriptFiles { data, scripts }) => script_over(

@@ -7,7 +7,7 @@ use crate::meaning::{Format, Inputs};
 use crate::opening::{Opener, Watched};
 use crate::output::{Folders, NewFile};
 use crate::progress::NotingWriter;
-use crate::report::{Report, FaultReporter};
+use crate::report::{FaultReporter, Report};
 use crate::sim::sim_over;
 use crate::trouble::Trouble;
 use command_line::{SimSettings, Status};
@@ -29,7 +29,14 @@ pub fn carry_out<R: Files + AllocGlobal>(
         moves: None,
         others: Format::Schedule,
     };
-    let mut fault_reporter = FaultReporter::new(rt, stderr, settings.quiet, false, inputs, &trouble);
+    let mut fault_reporter = FaultReporter::new(
+        rt,
+        stderr,
+        settings.quiet,
+        false,
+        inputs,
+        &trouble,
+    );
     let opener = Opener::new(rt, stderr, settings.quiet, &trouble);
     match SimFiles::open(&opener, settings) {
         Ok(
