@@ -16,7 +16,7 @@ pub struct Phase<J: PhaseNames> {
     pub(crate) phase_owner: PhaseOwner<J>,
     // The transaction, once it has come with the first action's report.
     pub(crate) flow: Option<Flow<J>>,
-    pub(crate) meeting: rendezvous::MetView<Ran<J>>,
+    pub(crate) meeting: rendezvous::Meeting<Ran<J>>,
 }
 
 impl<J: PhaseNames> Model for Phase<J> {
