@@ -120,22 +120,22 @@ impl<J: ServeNames, G: Gate> Engine<'_, J, G> {
     // ---- the places of sessions
 
     /// An action reports to the phase in this slot: `None` where another has not yet.
-    pub(crate) fn report(
+    pub(crate) fn collect_report(
         &self,
         rt: &impl Wait,
         slot: usize,
         report: Report<J>,
     ) -> Result<Option<Met<J>>, Unexpected> {
         match self.places.get(slot) {
-            Some(place) => place.lock(rt).report(report),
+            Some(place) => place.lock(rt).collect(report),
             None => Err(Unexpected),
         }
     }
 
     /// A phase of the transaction in this slot is in flight by messages.
-    pub(crate) fn go_on(&self, rt: &impl Wait, slot: usize, phase: Phase<J>) {
+    pub(crate) fn begin_phase(&self, rt: &impl Wait, slot: usize, phase: Phase<J>) {
         if let Some(place) = self.places.get(slot) {
-            place.lock(rt).go_on(phase);
+            place.lock(rt).set_phase(phase);
         }
     }
 
@@ -215,7 +215,7 @@ impl<J: ServeNames, G: Gate> Engine<'_, J, G> {
     }
 
     /// The session of this slot goes on with its script, at this executor.
-    pub(crate) fn advance(
+    pub(crate) fn ask_next_of(
         &self,
         rt: &impl Wait,
         alloc: Global,
@@ -225,7 +225,7 @@ impl<J: ServeNames, G: Gate> Engine<'_, J, G> {
         match self.places.get(slot) {
             Some(place) => place
                 .lock(rt)
-                .advance(alloc, &self.scale, &self.ages, slot, self.tries, executor),
+                .ask_next(alloc, &self.scale, &self.ages, slot, self.tries, executor),
             None => Err(Unexpected),
         }
     }

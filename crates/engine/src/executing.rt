@@ -142,22 +142,22 @@ impl<J: ServeNames, G: Gate, R: Wait> AtWork<'_, '_, J, G, R> {
         let Some(slot) = self.own.next_ready() else {
             return false;
         };
-        self.advance(slot);
+        self.serve_session(slot);
         true
     }
 
     // The session goes on with its script as far as it can.
-    fn advance(&mut self, slot: usize) {
+    fn serve_session(&mut self, slot: usize) {
         for _ in self.rt.forever() {
             match self
                 .engine
-                .advance(self.rt, self.alloc, slot, self.own.number)
+                .ask_next_of(self.rt, self.alloc, slot, self.own.number)
             {
                 Ok(Advanced::Answered) => self.engine.call_session(slot),
                 Ok(Advanced::Begins(first, paused)) => {
                     self.own.begun = self.own.begun.saturating_add(1);
                     self.record_asked(first);
-                    self.go_on(slot, Following::Next(paused));
+                    self.run_on(slot, Following::Next(paused));
                     return;
                 }
                 Ok(Advanced::Waits) => return,
@@ -218,7 +218,7 @@ impl<J: ServeNames, G: Gate, R: Wait> AtWork<'_, '_, J, G, R> {
             return;
         };
         if let Some(report) = shard.work(self.alloc, act) {
-            self.report(report);
+            self.take_report(report);
         }
         self.take_turns(home);
     }
@@ -262,17 +262,17 @@ impl<J: ServeNames, G: Gate, R: Wait> AtWork<'_, '_, J, G, R> {
             let Some(report) = shard.turn(self.alloc) else {
                 return;
             };
-            self.report(report);
+            self.take_report(report);
         }
     }
 
     // ---- what comes of them
 
     // An action reports to its phase. With the last report the transaction goes on.
-    fn report(&mut self, report: Report<J>) {
+    fn take_report(&mut self, report: Report<J>) {
         let slot = report.slot();
-        match self.engine.report(self.rt, slot, report) {
-            Ok(Some(met)) => self.go_on(slot, met.follow(self.alloc)),
+        match self.engine.collect_report(self.rt, slot, report) {
+            Ok(Some(met)) => self.run_on(slot, met.follow(self.alloc)),
             Ok(None) => {}
             Err(Unexpected) => self.engine.stop(),
         }
@@ -280,7 +280,7 @@ impl<J: ServeNames, G: Gate, R: Wait> AtWork<'_, '_, J, G, R> {
 
     // A transaction goes on. Phases whose warehouses are all here run straight through, one after another, while nobody is in their
     // way; any other goes by messages.
-    fn go_on(&mut self, slot: usize, following: Following<J>) {
+    fn run_on(&mut self, slot: usize, following: Following<J>) {
         let mut following = following;
         for _ in self.rt.forever() {
             match following {
@@ -298,7 +298,7 @@ impl<J: ServeNames, G: Gate, R: Wait> AtWork<'_, '_, J, G, R> {
     fn send_out(&mut self, slot: usize, paused: Paused<J>) {
         match paused.send_out(self.alloc) {
             Ok((phase, acts)) => {
-                self.engine.go_on(self.rt, slot, phase);
+                self.engine.begin_phase(self.rt, slot, phase);
                 for act in acts {
                     self.send(act.home(), Message::Act(act));
                 }

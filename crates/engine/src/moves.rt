@@ -31,7 +31,7 @@ impl<'a> Moves<'a> {
     }
 
     /// A warehouse has come to where it goes: whether it was the last one of the move.
-    pub(crate) fn report(&self) -> bool {
+    pub(crate) fn count_arrival(&self) -> bool {
         self.awaited.fetch_sub(1, Ordering::SeqCst) == 1
     }
 

@@ -54,7 +54,7 @@ impl<J: ServeNames, G: Gate, R: Wait> AtWork<'_, '_, J, G, R> {
     // A warehouse of the move that is in flight has come to where it goes. With the last one the next move begins; with the last
     // move, the executors end once all scripts are served.
     fn report_moved(&mut self) {
-        if !self.engine.moves.report() {
+        if !self.engine.moves.count_arrival() {
             return;
         }
         match self.engine.moves.begin_next() {

@@ -140,7 +140,7 @@ impl<'a, J: ServeNames> Place<'a, J> {
     // ---- transactions
 
     /// The session goes on with its next request, unless one is in flight or has still claims to give back.
-    pub(crate) fn advance(
+    pub(crate) fn ask_next(
         &mut self,
         alloc: Global,
         scale: &Scale,
@@ -156,7 +156,7 @@ impl<'a, J: ServeNames> Place<'a, J> {
         }
         let ready = match self.stage.take() {
             Some(Stage::Ready(ready)) => ready,
-            other => return self.advance_by_hand(other, executor),
+            other => return self.ask_next_interactive(other, executor),
         };
         match ready.next(alloc, scale, ages, slot, tries) {
             Next::Ready(ready) => {
@@ -177,7 +177,7 @@ impl<'a, J: ServeNames> Place<'a, J> {
     }
 
     // What the session asks interactively begins, or it asks no more. It stays at any other stage.
-    fn advance_by_hand(
+    fn ask_next_interactive(
         &mut self,
         stage: Option<Stage<'a, J>>,
         executor: u32,
@@ -215,7 +215,7 @@ impl<'a, J: ServeNames> Place<'a, J> {
     }
 
     /// An action reports: `None` where another has not yet.
-    pub(crate) fn report(&mut self, report: Report<J>) -> Result<Option<Met<J>>, Unexpected> {
+    pub(crate) fn collect(&mut self, report: Report<J>) -> Result<Option<Met<J>>, Unexpected> {
         let Some(phase) = self.phase.take() else {
             return Err(Unexpected);
         };
@@ -230,7 +230,7 @@ impl<'a, J: ServeNames> Place<'a, J> {
     }
 
     /// A phase is in flight by messages.
-    pub(crate) fn go_on(&mut self, phase: Phase<J>) {
+    pub(crate) fn set_phase(&mut self, phase: Phase<J>) {
         self.phase = Some(phase);
     }
 

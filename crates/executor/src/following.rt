@@ -44,7 +44,7 @@ impl<J: PhaseNames> Met<J> {
         let Flow { transaction, held } = flow;
         let start = Sorted::start(alloc, rans.len());
         let (held, sorted) = sort_out(rans, held, start);
-        go_on(alloc, phase_owner, transaction, held, sorted)
+        following_of(alloc, phase_owner, transaction, held, sorted)
     }
 }
 
@@ -67,7 +67,7 @@ fn sort_out<J: PhaseNames>(
 }
 
 // What follows of what came of the actions of a phase, which hold the last of these claims.
-pub(crate) fn go_on<J: PhaseNames>(
+pub(crate) fn following_of<J: PhaseNames>(
     alloc: Global,
     phase_owner: PhaseOwner<J>,
     mut transaction: Transaction<J>,

@@ -7,7 +7,7 @@ ghost use Rattle.executor.specs.AgreedPhases.{KeepsWhole};
 ghost use Rattle.transactions.specs.Acting.{AreUndoneBy, CanAllBeUndone};
 ghost use Rattle.executor.specs.PausedView.{paused_view};
 
-use crate::following::go_on;
+use crate::following::following_of;
 use crate::{ExecutorShards, Flow, Following, GivenBack, PhaseNames, PhaseOwner, Undo};
 use std::alloc::Global;
 use std::marker::Model;
@@ -114,7 +114,7 @@ impl<J: PhaseNames> Paused<J> {
                     found,
                     refusal: None,
                 };
-                Tried::Done(go_on(alloc, phase_owner, transaction, held, sorted))
+                Tried::Done(following_of(alloc, phase_owner, transaction, held, sorted))
             }
             Err(held) => {
                 let flow = Flow { transaction, held };

@@ -31,7 +31,7 @@ impl<J: Names> Parts<J> {
             progress,
         } = flow;
         match sorted.follow(alloc, progress) {
-            Ok(Gathered::Next(progress)) => self.go_on(
+            Ok(Gathered::Next(progress)) => self.begin_next_phase(
                 alloc,
                 Flow {
                     transaction,
@@ -44,7 +44,7 @@ impl<J: Names> Parts<J> {
     }
 
     // The transaction's next phase begins, unless there is no memory for it.
-    fn go_on(&mut self, alloc: Global, flow: Flow<J>)
+    fn begin_next_phase(&mut self, alloc: Global, flow: Flow<J>)
         requires room { length self.old.outbox + (MOST_ACTIONS + 1) ≤ 4096 }
         requires held { length flow.transaction.held ≤ MOST_ACTIONS }
         requires slot { flow.transaction.slot < 64 }

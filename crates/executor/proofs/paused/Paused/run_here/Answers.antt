@@ -24,9 +24,9 @@ all_done : (g : given.Over) (c : After-do_all g) (held : List (List ClaimView)) 
     → HaveDoneAtOnce (shared_of g.J.LogNames.opening) (flow_of g c).age (works_of (flow_of g c).progress) (flow_of g c).held held found
 all_done g c held found works is done = subst (λ (l : List Work). HaveDoneAtOnce (shared_of g.J.LogNames.opening) (flow_of g c).age l (flow_of g c).held held found) is done
 
-pub go_on-requires-clause-undone : goal.go_on-requires-clause-undone
-go_on-requires-clause-undone g c =
-    let at = (goal.at.go_on-requires-clause-undone g c).After-do_all in
+pub following_of-requires-clause-undone : goal.following_of-requires-clause-undone
+following_of-requires-clause-undone g c =
+    let at = (goal.at.following_of-requires-clause-undone g c).After-do_all in
     let held = c.in-Ok-do_all.held in
     let found = c.in-Ok-do_all.found.items in
     undone_at_once (shared_of g.J.LogNames.opening) (flow_of g at) held found c.flow.invariant
@@ -42,4 +42,4 @@ returns-in-Ok-do_all g c =
     let phase_owner = c.into_parts-flow.result.1 in
     let seen : paused_view phase_owner j ≡ c.args.self = λ i. paused_view (c.into_parts-flow.ensures.phase_owner i) ((c.flow.view_is ∙ c.into_parts-flow.ensures.flow) i) in
     let done = all_done g at held found _ (c.in-Ok.ensures ∙ ap (λ (m : FlowBody). works_of m.progress) c.deref.ensures) c.in-Ok-do_all.ensures.done in
-    subst (λ (p : PausedView). RunsHere shared p (Done c.go_on.result)) seen (held, found, done, c.go_on.ensures)
+    subst (λ (p : PausedView). RunsHere shared p (Done c.following_of.result)) seen (held, found, done, c.following_of.ensures)

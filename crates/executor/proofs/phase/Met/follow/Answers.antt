@@ -41,23 +41,23 @@ sort_out-held-requires-clause-room g c =
     let j = flow_of g at in
     room_then (shared_of g.J.LogNames.opening) j c.self.inside.rans c.flow.invariant (are g at) (c.transactions_have_few_actions.ensures (shared_of g.J.LogNames.opening) j.request j.progress j.held c.flow.invariant.reached)
 
-pub go_on-requires-clause-undone : goal.go_on-requires-clause-undone
-go_on-requires-clause-undone g c =
-    let at = (goal.at.go_on-requires-clause-undone g c).After-start-start in
+pub following_of-requires-clause-undone : goal.following_of-requires-clause-undone
+following_of-requires-clause-undone g c =
+    let at = (goal.at.following_of-requires-clause-undone g c).After-start-start in
     subst (λ (h : List (List ClaimView)). All (AreUndoneBy c.flow.inside.transaction.age) h) (sym c.sort_out-held.ensures.held)
     (undone_then (shared_of g.J.LogNames.opening) (flow_of g at) c.self.inside.rans c.flow.invariant (are g at))
 
-pub go_on-requires-clause-may : goal.go_on-requires-clause-may
-go_on-requires-clause-may g c =
-    let at = (goal.at.go_on-requires-clause-may g c).After-start-start in
+pub following_of-requires-clause-may : goal.following_of-requires-clause-may
+following_of-requires-clause-may g c =
+    let at = (goal.at.following_of-requires-clause-may g c).After-start-start in
     let j = flow_of g at in
     subst (λ (o : Option Refusal). IfSome o (MayBeRefused j.pass.reached j.request)) (sym c.sort_out-held.ensures.refusal)
     (may_be_refused (shared_of g.J.LogNames.opening) j c.self.inside.rans c.start-start.result.refusal c.claims_are_of_the_footprint.ensures.some c.flow.invariant (are g at) c.start-start.ensures.refusal)
 
-pub go_on-requires-clause-met : goal.go_on-requires-clause-met
-go_on-requires-clause-met g c =
+pub following_of-requires-clause-met : goal.following_of-requires-clause-met
+following_of-requires-clause-met g c =
     λ none.
-    let at = (goal.at.go_on-requires-clause-met g c).After-start-start in
+    let at = (goal.at.following_of-requires-clause-met g c).After-start-start in
     let shared = shared_of g.J.LogNames.opening in
     let j = flow_of g at in
     let met = met_under shared j c.self.inside.rans c.flow.invariant (are g at) (none_before c.start-start.result.refusal c.self.inside.rans (sym c.sort_out-held.ensures.refusal ∙ none)) in
@@ -70,7 +70,7 @@ returns g c =
     let J = g.row.J.Denot in
     let j = flow_of g at in
     let sorted = c.sort_out-held.result.1 in
-    let goes = subst (λ (h : List (List ClaimView)). FollowsUnless sorted.refusal c.self.inside.phase_owner (transaction_of j) h j.progress sorted.found.items c.go_on.result) c.sort_out-held.ensures.held c.go_on.ensures in
-    subst (λ (m : MetView J). Follows m c.go_on.result) (seen g at)
-    (follows (meeting_of g at) c.self.inside.phase_owner (whole g at) c.start-start.result.refusal sorted.refusal sorted.found.items c.go_on.result c.start-start.ensures.refusal
+    let goes = subst (λ (h : List (List ClaimView)). FollowsUnless sorted.refusal c.self.inside.phase_owner (transaction_of j) h j.progress sorted.found.items c.following_of.result) c.sort_out-held.ensures.held c.following_of.ensures in
+    subst (λ (m : MetView J). Follows m c.following_of.result) (seen g at)
+    (follows (meeting_of g at) c.self.inside.phase_owner (whole g at) c.start-start.result.refusal sorted.refusal sorted.found.items c.following_of.result c.start-start.ensures.refusal
     (sym c.sort_out-held.ensures.refusal) c.sort_out-held.ensures.found goes)

@@ -13,8 +13,8 @@ follow-requires g c =
     (sym c.sort_out-flow.ensures.refusal ∙ none) (c.sort_out-flow.ensures.found none) in
     (met.0, met.3, met.5)
 
-pub go_on-requires : goal.go_on-requires
-go_on-requires g c =
+pub begin_next_phase-requires : goal.begin_next_phase-requires
+begin_next_phase-requires g c =
     let none = c.in-Ok-Next.ensures.none in
     let found = c.sort_out-flow.result.1.found.items in
     let met = sorted_done c.args.results c.sort_out-flow.result.0 c.start-start.result.refusal found c.requires.can c.sort_out-flow.ensures.flow
@@ -43,9 +43,9 @@ returns-in-Ok-Next g c =
     let none = c.in-Ok-Next.ensures.none in
     let flow = c.sort_out-flow.result.0 in
     let found = c.sort_out-flow.result.1.found.items in
-    meets_next c.args.results flow c.start-start.result.refusal found c.in-Ok-Next.progress c.args.self.now c.go_on.new.self c.sort_out-flow.ensures.flow
+    meets_next c.args.results flow c.start-start.result.refusal found c.in-Ok-Next.progress c.args.self.now c.begin_next_phase.new.self c.sort_out-flow.ensures.flow
     (sym c.sort_out-flow.ensures.refusal ∙ none) (c.sort_out-flow.ensures.found none)
-    (subst (λ (one : Gathered). FollowsFrom flow.progress found one) c.in-Ok-Next.field-0-is c.in-Ok-Next.ensures.gathered) c.go_on.ensures
+    (subst (λ (one : Gathered). FollowsFrom flow.progress found one) c.in-Ok-Next.field-0-is c.in-Ok-Next.ensures.gathered) c.begin_next_phase.ensures
 
 pub returns-in-Ok-Finish : goal.returns-in-Ok-Finish
 returns-in-Ok-Finish g c =

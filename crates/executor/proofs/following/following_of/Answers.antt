@@ -14,7 +14,7 @@ use Rattle.executor.specs.Followed.{FollowsUnless}
 use Rattle.executor.specs.Transactions.{TransactionView, transaction_view}
 use Rattle.executor.proofs.Onward.{finished, has_found, next_reached}
 use Rattle.executor.proofs.Refusals.{may_in_the_end}
-use Rattle.executor.proofs.following.go_on.Goals as goal
+use Rattle.executor.proofs.following.following_of.Goals as goal
 
 pub follow-requires : goal.follow-requires
 follow-requires g c =

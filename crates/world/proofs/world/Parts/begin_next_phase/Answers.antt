@@ -4,7 +4,7 @@ use Rattle.transactions.specs.Progresses.{works_of}
 use Rattle.world.specs.declared.desk.Active.{Active}
 use Rattle.world.specs.declared.desk.Active.TheVariants.{Acting}
 use Rattle.world.specs.Following.{acts_of, putting, releasing}
-use Rattle.world.proofs.world.Parts.go_on.Goals as goal
+use Rattle.world.proofs.world.Parts.begin_next_phase.Goals as goal
 
 pub put_acts-requires-clause-room : goal.put_acts-requires-clause-room
 put_acts-requires-clause-room g c =
