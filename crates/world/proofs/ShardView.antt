@@ -135,7 +135,7 @@ module _ {J : Type 0} (old new : Parts J) (are : AreSlicesOf old.catalog (slices
         ap (joined shared) changed ∙ joined_rewaited shared waiters was slices place ∙ ap (joined shared) back,
       )
 
--- the claims on the groups of a station's warehouse are those of all slices on them
+-- the claims on the groups of a shard's warehouse are those of all slices on them
 pub stands_among : {J : Type 0} (w : Parts J) → AreSlicesOf w.catalog (slices_in w) → (s : ShardView (Carried J)) → Contains w.shards.items s → (joined_in w).holdings s.slice.home ≡ s.slice.holdings
 stands_among w are s is =
     let place = is.0 in

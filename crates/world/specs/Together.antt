@@ -36,7 +36,7 @@ module _ {J : Type 0} where
 
   -- ---- what a world keeps
 
-  -- All that is in flight is sound, with the queues as one; each station's lock table has just those who wait there, and all of
+  -- All that is in flight is sound, with the queues as one; each shard's lock table has just those who wait there, and all of
   -- them have to; each executor has its inbox, with envelopes to it alone, and its outbox; the slices and what goes to them are where
   -- they should be; and nothing is in hand.
   pub record IsSound (shared : SharedTables) (w : Core J) : Type 0 where
