@@ -1,6 +1,6 @@
 """Passes the tests: ./gate.sh [--anew] [--whole] [--record NAME]
 
-First come the definitions that documents quote and list, a look at crates.txt, and one at each wrong program. Then `rt ci` proves every
+First come the definitions that documents quote, a look at crates.txt, and one at each wrong program. Then `rt ci` proves every
 crate and its tests from nothing, and runs the tests and the stored run; where it keeps what it has proved, the longest
 chain of crates goes first. Beside it, over what it has built so far, the prover has to refuse the wrong programs of
 must-fail/, each at the function that it names. Last, all scenarios are run by the program that was proved, and each of
@@ -183,8 +183,6 @@ def passes(what, *words):
 def run(anew, whole):
     """Runs all parts, up to the first that fails. Returns how many passed and failed."""
     if not passes("the definitions that the documents quote", "docs/quotes.py"):
-        return 0, 1
-    if not passes("the definitions that the documents list", "docs/definitions.py"):
         return 0, 1
     say("that crates.txt is lowest first, and that each wrong program turns what it names")
     faults = misplaced() + [f"crates/{it}: {it.fault}" for it in edits_of(ROOT, crates(), KINDS) if it.fault]
