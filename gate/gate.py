@@ -199,7 +199,7 @@ def run(anew, whole):
         shutil.copy(f"{room}/{PROGRAM}", f"{ROOT}/{PROGRAM}")
     if failed:
         return passed, failed
-    failed += not passes("part 2 of 3: all scenarios by the program that was proved", "scenarios/run", "--program", PROGRAM)
+    failed += not passes("part 2 of 3: all scenarios by the program that was proved", "scenarios/scenarios.py", "--program", PROGRAM)
     failed += not passes("part 3 of 3: each allocation of that program refused in turn", "gate/allocations.py", PROGRAM)
     return passed, failed
 

@@ -1,11 +1,12 @@
 #!/usr/bin/env python3
 """Runs the scenarios by the program `tpcc`, and compares what it prints and writes with what is expected.
 
-    scenarios/run [--program PATH] [--accept] [NAME ...]
+    ./dev scenarios [--program PATH] [--accept] [NAME ...]
 
-Without `--program` the program is first built without its proofs, which takes a minute or two; it is slow, so each
-scenario is run once, also where it is to be run several times. Without names all scenarios are run. README.md beside
-this file tells what is in a scenario's folder.
+A name is that of a scenario, as sim/full_inbox, or that of a folder, as sim, for all scenarios in it; without names all
+scenarios are run. Without `--program` the program is first built without its proofs, which takes a minute or two; it is
+slow, so each scenario is run once, also where it is to be run several times. scenarios/README.md tells what is in a
+scenario's folder.
 """
 import argparse
 import pathlib
@@ -16,7 +17,7 @@ import sys
 import tempfile
 
 sys.dont_write_bytecode = True
-from scenario import HERE, TOP, Mistake, Scenario, commands_of, lines_of, write_lines  # noqa: E402
+from scenario import HERE, TOP, Mistake, Scenario, commands_of, lines_of, name_of, write_lines  # noqa: E402
 
 DOCUMENTS = [TOP / "README.md", *sorted((TOP / "docs").glob("*.md")), TOP / "examples" / "README.md"]
 
@@ -80,6 +81,11 @@ def run_unproved(scenarios, folder):
 # ---- All of it ------------------------------------------------------------------------------------------------
 
 
+def names_of(path):
+    """The names by which a scenario can be asked for: its own, and that of the folder in which it is."""
+    return {name_of(path), path.parent.name}
+
+
 def missing_commands(paths):
     """The commands that a document gives and no scenario runs."""
     known = {" ".join(run.words) for path in paths for run in commands_of(path)[1]}
@@ -90,25 +96,27 @@ def missing_commands(paths):
 
 
 def main():
-    parser = argparse.ArgumentParser(description="Runs the scenarios, and compares what comes with what is expected.")
+    told = "Runs the scenarios, and compares what comes with what is expected."
+    parser = argparse.ArgumentParser(prog="dev scenarios", description=told)
     parser.add_argument("--program", metavar="PATH", help="a built program; without it one is built without proofs")
     parser.add_argument("--accept", action="store_true", help="write what comes of the named scenarios as expected")
-    parser.add_argument("names", metavar="NAME", nargs="*", help="the scenarios to run; all, where none is named")
+    named = "the scenarios to run, as sim/full_inbox, or a folder of them, as sim; all, where none is named"
+    parser.add_argument("names", metavar="NAME", nargs="*", type=lambda name: name.rstrip("/"), help=named)
     settings = parser.parse_args()
     # A shell that starts this in the background has it ignore Ctrl-C, and so would the program that it starts.
     signal.signal(signal.SIGINT, signal.default_int_handler)
-    paths = sorted(path.parent for path in HERE.glob("*/commands"))
-    unknown = set(settings.names) - {path.name for path in paths}
+    paths = sorted(path.parent for path in HERE.glob("*/*/commands"))
+    unknown = set(settings.names) - {name for path in paths for name in names_of(path)}
     if unknown or settings.accept and not settings.names:
         parser.error(f"no such scenario: {', '.join(sorted(unknown))}" if unknown else "--accept takes names")
     if settings.program and not pathlib.Path(settings.program).is_file():
         parser.error(f"no such program: {settings.program}")
-    chosen = [path for path in paths if not settings.names or path.name in settings.names]
+    chosen = [path for path in paths if not settings.names or names_of(path) & set(settings.names)]
     if not settings.program:
         left = [path for path in chosen if any(run.needs_program() for run in commands_of(path)[1])]
         chosen = [path for path in chosen if path not in left]
         for path in left:
-            say(f"{path.name} takes a built program, by --program, and is left out")
+            say(f"{name_of(path)} takes a built program, by --program, and is left out")
 
     with tempfile.TemporaryDirectory(prefix="scenarios-") as room:
         room = pathlib.Path(room)
@@ -116,9 +124,9 @@ def main():
         for path in chosen:
             for time in range(commands_of(path)[0] if settings.program else 1):
                 try:
-                    scenarios.append(Scenario(path, room / path.name / str(time)))
+                    scenarios.append(Scenario(path, room / name_of(path) / str(time)))
                 except Mistake as mistake:
-                    failed[path.name] = mistake
+                    failed[name_of(path)] = mistake
         say(f"{len(chosen)} scenarios, {sum(len(scenario.runs) for scenario in scenarios)} runs of the program")
         if settings.program:
             run_program(str(pathlib.Path(settings.program).resolve()), scenarios)
