@@ -1,4 +1,4 @@
-"""Passes the tests: ./gate.sh [--anew] [--whole] [--record NAME]
+"""Passes the tests: ./dev gate [--anew] [--whole] [--record NAME]
 
 First come the definitions that documents quote and list, and a look at each wrong program. Then `rt ci` proves every
 crate and its tests from nothing, and runs the tests and the stored run; where it keeps what it has proved, the longest
@@ -211,7 +211,7 @@ def commit():
 
 
 def main():
-    words = argparse.ArgumentParser(prog="gate.sh", description=__doc__, formatter_class=argparse.RawDescriptionHelpFormatter)
+    words = argparse.ArgumentParser(prog="dev gate", description=__doc__, formatter_class=argparse.RawDescriptionHelpFormatter)
     words.add_argument("--anew", action="store_true", help="do also what the toolchain keeps of earlier runs on this machine")
     words.add_argument("--whole", action="store_true", help="have the prover refuse the further wrong programs too")
     words.add_argument("--record", metavar="NAME", help="write the costs of this run into docs/COSTS.md under this name")
