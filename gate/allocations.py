@@ -33,7 +33,7 @@ REQUESTS = [
     f"D,1,7,{MOMENT}",
 ]
 # A schedule in which an action of an order waits for a younger reader.
-WAITING = f"{ROOT}/scenarios/an_order_waits_for_a_younger_reader/schedule.csv"
+WAITING = f"{ROOT}/scenarios/sim/new_order_waits/schedule.csv"
 # The name under which the log is written.
 OTHER_NAME = "log.csv.tpcc-0"
 AT_ONCE = 4 * (os.cpu_count() or 1)

@@ -1,4 +1,4 @@
-"""Passes the tests: ./gate.sh [--anew] [--whole] [--record NAME]
+"""Passes the tests: ./dev gate [--anew] [--whole] [--record NAME]
 
 First come the definitions that documents quote, a look at crates.txt, and one at each wrong program. Then `rt ci` proves every
 crate and its tests from nothing, and runs the tests and the stored run; where it keeps what it has proved, the longest
@@ -212,7 +212,7 @@ def run(anew, whole):
         shutil.copy(f"{room}/{PROGRAM}", f"{ROOT}/{PROGRAM}")
     if failed:
         return passed, failed
-    failed += not passes("part 2 of 3: all scenarios by the program that was proved", "scenarios/run", "--program", PROGRAM)
+    failed += not passes("part 2 of 3: all scenarios by the program that was proved", "scenarios/scenarios.py", "--program", PROGRAM)
     failed += not passes("part 3 of 3: each allocation of that program refused in turn", "gate/allocations.py", PROGRAM)
     return passed, failed
 
@@ -224,7 +224,7 @@ def commit():
 
 
 def main():
-    words = argparse.ArgumentParser(prog="gate.sh", description=__doc__, formatter_class=argparse.RawDescriptionHelpFormatter)
+    words = argparse.ArgumentParser(prog="dev gate", description=__doc__, formatter_class=argparse.RawDescriptionHelpFormatter)
     words.add_argument("--anew", action="store_true", help="do also what the toolchain keeps of earlier runs on this machine")
     words.add_argument("--whole", action="store_true", help="have the prover refuse the further wrong programs too")
     words.add_argument("--record", metavar="NAME", help="write the costs of this run into docs/COSTS.md under this name")

@@ -236,6 +236,11 @@ def read_terminal(master):
         told += more
 
 
+def name_of(path):
+    """The name of the scenario in that folder, as sim/full_inbox."""
+    return f"{path.parent.name}/{path.name}"
+
+
 def commands_of(path):
     """How often the scenario is run, by the line `times N` if there is one, and its commands."""
     lines = [line for line in lines_of(path / "commands") if line and not line.startswith("#")]
@@ -256,7 +261,7 @@ class Scenario:
     """A scenario that is run once, in a folder of its own, to which all files are copied that its commands name."""
 
     def __init__(self, path, folder):
-        self.path, self.folder, self.name = path, folder, path.name
+        self.path, self.folder, self.name = path, folder, name_of(path)
         self.runs = commands_of(path)[1]
         folder.mkdir(parents=True)
         for run in self.runs:

@@ -1,0 +1,153 @@
+#!/usr/bin/env python3
+"""Runs the scenarios by the program `tpcc`, and compares what it prints and writes with what is expected.
+
+    ./dev scenarios [--program PATH] [--accept] [NAME ...]
+
+A name is that of a scenario, as sim/full_inbox, or that of a folder, as sim, for all scenarios in it; without names all
+scenarios are run. Without `--program` the program is first built without its proofs, which takes a minute or two; it is
+slow, so each scenario is run once, also where it is to be run several times. scenarios/README.md tells what is in a
+scenario's folder.
+"""
+import argparse
+import pathlib
+import re
+import signal
+import subprocess
+import sys
+import tempfile
+
+sys.dont_write_bytecode = True
+from scenario import HERE, TOP, Mistake, Scenario, commands_of, lines_of, name_of, write_lines  # noqa: E402
+
+DOCUMENTS = [TOP / "README.md", *sorted((TOP / "docs").glob("*.md")), TOP / "examples" / "README.md"]
+
+# How a document gives a command.
+DOCUMENTED = "crates/tpcc/out/tpcc "
+
+# Beside other work a command may get little of a processor.
+MOST_SECONDS = 600
+
+
+def say(text):
+    print("scenarios: " + text, flush=True)
+
+
+# ---- The program ----------------------------------------------------------------------------------------------
+
+
+def run_program(program, scenarios):
+    """Runs all commands by that program."""
+    for scenario in scenarios:
+        for run in scenario.runs:
+            run.carry_out(program, scenario.folder, MOST_SECONDS)
+
+
+def run_unproved(scenarios, folder):
+    """Builds the program without its proofs, and runs all commands by it, in turn."""
+    runs = {}
+    (folder / "cases").mkdir()
+    for scenario in scenarios:
+        for run in scenario.runs:
+            case = f"{len(runs):05}"
+            runs[case] = run
+            write_lines(folder / "cases" / case, [])
+            write_lines(folder / "cases" / f"{case}.args", run.words_in(scenario.folder) + [""])
+    say("building the program without its proofs, which takes a minute or two")
+    words = ["rt", "try", "--seconds", str(MOST_SECONDS), "--cases", str(folder / "cases")]
+    with open(folder / "printed", "wb") as printed:
+        building = subprocess.Popen(words, cwd=TOP / "crates" / "tpcc", stdout=printed, stderr=subprocess.PIPE)
+        told, ended = [], 0
+        for line in building.stderr:
+            told.append(line.decode("latin-1"))
+            case = re.match(r"case=(\d+) run=(\S+)(?: (status)=(\d+))?", told[-1])
+            if case is None:
+                continue
+            run = runs[case[1]]
+            run.told = "".join(told[:-1])
+            run.status = f"status {case[4]}" if case[2] == "ended" else told[-1].rstrip("\n")
+            told, ended = [], ended + 1
+            if ended % 100 == 0:
+                say(f"{ended} of {len(runs)} commands have run")
+        building.wait()
+    if ended != len(runs):
+        sys.exit("scenarios: not every command was run:\n" + "".join(told))
+    for line in (folder / "printed").read_bytes().decode("latin-1").splitlines(keepends=True):
+        if line.startswith("== "):
+            run = runs[line[3:].rstrip("\n")]
+        else:
+            run.printed += line
+
+
+# ---- All of it ------------------------------------------------------------------------------------------------
+
+
+def names_of(path):
+    """The names by which a scenario can be asked for: its own, and that of the folder in which it is."""
+    return {name_of(path), path.parent.name}
+
+
+def missing_commands(paths):
+    """The commands that a document gives and no scenario runs."""
+    known = {" ".join(run.words) for path in paths for run in commands_of(path)[1]}
+    for document in DOCUMENTS:
+        for line in lines_of(document):
+            if line.startswith(DOCUMENTED) and line.removeprefix(DOCUMENTED) not in known:
+                yield f"{document.relative_to(TOP)} gives a command that no scenario runs: {line}"
+
+
+def main():
+    told = "Runs the scenarios, and compares what comes with what is expected."
+    parser = argparse.ArgumentParser(prog="dev scenarios", description=told)
+    parser.add_argument("--program", metavar="PATH", help="a built program; without it one is built without proofs")
+    parser.add_argument("--accept", action="store_true", help="write what comes of the named scenarios as expected")
+    named = "the scenarios to run, as sim/full_inbox, or a folder of them, as sim; all, where none is named"
+    parser.add_argument("names", metavar="NAME", nargs="*", type=lambda name: name.rstrip("/"), help=named)
+    settings = parser.parse_args()
+    # A shell that starts this in the background has it ignore Ctrl-C, and so would the program that it starts.
+    signal.signal(signal.SIGINT, signal.default_int_handler)
+    paths = sorted(path.parent for path in HERE.glob("*/*/commands"))
+    unknown = set(settings.names) - {name for path in paths for name in names_of(path)}
+    if unknown or settings.accept and not settings.names:
+        parser.error(f"no such scenario: {', '.join(sorted(unknown))}" if unknown else "--accept takes names")
+    if settings.program and not pathlib.Path(settings.program).is_file():
+        parser.error(f"no such program: {settings.program}")
+    chosen = [path for path in paths if not settings.names or names_of(path) & set(settings.names)]
+    if not settings.program:
+        left = [path for path in chosen if any(run.needs_program() for run in commands_of(path)[1])]
+        chosen = [path for path in chosen if path not in left]
+        for path in left:
+            say(f"{name_of(path)} takes a built program, by --program, and is left out")
+
+    with tempfile.TemporaryDirectory(prefix="scenarios-") as room:
+        room = pathlib.Path(room)
+        scenarios, failed = [], {}
+        for path in chosen:
+            for time in range(commands_of(path)[0] if settings.program else 1):
+                try:
+                    scenarios.append(Scenario(path, room / name_of(path) / str(time)))
+                except Mistake as mistake:
+                    failed[name_of(path)] = mistake
+        say(f"{len(chosen)} scenarios, {sum(len(scenario.runs) for scenario in scenarios)} runs of the program")
+        if settings.program:
+            run_program(str(pathlib.Path(settings.program).resolve()), scenarios)
+        else:
+            run_unproved(scenarios, room)
+
+        for scenario in scenarios:
+            try:
+                scenario.accept() if settings.accept else scenario.compare()
+            except (Mistake, OSError, ValueError, IndexError) as mistake:
+                failed.setdefault(scenario.name, mistake)
+    for name, mistake in failed.items():
+        say(f"{name}: {mistake}")
+    missing = list(missing_commands(paths))
+    for told in missing:
+        say(told)
+    if failed or missing:
+        say(f"{len(failed)} of {len(chosen)} scenarios failed")
+        sys.exit(1)
+    say(f"all {len(chosen)} scenarios went as expected")
+
+
+if __name__ == "__main__":
+    main()
