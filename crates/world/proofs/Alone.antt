@@ -380,7 +380,7 @@ one_slot slots i j x y one here there =
     let still : slice_get (slice_set slots i None) j ≡ Some (Some y) = get_other slots i j None other ∙ there in
     absurd (omega (arith, one, taken_counts slots i x here, taken_counts (slice_set slots i None) j y still)))
 
--- reports of those who have run tell of no death, where none has died
+-- the reports of actions that have run are of no death if none has died
 module _ {J : Type 0} (shared : SharedTables) (old : Core J) (h : IsSound shared old) (alone : count_active old.parts.desk.active ≡ 1) where
   abbrev all : Parts J
   all = together old

@@ -142,7 +142,7 @@ module _ {J : Type 0} where
 
   -- ---- a message is worked on
 
-  -- these items are put, and tell of whom actions died
+  -- these items are put, and report of which transactions actions died
   abbrev PutsRecording : Parts J → Parts J → Type 0
   PutsRecording old new = (put : List (Item J)) × ((new.outbox ≡ old.outbox ++ put) × All (RecordsOfHolder (joined_in new)) put)
 
@@ -238,7 +238,7 @@ module _ {J : Type 0} where
 
   -- ---- the event
 
-  -- what is told in a world, where a history fits it
+  -- what is reported in a world that a history fits
   module _ (opening : Database) (history : List Step) (shared : SharedTables) (w : Parts J) (f : Fits opening history w) (h : IsSoundWith shared nothing w) where
     recorded_at : (i : Item J) → Contains w.outbox i → RecordsOfHolder (joined_in w) i → RecordsWhom history w h.in_flight i
     recorded_at (item.Push m) there of = tt

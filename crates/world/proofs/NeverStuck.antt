@@ -41,7 +41,7 @@ use Rattle.world.proofs.Tokens.{by_bool}
 use Rattle.world.proofs.Holders.{active_awaits, claim_of, contains_mapped, counted_in, empty_of, holder_active, mapped_contains, whose_token}
 use Rattle.world.proofs.Reported.{met_tokens}
 
--- ---- who waits is older than whom it waits for
+-- ---- a waiting action is older than those it waits for
 
 module _ {J : Type 0} where
   pub older : (w : Parts J) → All HaveToWait w.shards.items → (t u : ℕ) → WaitsFor w t u → t < u
@@ -101,7 +101,7 @@ module _ {J : Type 0} where
     abbrev at : ActiveTransactions
     at = h.all.in_flight
 
-    -- what is in flight is with who waits, or has met
+    -- what is in flight belongs to a waiting action or has met
     tokens_are : (weight : Token → ℕ) → sum_by weight (parts part_message waiting).tokens ≡ sum_by weight (awaited_by_all 0 all.desk.active)
     tokens_are weight =
         let met = parts part_met (reported_to_all all.desk.active) in
@@ -142,7 +142,7 @@ module _ {J : Type 0} where
         subst (Waits w.parts) (sym holder.1.1.1)
         (slot_waits slot (omega (arith, some, awaited_of (weigh_slots (of_slot slot)) slot all.desk.active (Some holder.1.0) holder.1.1.0)))
 
-    -- who waits, waits for somebody younger who waits too
+    -- a waiting action waits for a younger one that waits too
     younger_waits : (n : ℕ) → Waits w.parts n → (m : ℕ) × ((n < m) × Waits w.parts m)
     younger_waits n waits =
         let s = waits.0 in

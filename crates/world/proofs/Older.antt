@@ -440,7 +440,7 @@ module _ {J : Type 0} (shared : SharedTables) (w : Parts J) (h : IsSoundWith sha
                 let one = whose_token part_message weight w.inbox (omega (arith, more)) in
                 message_leads first phase.first_is one.0 (All-contains (IsSoundMessage shared at) w.inbox one.0 h.inbox one.1.0) one.1.1 (λ x has. in_first one.0 x one.1.0 has)
 
-  -- so its history tells its age and its request
+  -- so its history records its age and its request
   pub accepted_as : (opening : Database) (history : List Step) → Fits opening history w → (slot : ℕ) → IsActing slot → WasAccepted history (at slot).age (at slot).request
   accepted_as opening history f slot acting =
       let lead = leads slot acting in
@@ -522,7 +522,7 @@ module _ {J : Type 0} (shared : SharedTables) (w : Parts J) (h : IsSoundWith sha
         not_own claim.0 claim.1.0 (ap (λ (x : HeldClaim). x.by.age) claim.1.1 ∙ on.by ∙ same)
         (subst (λ (g : Group). Contains (groups_of (group_wants_of act.work)) g) (sym (ap (λ (x : HeldClaim). x.group) claim.1.1 ∙ on.on)) on.group_wanted))
 
-    -- what an action holds once it has run is of its request's footprint, as the history tells
+    -- what an action holds once it has run is of its request's footprint, as the history records
     pub ran_claimed : (opening : Database) (history : List Step) → Fits opening history w → (was now : SliceView) (one : Ran J) → IsRan (holder_of act) was act.work one now → All (IsClaimOf history) (claims_of_ran one)
     ran_claimed opening history f was now (ran.Died group holder) of = All-nil (IsClaimOf history)
     ran_claimed opening history f was now ran.NoMemory of = All-nil (IsClaimOf history)

@@ -36,7 +36,7 @@ all_claims-append [] others = refl
 all_claims-append (claims ∷ some) others =
     ap (λ cs. claims ++ cs) (all_claims-append some others) ∙ sym (append_assoc claims (all_claims some) (all_claims others))
 
--- what stands in a list once one element is put in it: that one, or what stood there
+-- an element of a list after one is set: the new one, or one that was there
 pub put_at : {X : Type 0} (xs : List X) (k i : ℕ) (x y : X) → slice_get (slice_set xs k x) i ≡ Some y → ((i ≡ k) × (x ≡ y)) ⊎ (slice_get xs i ≡ Some y)
 put_at [] k i x y is = absurd (cc)
 put_at (z ∷ xs) zero zero x y is = inl (refl, cc)

@@ -36,7 +36,7 @@ first_left (x ∷ left) others m rest some is =
     (left, ((λ k. head k ∷ left), tail))
 
 module _ {J : Type 0} where
-  -- what is posted, and then more, is posted together
+  -- appending to an outbox twice is appending both together
   outgoing_twice : (executor : ℕ) (some more : List (Outgoing J)) (w : Core J) → executor < length w.outboxes → posting executor more (posting executor some w) ≡ posting executor (some ++ more) w
   outgoing_twice executor some more w there = ap (λ (qs : List (List (Outgoing J))). record w { outboxes = qs }) (put_twice executor some more w.outboxes there)
 

@@ -21,7 +21,7 @@ use Rattle.world.specs.Shards.{part_of, slice_of, slices_in}
 use Rattle.world.proofs.Parted.{all_keep, shared_is, there}
 use Rattle.world.proofs.Tokens.{IsFalse, by_bool}
 
--- ---- who waits in a slice is nothing to the rows and the claims
+-- ---- the waiting actions of a slice do not affect its rows and claims
 
 -- what a slice keeps of another, it keeps whoever waits
 keeps_rewaited : (waiters : List WaitingAction) (before after : List ClaimView) (old new : SliceView) → SliceKeeps before (with_waiters waiters old) after new → SliceKeeps before old after (with_waiters old.waiters new)
@@ -122,7 +122,7 @@ module _ {J : Type 0} (old new : Parts J) (are : AreSlicesOf old.catalog (slices
             (subst (SlicesKeep before (joined_in old) after) same both.1),
       )
 
-  -- and where the slice is as it was, but for who waits, all are
+  -- and if a slice is unchanged but for its waiting actions, all are
   pub stays_on : (waiters : List WaitingAction) → now ≡ with_waiters waiters was → AreSlicesOf old.catalog (slices_in new) × (joined old.catalog (slices_in new) ≡ joined_in old)
   stays_on waiters same =
       let shared = old.catalog in
@@ -135,7 +135,7 @@ module _ {J : Type 0} (old new : Parts J) (are : AreSlicesOf old.catalog (slices
         ap (joined shared) changed ∙ joined_rewaited shared waiters was slices place ∙ ap (joined shared) back,
       )
 
--- the claims on the groups of a station's warehouse are those of all slices on them
+-- the claims on the groups of a shard's warehouse are those of all slices on them
 pub stands_among : {J : Type 0} (w : Parts J) → AreSlicesOf w.catalog (slices_in w) → (s : ShardView (Carried J)) → Contains w.shards.items s → (joined_in w).holdings s.slice.home ≡ s.slice.holdings
 stands_among w are s is =
     let place = is.0 in

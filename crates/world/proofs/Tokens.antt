@@ -1,4 +1,4 @@
--- What the tokens that are in flight tell of the active transactions.
+-- What follows about the active transactions from the tokens in flight.
 use Rattle.std.proofs.Common.{◌≡◌, ℕ, ◌+◌, ◌-◌, ◌≤◌, ◌==◌, zero, suc, Bool, true, false, List, [], ◌∷◌, Option, Some, None, replicate, refl, sym, ◌∙◌, ap, subst, cond, arith}
 use Rattle.std.specs.Prelude.{map}
 use Rattle.std.specs.List.{sum_by, slice_get}
@@ -12,7 +12,7 @@ use Rattle.world.specs.declared.flight.Report.{Report}
 use Rattle.world.specs.Flights.{Token, Acting, Committing, Ending}
 use Rattle.world.specs.Sound.{WeighAlike, awaited, awaited_by_all}
 
--- what the two answers of a test are told apart by
+-- the test is false
 abbrev pub IsFalse : Bool → Type 0
 IsFalse true = ⊥
 IsFalse false = Unit {0}

@@ -104,7 +104,7 @@ module _ {J : Type 0} where
           outboxes = new.outboxes;
         }
 
-  -- ---- what stands in an outbox is sent
+  -- ---- an outbox entry is sent
 
   -- The envelope is appended to the inbox of its executor, and nothing more is to be sent; or no inbox changes, and the
   -- envelope is to be sent again.

@@ -14,7 +14,7 @@ use Rattle.world.specs.declared.flight.Message.TheVariants.{Start, Act, Settle, 
 use Rattle.world.specs.declared.flight.Outgoing.{Outgoing}
 use Rattle.world.specs.declared.flight.Outgoing.TheVariants as outgoing
 
--- ---- whose each message is
+-- ---- the home of a message
 
 module _ {J : Type 0} where
   -- The warehouse by which a message finds its executor. The start of a transaction goes to its request's warehouse.

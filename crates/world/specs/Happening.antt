@@ -242,7 +242,7 @@ module _ {J : Type 0} where
   TakesFirst executor [] old answer new = StaysAs Nothing old answer new
   TakesFirst executor (l ∷ rest) old answer new = (answer ≡ Took) × Opens executor l.load (record old { inboxes = slice_set old.inboxes executor rest }) new
 
-  -- ---- what stands in an outbox is sent
+  -- ---- an outbox entry is sent
 
   -- An envelope is appended to its executor's inbox, or, if that has 1,024, put back at the end of the outbox.
   abbrev pub Delivers : Bool → ℕ → Envelope J → Core J → EventAnswer → Core J → Type 0

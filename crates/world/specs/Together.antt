@@ -34,7 +34,7 @@ module _ {J : Type 0} where
   abbrev pub IsLocated : Core J → Type 0
   IsLocated w = IsLocatedWith 0 w.placements (going_in (envelopes_of_all w)) (sent_in (envelopes_of_all w)) (arrived_in w) (map home_of_message w.parked)
 
-  -- ---- what a world keeps
+  -- ---- a world's invariant
 
   -- With the queues as one, everything in flight is sound. The lock table of each shard has exactly the actions that wait
   -- there, and each of them has to wait. Each executor has an inbox, with envelopes to it alone, and an outbox. Slices and the

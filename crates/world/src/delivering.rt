@@ -75,7 +75,7 @@ impl<J: Names> Core<J> {
         self.post_all(executor);
     }
 
-    // ---- what stands in an outbox is sent
+    // ---- an outbox entry is sent
 
     // Sends what was first in an executor's outbox.
     pub(crate) fn send_outgoing(
@@ -122,7 +122,7 @@ impl<J: Names> Core<J> {
         answer
     }
 
-    // ---- what is put
+    // ---- items are put into an outbox
 
     // Moves the items that the event put to the end of an executor's outbox.
     fn post_all(&mut self, executor: u32)
