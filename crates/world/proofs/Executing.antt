@@ -131,7 +131,7 @@ module _ {J : Type 0} where
   none_sent h (item.Commit commit ∷ items) = none_sent h items
   none_sent h (item.Reply recorded ∷ items) = none_sent h items
 
-  -- a message that is sent where its warehouse's messages go, goes to one who knows of the slice
+  -- a message that is routed by its warehouse goes to an executor that knows of the slice
   goes_knows : (h : PlacementsView) (m : Message J) → All (KnowsOf h) (goes (route_of h (home_of_message m)) m)
   goes_knows h (message.Start flow works) = All-nil (KnowsOf h)
   goes_knows h (message.Act act) = All-cons (KnowsOf h) _ [] (routed_knows h (home_of_message {J = J} (message.Act act))) (All-nil (KnowsOf h))

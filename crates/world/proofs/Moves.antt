@@ -183,7 +183,7 @@ module _ {J : Type 0} where
   homes_else w_id [] = All-nil (λ v. v ≢ w_id)
   homes_else w_id (m ∷ ms) = homes_else_more w_id (is_at_home w_id m) m (parked_else w_id ms) refl (homes_else w_id ms)
 
-  -- they go to one who knows of the slice
+  -- they go to an executor that knows of the slice
   module _ (h : PlacementsView) (executor w_id : ℕ) (knows : Knows h executor w_id) where
     one_knows : (m : Message J) → home_of_message m ≡ w_id → All (KnowsOf h) (goes executor m)
     one_knows (message.Start flow works) is = All-nil (KnowsOf h)

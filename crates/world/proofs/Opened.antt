@@ -77,7 +77,7 @@ slices_back J [] = refl
 slices_back J (s ∷ slices) = ap (λ (l : List SliceView). s ∷ l) (slices_back J slices)
 
 module _ {J : Type 0} where
-  -- and nobody waits there
+  -- and no action waits there
   pub nobody_waits : (slices : List SliceView) → flat_map (λ queue. queue) (map (waiting_at {J = J}) (map shard_of slices)) ≡ []
   nobody_waits [] = refl
   nobody_waits (s ∷ slices) = nobody_waits slices

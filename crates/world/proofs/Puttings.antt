@@ -48,13 +48,13 @@ module _ {J : Type 0} where
   all_pushes [] = All-nil IsPush
   all_pushes (m ∷ ms) = All-cons IsPush (item.Push m) (map item.Push ms) tt (all_pushes ms)
 
-  -- pushes alone, and nothing else of a transaction, stand there more
+  -- only pushes, and nothing else of a transaction, are added there
   pub record PutsPushes (executor : ℕ) (old new : Core J) : Type 0 where
     pub posts : List (Outgoing J)
     pub stands : queue_of executor new.outboxes ≡ queue_of executor old.outboxes ++ posts
     pub pushes : All IsPush (items_in posts)
 
-  -- what was put at the end stands there
+  -- what was appended is there
   pub put_stands : (executor : ℕ) (more : List (Outgoing J)) (w : Core J) → executor < length w.outboxes → queue_of executor (posting executor more w).outboxes ≡ queue_of executor w.outboxes ++ more
   put_stands executor more w there = get_or-set_same w.outboxes executor (queue_of executor w.outboxes ++ more) [] there
 

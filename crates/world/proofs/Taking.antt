@@ -1,4 +1,4 @@
--- A message is taken and worked on, and then those who waited have their turns.
+-- A message is taken and processed, and then the waiting actions have their turns.
 use Rattle.world.proofs.OneSlot.{got_set}
 use Rattle.transactions.specs.declared.work.Work.{Work}
 use Rattle.std.proofs.Common.{◌≡◌, ℕ, ◌-◌, List, [], ◌∷◌, ◌++◌, Some, length, map, refl, sym, ap, subst, ◌∙◌, append_assoc, arith, ◌≤◌, ◌<◌, Option, append-nil}
@@ -303,7 +303,7 @@ module _ {J : Type 0} where
         let both = keeps_on old new h.slices home items Of at at.was.slice.waiters claims [] (at_home_of claims together) (All-nil (IsClaimAt home)) at.happened.0 in
         at_once old new home items Of at message at.happened.1 h fine both.0 (works (joined_in old) (joined old.catalog (slices_in new)) both.1) (λ opening history f. All-nil (IsClaimOf history))
 
-    -- ---- one who waited has its turn
+    -- ---- a waiting action has its turn
 
     pub turn_on : (old new : Parts J) (home : ℕ) (turned : Turned J (Carried J)) → IsSoundWith shared nothing (seen old ms is) → TakesTurn home turned old new → GoesOn shared nothing (seen old ms is) (seen new ms is)
     turn_on old new home turned h at =
@@ -395,7 +395,7 @@ module _ {J : Type 0} where
         and_turns (home_of_claims claims) (Undo slot claims) old takes.0 new
         (gives_on old takes.0 (Undo slot claims) slot claims fine.0.1 (λ was now kept. undoes shared slot claims was now kept) h fine takes.1.0) takes.1.1
 
-  -- ---- all who wait have to
+  -- ---- all waiting actions have to wait
 
   -- one shard has become another, and the others stay
   abbrev ChangesOne : ℕ → Parts J → Parts J → Type 0

@@ -90,7 +90,7 @@ waiting_slot slot place n (Some u ∷ xs) some =
     (suc r.0, (omega (arith, r.1.0), r.1.1))
 
 module _ {J : Type 0} where
-  -- ---- of whom
+  -- ---- whose tokens they are
 
   -- Where only what the transaction in one slot awaits weighs anything, it is that one's.
   pub of_one : (weight : Token → ℕ) (slot n : ℕ) (slots : List (Option (Active J)))

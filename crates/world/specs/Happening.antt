@@ -78,8 +78,8 @@ module _ {J : Type 0} where
   abbrev pub can_admit : Bool → Parts J → Bool
   can_admit has_room w = has_room && nat_lt w.desk.admitted 18446744073709551615
 
-  -- One more transaction is admitted and active, in a slot that was free. The actions of its first phase are appended to the
-  -- inbox, and the session's pass goes with them.
+  -- One more transaction is admitted and active, in a slot that was free. A message with the actions of its first phase is
+  -- appended to the inbox, and the session's pass goes with it.
   pub record Admits (session number : ℕ) (asked : Request) (desk : SessionDesk J) (old new : Parts J) : Type 0 where
     pub flow : Flow J
     pub works : Vec AnyWork Global
