@@ -1,4 +1,4 @@
--- A picture is drawn, part by part.
+-- Drawing a picture, part by part.
 use Rattle.std.proofs.Common.{◌≡◌, ℕ, ◌+◌, true, false, List, [], ◌++◌, Option, Result, OnErr, length, subst}
 use Rattle.std.specs.Io.KnownBytes.{Appends}
 use Rattle.std.proofs.KnownBytes.{Appends-trans}
@@ -23,7 +23,7 @@ six-appended s0 s1 s2 s3 s4 s5 s6 a b c d e f ha hb hc hd he hf =
     (Appends-trans s2 s3 s6 c (d ++ (e ++ f)) hc
     (Appends-trans s3 s4 s6 d (e ++ f) hd (Appends-trans s4 s5 s6 e f he hf))))
 
--- of parts one after another one fails, and more was to come
+-- one of several parts fails, and more would have followed
 pub second-begun : (s0 s1 s2 : Option (List ℕ)) (a b rest : List ℕ)
     → Appends s0 s1 a → Begins s1 s2 b → Begins s0 s2 (a ++ (b ++ rest))
 second-begun s0 s1 s2 a b rest ha hb = begins_after s0 s1 s2 a (b ++ rest) ha (begins_more s1 s2 b rest hb)
@@ -54,13 +54,13 @@ sixth-begun s0 s1 s2 s3 s4 s5 s6 a b c d e f ha hb hc hd he hf =
     (begins_after s2 s3 s6 c (d ++ (e ++ f)) hc
     (begins_after s3 s4 s6 d (e ++ f) hd (begins_after s4 s5 s6 e f he hf))))
 
--- the picture as it is drawn, with its measures and marks
+-- the picture as drawn, with its measures and marks
 abbrev pub drawn_text : List Aside → ℕ → ℕ → ℕ → List Mark → List ℕ
 drawn_text asides across down bottom marks =
     sheet_text across down ++ (ground_text false 0 across down ++ (ground_text true 74 across bottom
     ++ (texts aside_text asides ++ (texts mark_text marks ++ legend_text (bottom + 24)))))
 
--- what is said of the picture as it is drawn is said of the picture
+-- what holds of the picture as drawn holds of the picture
 pub picture-drawn : (Said : List ℕ → Type 0) (sessions : List ℕ) (executors : ℕ) (rows : List Row) (asides : List Aside) (across down bottom : ℕ) (marks : List Mark)
     → across ≡ width (length sessions) executors → down ≡ height (length rows) → bottom ≡ rows_end (length rows) → marks ≡ all_marks sessions executors 0 rows
     → Said (drawn_text asides across down bottom marks) → Said (picture_text sessions executors rows asides)
@@ -71,7 +71,7 @@ picture-drawn Said sessions executors rows asides across down bottom marks is_ac
     let M : List Mark → Type 0 = λ m. Said (drawn_text asides (width (length sessions) executors) (height (length rows)) (rows_end (length rows)) m) in
     subst M are_marks (subst Z is_bottom (subst Y is_down (subst X is_across all)))
 
--- where it fails after a beginning of it was drawn
+-- if it fails after a beginning of it was drawn
 pub begun-drawn : {T E : Type 0} (r : Result T E) (old new : Option (List ℕ)) (sessions : List ℕ) (executors : ℕ) (rows : List Row) (asides : List Aside) (across down bottom : ℕ) (marks : List Mark)
     → across ≡ width (length sessions) executors → down ≡ height (length rows) → bottom ≡ rows_end (length rows) → marks ≡ all_marks sessions executors 0 rows
     → Begins old new (drawn_text asides across down bottom marks)
@@ -81,7 +81,7 @@ begun-drawn r old new sessions executors rows asides across down bottom marks is
     (asides, picture-drawn (Begins old new) sessions executors rows asides across down bottom marks is_across is_down is_bottom are_marks begun) in
     on_any_err r drawn
 
--- where it fails before
+-- if it fails before
 pub nothing-drawn : {T E : Type 0} (r : Result T E) (sink : Option (List ℕ)) (sessions : List ℕ) (executors : ℕ) (rows : List Row)
     → OnErr r ((asides : List Aside) × Begins sink sink (picture_text sessions executors rows asides))
 nothing-drawn r sink sessions executors rows =

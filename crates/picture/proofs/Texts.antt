@@ -11,19 +11,19 @@ texts-push text [] one = append-nil (text one)
 texts-push text (first ∷ before) one =
     ap (λ l. text first ++ l) (texts-push text before one) ∙ sym (append_assoc (text first) (texts text before) (text one))
 
--- nothing is written at first
+-- nothing is written initially
 pub appends-none : {T : Type 0} (text : T → List ℕ) (sink : Option (List ℕ)) → Appends sink sink (texts text [])
 unfolding texts
 appends-none text sink = Appends-nil sink
 
--- the texts of one more
+-- the texts with one more sign
 pub texts-more : {T : Type 0} (text : T → List ℕ) (xs : List T) (i : ℕ) (x : T) → i < length xs → x ≡ get_or xs i x
     → texts text (take (i + 1) xs) ≡ texts text (take i xs) ++ text x
 texts-more {T} text xs i x there e =
     let all : take (i + 1) xs ≡ take i xs ++ (x ∷ []) = take_more xs i x there ∙ ap (λ (a : T). take i xs ++ (a ∷ [])) (sym e) in
     ap (λ (l : List T). texts text l) all ∙ texts-push text (take i xs) x
 
--- the first ones of them, and then the others
+-- the texts of the first ones, and then of the others
 pub texts-parted : {T : Type 0} (text : T → List ℕ) (before after : List T) → texts text (before ++ after) ≡ texts text before ++ texts text after
 unfolding texts
 texts-parted text [] after = refl

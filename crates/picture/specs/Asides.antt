@@ -1,4 +1,4 @@
--- The text of what stands beside what is told.
+-- The text of the asides.
 use Rattle.std.specs.Prelude.{ℕ, ◌+◌, ◌*◌, Bool, if◌then◌else◌, List, ◌++◌, codes}
 use Rattle.std.specs.Fmt.{decimal}
 use Rattle.picture.specs.declared.asides.TheConstants.{DOWN}
@@ -7,15 +7,15 @@ use Rattle.picture.specs.declared.asides.Aside.TheVariants.{Head, Lane, Named, H
 use Rattle.picture.specs.Lanes.{row_top, row_middle, row_bottom}
 use Rattle.picture.specs.Phrases.{phrase_text}
 
--- a row further down by one and so many more
+-- The distance to a row further down by one and this many more.
 abbrev pub further : ℕ → ℕ
 further more = 20 * (more + 1)
 
--- the class of what was put to be sent, or of a message
+-- The class of an arrow: of an item in an outbox, or of a message.
 abbrev pub hop_class : Bool → List ℕ
 hop_class sent = if sent then codes "item" else codes "message"
 
--- The line of SVG that draws it.
+-- The line of SVG of an aside.
 abbrev pub aside_text : Aside → List ℕ
 aside_text (Head x y phrase) =
     codes "<text class=\"head\" x=\"" ++ (decimal x ++ (codes "\" y=\"" ++ (decimal y ++ (codes "\">" ++ (phrase_text phrase ++ codes "</text>\n")))))

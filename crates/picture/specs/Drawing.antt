@@ -7,13 +7,13 @@ use Rattle.picture.specs.Sheet.{sheet_text, ground_text, legend_text}
 use Rattle.picture.specs.Asides.{aside_text}
 use Rattle.picture.specs.Marks.{mark_text, all_marks}
 
--- their texts, one after the other
+-- The texts of these, one after the other.
 unfoldable pub texts : {T : Type 0} → (T → List ℕ) → List T → List ℕ
 texts text [] = []
 texts text (one ∷ others) = text one ++ texts text others
 
--- The picture of these rows, with the lanes of these sessions and of so many executors: the sheet, what stands beside
--- what is told, exactly the marks of each row in turn, and the legend.
+-- The picture of these rows, with the lanes of these sessions and of this many executors: the sheet, the asides, exactly the
+-- marks of each row in turn, and the legend.
 abbrev pub picture_text : List ℕ → ℕ → List Row → List Aside → List ℕ
 picture_text sessions executors rows asides =
     let across = width (length sessions) executors in

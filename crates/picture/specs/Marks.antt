@@ -1,4 +1,4 @@
--- What is told, as marks.
+-- The output, as marks.
 use Rattle.std.specs.Prelude.{ℕ, ◌+◌, List, [], ◌∷◌, ◌++◌, length, codes}
 use Rattle.std.specs.Fmt.{decimal}
 use Rattle.picture.specs.declared.marks.Style.{Style}
@@ -17,23 +17,23 @@ use Rattle.picture.specs.Phrases.{phrase_text}
 
 -- ---- the marks of a row
 
--- a submission has a spot on its session's line, round where it is admitted
+-- A submission has a spot on its session's line, whose style shows whether it is admitted.
 abbrev pub submission : ℕ → ℕ → RowAnswer → Mark
 submission x at (Accepted age) = Spot style.Take x at
 submission x at (Refused session number refusal) = Spot style.Refused x at
 submission x at reported = Spot style.Nothing x at
 
--- an order has a spot at the left of all lanes, full where the move is outstanding from then on
+-- An order has a spot left of all lanes, full if the move is outstanding from then on.
 abbrev pub ordering : ℕ → RowAnswer → Mark
 ordering at Ordered = Spot style.Take outside_x at
 ordering at reported = Spot style.Nothing outside_x at
 
--- a take or a send has a spot on its executor's line
+-- A Take or a Send has a spot on its executor's line.
 abbrev pub step_spot : Style → ℕ → ℕ → RowAnswer → Mark
 step_spot s x at Nothing = Spot style.Nothing x at
 step_spot s x at reported = Spot s x at
 
--- a place of the log stands in a green square on the log's line
+-- A place in the log is in a green square on the log's line.
 abbrev pub logged : ℕ → ℕ → ℕ → ℕ → List Mark
 logged sessions executors at place =
     Square style.Done (log_left sessions executors) (log_right sessions executors) at
@@ -46,14 +46,14 @@ reported_signs sessions executors at (Done session number place rolled_back) = S
 reported_signs sessions executors at (Refused session number refusal) = Spot style.Refused (session_x sessions session) at ∷ []
 reported_signs sessions executors at reported = []
 
--- and an arrow to it, from the line of what was sent
+-- The arrow to it, from the line of what was sent.
 abbrev pub reported_arrow : List ℕ → ℕ → ℕ → ℕ → RowAnswer → List Mark
 reported_arrow sessions executors from at (Logged place) = Across style.Done from (log_left (length sessions) executors) at ∷ []
 reported_arrow sessions executors from at (Done session number place rolled_back) = Across style.Done from (session_x sessions session) at ∷ []
 reported_arrow sessions executors from at (Refused session number refusal) = Across style.Refused from (session_x sessions session) at ∷ []
 reported_arrow sessions executors from at reported = []
 
--- What an event has in its row beside its words: a spot, and what is logged or answered by it.
+-- The signs of an event: a spot, and what it logs or answers.
 abbrev pub event_signs : List ℕ → ℕ → ℕ → Deed → RowAnswer → List Mark
 event_signs sessions executors at (Submit session number kind) reported = submission (session_x sessions session) at reported ∷ []
 event_signs sessions executors at (Order order) reported = ordering at reported ∷ []
@@ -62,11 +62,11 @@ event_signs sessions executors at (Send executor) reported =
     reported_arrow sessions executors (sends_x (length sessions) executor) at reported
     ++ (reported_signs sessions executors at reported ++ step_spot style.Send (sends_x (length sessions) executor) at reported ∷ [])
 
--- what is told, in words
+-- The text of the output.
 abbrev pub reported_words : List ℕ → ℕ → ℕ → RowAnswer → Mark
 reported_words sessions executors at reported = Words style.Plain (reported_x (length sessions) executors) at (phrase.RowAnswer reported)
 
--- The marks of the row at this place: its number, what was scheduled, and what is told of it, in words and in signs.
+-- The marks of the row at this index: its number, what was scheduled, and its output, in words and in signs.
 abbrev pub row_marks : List ℕ → ℕ → ℕ → Row → List Mark
 row_marks sessions executors at (Event number deed reported) =
     Words style.Number 40 at (phrase.Number number) ∷ Words style.Plain 52 at (phrase.Deed deed) ∷ reported_words sessions executors at reported
@@ -76,14 +76,14 @@ row_marks sessions executors at (Rounds number) =
     ∷ Words style.Dim (reported_x (length sessions) executors) at phrase.NotShown ∷ []
 row_marks sessions executors at (InRounds reported) = reported_words sessions executors at reported ∷ reported_signs sessions executors at reported
 
--- the marks of rows, of which the first stands at this place
+-- The marks of rows, the first of which is at this index.
 abbrev pub all_marks : List ℕ → ℕ → ℕ → List Row → List Mark
 all_marks sessions executors at [] = []
 all_marks sessions executors at (row ∷ rows) = row_marks sessions executors at row ++ all_marks sessions executors (at + 1) rows
 
 -- ---- their text
 
--- the name of a class of the style
+-- The name of a class of the style.
 abbrev pub style_text : Style → List ℕ
 style_text style.Number = codes "number"
 style_text style.Plain = codes "plain"
@@ -95,7 +95,7 @@ style_text style.Nothing = codes "nothing"
 style_text style.Done = codes "done"
 style_text style.Refused = codes "refused"
 
--- the line of SVG that draws a mark
+-- The line of SVG of a mark.
 abbrev pub mark_text : Mark → List ℕ
 mark_text (Words s x at p) =
     codes "<text class=\"" ++ (style_text s ++ (codes "\" x=\"" ++ (decimal x ++ (codes "\" y=\"" ++ (decimal (row_words at)

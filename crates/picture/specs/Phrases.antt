@@ -1,4 +1,4 @@
--- The words of a picture.
+-- The texts of a picture.
 use Rattle.std.specs.Prelude.{ℕ, true, false, List, ◌++◌, codes}
 use Rattle.std.specs.Fmt.{decimal}
 use Rattle.requests.specs.Group.{group_text}
@@ -16,7 +16,7 @@ use Rattle.picture.specs.declared.phrase.Heading.TheVariants as heading
 use Rattle.picture.specs.declared.phrase.Phrase.{Phrase}
 use Rattle.picture.specs.declared.phrase.Phrase.TheVariants.{Heading, Number, Deed, Rounds, RowAnswer, Place, One, Two, All, Start, Act, Report, Commit, Reply, Settle, Undo, Ended, Move, Fetch, Parcel, Arrival, Parked, Unknown, NotShown}
 
--- what stands over a lane or a column
+-- The heading of a lane or a column.
 abbrev pub heading_text : AnyHeading → List ℕ
 heading_text heading.Event = codes "event"
 heading_text heading.Scheduled = codes "scheduled"
@@ -29,7 +29,7 @@ heading_text heading.Log = codes "log"
 heading_text heading.RowAnswer = codes "told"
 heading_text heading.TakenOrSent = codes "taken or sent"
 
--- the letter of a kind
+-- The letter of a kind.
 abbrev pub kind_text : Kind → List ℕ
 kind_text NewOrder = codes "N"
 kind_text Payment = codes "P"
@@ -37,23 +37,23 @@ kind_text OrderStatus = codes "O"
 kind_text Delivery = codes "D"
 kind_text StockLevel = codes "L"
 
--- what was scheduled, as schedules spell it, but of a submission only whose it is and of which kind
+-- What was scheduled, as in the text of a schedule; of a submission only the session, the number and the kind.
 abbrev pub deed_text : AnyDeed → List ℕ
 deed_text (Submit session number kind) = codes "S," ++ (decimal session ++ (codes "," ++ (decimal number ++ (codes "," ++ kind_text kind))))
 deed_text (Order order) = codes "M," ++ (decimal order.lo ++ (codes "," ++ (decimal order.hi ++ (codes "," ++ decimal order.to))))
 deed_text (Take executor) = codes "T," ++ decimal executor
 deed_text (Send executor) = codes "X," ++ decimal executor
 
--- an answer: of which session, to its request of which number, and what follows
+-- An answer: the session, the number of its request, and the rest.
 abbrev pub answered_text : ℕ → ℕ → List ℕ → List ℕ
 answered_text session number rest = codes "answered," ++ (decimal session ++ (codes "," ++ (decimal number ++ rest)))
 
--- why it was refused: the number of the refusal, and of a death the group and its holder's age
+-- Why it was refused: the code of the refusal, and for a death the group and its holder's age.
 abbrev pub refusal_text : Refusal → List ℕ
 refusal_text (Died group holder) = codes "11," ++ (group_text group ++ (codes "," ++ decimal holder))
 refusal_text refusal = decimal (refusal_number refusal)
 
--- what is told, as it is printed, but of what was done only its place, and X where it was rolled back
+-- The output as it is printed; of a reply only the place, with X if the transaction was rolled back.
 abbrev pub reported_text : AnyReported → List ℕ
 reported_text (reported.Accepted age) = codes "accepted," ++ decimal age
 reported_text reported.Ordered = codes "ordered"
@@ -69,11 +69,11 @@ reported_text reported.Nothing = codes "nothing"
 reported_text reported.Quiet = codes "quiet"
 reported_text reported.Limit = codes "limit"
 
--- the action in this place of the transaction of this age, after a word
+-- The action of this place of the transaction of this age, after a word.
 abbrev pub action_text : List ℕ → ℕ → ℕ → List ℕ
 action_text word place age = word ++ (decimal place ++ (codes " of " ++ decimal age))
 
--- what words say
+-- The text of a phrase.
 abbrev pub phrase_text : Phrase → List ℕ
 phrase_text (Heading h) = heading_text h
 phrase_text (Number number) = decimal number

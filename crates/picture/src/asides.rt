@@ -1,35 +1,36 @@
-//! What stands beside what is told: the heads and lines of the lanes, and what follows by the rules of messages: which
-//! event put what another took or sent, and under which claims. An arrow goes down, and nothing here is green or red.
+//! The signs that are not part of the proved output (asides): the heads and lines of the lanes, and what follows by the rules
+//! of messages: which event put what another took or sent, and the claims held meanwhile. An arrow goes down, and no aside is
+//! green or red.
 use crate::lanes::{row_bottom, row_middle, row_top};
 use crate::phrase::Phrase;
 use std::fmt;
 
-// How words begin that are read downwards, up to where they stand.
+// The beginning of a text that is read downwards, up to its position.
 const DOWN: &str = "<text transform=\"translate(";
 
-/// A sign beside what is told. `from` is the place of a row, and `more` how many rows there are between it and the row
-/// where the sign ends; the other places are in pixels.
+/// A sign that is not a mark. `from` is the index of a row, and `more` the number of rows between it and the row where the sign
+/// ends. Other positions are in pixels.
 #[derive(Clone, Copy)]
 pub enum Aside {
-    /// The head of a lane, or of a column.
+    /// The head of a lane or of a column.
     Head {
         x: u128,
         y: u128,
         phrase: Phrase,
     },
-    /// The line of a lane, from its head through so many rows.
+    /// The line of a lane, from its head through this many rows.
     Lane {
         sends: bool,
         x: u128,
         rows: usize,
     },
-    /// What was taken or sent in the row at that place, and that it is parked.
+    /// The name of what was taken or sent in the row at this index, or that it is parked.
     Named {
         x: u128,
         at: usize,
         phrase: Phrase,
     },
-    /// An arrow from line to line; of what was put to be sent, or of a message to be taken.
+    /// An arrow from line to line: of an item put into an outbox, or of a message to be taken.
     Hop {
         sent: bool,
         from_x: u128,
@@ -44,7 +45,7 @@ pub enum Aside {
         from: usize,
         more: usize,
     },
-    /// How long claims are held.
+    /// A bar for the time that claims are held.
     Claim {
         shared: bool,
         left: u128,
@@ -52,7 +53,7 @@ pub enum Aside {
         from: usize,
         more: usize,
     },
-    /// Their groups, read downwards.
+    /// The groups of the claims, read downwards.
     Groups {
         x: u128,
         at: usize,

@@ -1,6 +1,6 @@
-//! The course of a schedule: which event put what another took or sent. It is followed by the rules of the core's
-//! messages, and each step is held against what is told. Where it can't be known, since an action may wait, die or find
-//! no memory, nothing is drawn until rounds have ended quiet, after which nothing is in flight.
+//! The course of a schedule: a reconstruction of which event put what another took or sent. It follows the rules of the core's
+//! messages and checks each step against the output. If what is in flight is unknown, because an action may wait, die or find
+//! no memory, nothing is drawn until rounds have ended quiet; after that nothing is in flight.
 use crate::asides::Aside;
 use crate::graph::{Action, actions_of};
 use crate::in_flight::{Content, Executor, Flow, Item};
@@ -15,7 +15,7 @@ use schema::NoMemory;
 use std::alloc::Global;
 use std::collections::VecDeque;
 
-/// How far the course has come.
+/// The state of the reconstruction.
 #[derive(Drop)]
 pub struct Course<'a> {
     pub alloc: Global,
@@ -30,7 +30,7 @@ pub struct Course<'a> {
     pub asides: Vec<Aside>,
 }
 
-/// Adds what follows for the rows of a schedule.
+/// Adds the asides of a schedule's rows.
 pub fn put_course(
     alloc: Global,
     asides: Vec<Aside>,
@@ -87,8 +87,8 @@ impl<'a> Course<'a> {
         Ok(())
     }
 
-    // Whether a move that is told to be outstanding can be. It is noted even where it isn't known what is in flight: so it is
-    // known where the slices are once rounds have ended quiet.
+    // Whether a move can be outstanding whose output is that it is ordered. The move is recorded even if what is in flight is
+    // unknown, so the places of the slices are known once rounds have ended quiet.
     fn note_order(&mut self, deed: Deed, reported: RowAnswer) -> bool {
         match (deed, reported) {
             (Deed::Order(order), RowAnswer::Ordered) => self.slices.order(order),
@@ -96,7 +96,7 @@ impl<'a> Course<'a> {
         }
     }
 
-    // What is told of rounds. Once they end quiet nothing is in flight.
+    // Follows an output of rounds. Once rounds end quiet, nothing is in flight.
     fn follow_rounds(&mut self, reported: RowAnswer) -> Result<(), NoMemory> {
         match reported {
             RowAnswer::Done { session, .. } => {
@@ -123,7 +123,7 @@ impl<'a> Course<'a> {
         Ok(())
     }
 
-    // An event. It gives whether it is known still what is in flight.
+    // Follows an event. Returns whether it is still known what is in flight.
     fn happen(
         &mut self,
         at: usize,
@@ -161,7 +161,7 @@ impl<'a> Course<'a> {
         }
     }
 
-    // A request is admitted.
+    // Admits a request.
     fn admit(
         &mut self,
         at: usize,
@@ -188,7 +188,7 @@ impl<'a> Course<'a> {
         self.put_in(home, item)
     }
 
-    // A move is ordered: its order comes from outside.
+    // Puts the order of a move into the inbox of its destination. Its line is outside the lanes.
     fn put_order(&mut self, at: usize, order: MoveOrder) -> Result<bool, NoMemory> {
         let item = Item {
             content: Content::Order(order),

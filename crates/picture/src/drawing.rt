@@ -1,4 +1,4 @@
-//! A picture is written.
+//! Writing a picture.
 ghost use Rattle.std.specs.Prelude.{◌≡◌, ◌≤◌, ℕ, List, [], IfErr, IfSome, OnErr, OnOk, Some};
 ghost use Rattle.std.specs.Io.KnownBytes.{Appends};
 ghost use Rattle.files.specs.Failure.{IsOfWriting};
@@ -24,9 +24,11 @@ use std::alloc::Global;
 use std::fmt::Display;
 use std::io::Write;
 
-/// Writes the picture of a schedule of which this is told, as SVG, to the sink: places that answers name are
-/// those of the log, and so many executors have the warehouses of the scale. A failure of the sink is `Failed` at record 1; after an error the sink has got a
-/// beginning of the picture.
+/// Writes the picture of a schedule and its outputs, as SVG, to the sink. `log` has the entries at the places in the outputs.
+/// The warehouses of the scale are dealt out to `executors` executors.
+///
+/// Returns NoMemory if an allocation fails, and Failed(1) if the sink fails. After an error the sink has got a beginning of the
+/// picture.
 pub fn write_picture<W: Write>(
     alloc: Global,
     sink: &mut W,
@@ -108,7 +110,7 @@ fn draw<W: Write, D: Display>(sink: &mut W, line: &mut String, sign: &D) -> Resu
     }
 }
 
-// The heads and the lines of the lanes, through so many rows.
+// The heads and the lines of the lanes, through this many rows.
 fn heads_of(alloc: Global, lanes: &Lanes, rows: usize) -> Result<Vec<Aside>, NoMemory> {
     let mut heads = Vec::new(alloc);
     for (x, heading) in [

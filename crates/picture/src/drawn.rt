@@ -41,7 +41,7 @@ impl<'a> Course<'a> {
         Ok(())
     }
 
-    /// Draws how long an action has held its claims, up to a row, and frees their slot.
+    /// Draws the bar of an action's claims up to a row, and frees their slot.
     pub fn draw_claim(&mut self, flow: usize, place: usize, to: usize) -> Result<(), NoMemory> {
         let Some(flow) = self.flows.get_mut(flow) else {
             return Ok(());
@@ -72,7 +72,7 @@ impl<'a> Course<'a> {
         Ok(())
     }
 
-    /// Draws the claims that are still held, of what is logged: whether others are is not told.
+    /// Draws the claims that are still held, of logged transactions. Whether others hold claims is unknown.
     pub fn draw_held(&mut self, to: usize) -> Result<(), NoMemory> {
         for flow in 0..self.flows.len() {
             let places = match self.flows.get(flow) {
@@ -86,7 +86,7 @@ impl<'a> Course<'a> {
         Ok(())
     }
 
-    /// Names what is taken or sent in a row.
+    /// Writes the name of what is taken or sent in a row.
     pub fn draw_item(&mut self, at: usize, item: Item) -> Result<(), NoMemory> {
         let phrase = match item.content {
             Content::Order(MoveOrder { lo, hi, .. }) => Phrase::Move { lo, hi },
@@ -101,7 +101,7 @@ impl<'a> Course<'a> {
         self.draw_name(at, phrase)
     }
 
-    /// Says that what an executor takes in a row is parked.
+    /// Writes that the message taken in a row is parked.
     pub fn draw_parked(&mut self, at: usize, executor: u32) -> Result<(), NoMemory> {
         let x = self.lanes.takes(executor) + 10;
         let phrase = Phrase::Parked;
@@ -109,7 +109,7 @@ impl<'a> Course<'a> {
         Ok(())
     }
 
-    /// Says something of what is taken or sent in a row.
+    /// Writes a note on what is taken or sent in a row.
     pub fn draw_name(&mut self, at: usize, phrase: Phrase) -> Result<(), NoMemory> {
         let x = self.lanes.named();
         self.asides.push(Aside::Named { x, at, phrase })?;
@@ -117,7 +117,7 @@ impl<'a> Course<'a> {
     }
 }
 
-// How many rows there are between two; `None` where the second is not further down.
+// The number of rows between two rows. `None` if the second is not further down.
 fn between(from: usize, to: usize) -> Option<usize> {
     to.checked_sub(from)?.checked_sub(1)
 }

@@ -1,12 +1,11 @@
-//! The flow graphs, as far as a picture needs them: the actions of a request, where each is done, and which groups it
-//! claims.
+//! The flow graphs, as far as a picture needs them: the actions of a request, where each is done, and the groups it claims.
 use crate::phrase::Phrase;
 use groups::{GroupWant, Mode, footprint, warehouse_of};
 use requests::{Group, Request};
 use schema::NoMemory;
 use std::alloc::Global;
 
-/// What an action claims.
+/// The claims of an action.
 #[derive(Clone, Copy)]
 pub enum Claimed {
     One(GroupWant),
@@ -24,9 +23,9 @@ pub struct Action {
     pub claimed: Claimed,
 }
 
-/// The actions of a request, by place. Most groups that it claims, in their order, are an action's each; one action claims
-/// the home warehouse's row and the home district's, and one all orders of a Delivery, all its customers, or all stock of a
-/// Stock-Level.
+/// The actions of a request, by place. Most actions claim one group, in the order of the groups. The exceptions: one action
+/// claims the home warehouse's row and the home district's; one claims all orders of a Delivery, one all its customers; one
+/// claims all stock of a Stock-Level.
 pub fn actions_of(alloc: Global, request: &Request) -> Result<Vec<Action>, NoMemory> {
     let mut actions: Vec<Action> = Vec::new(alloc);
     for &group_want in footprint(alloc, request)?.iter() {
@@ -43,7 +42,7 @@ pub fn actions_of(alloc: Global, request: &Request) -> Result<Vec<Action>, NoMem
     Ok(actions)
 }
 
-// In which phase a request claims a group.
+// The phase in which a request claims a group.
 fn phase_of(request: &Request, group: Group) -> u32 {
     match (request, group) {
         (Request::NewOrder(_), Group::Stock { .. })
@@ -57,7 +56,7 @@ fn phase_of(request: &Request, group: Group) -> u32 {
     }
 }
 
-// Whether two groups are of one warehouse's orders, or of its customers, or of its stock.
+// Whether two groups are both of one warehouse's orders, of its customers, or of its stock.
 fn is_beside(one: Group, other: Group) -> bool {
     match (one, other) {
         (Group::Orders { w_id: a, .. }, Group::Orders { w_id: b, .. })
@@ -68,14 +67,14 @@ fn is_beside(one: Group, other: Group) -> bool {
 }
 
 impl Claimed {
-    // The first of its claims.
+    // The first claim.
     fn first(self) -> GroupWant {
         match self {
             Claimed::One(first) | Claimed::Two(first, _) | Claimed::All(first, _) => first,
         }
     }
 
-    // The same with the next claim: the home district's beside the warehouse's, or a further one of those of a sort.
+    // With the next claim: the home district's after the warehouse's, or another one of the same sort.
     fn with(self, group_want: GroupWant) -> Claimed {
         match group_want.group {
             Group::District { .. } => Claimed::Two(self.first(), group_want),
@@ -83,7 +82,7 @@ impl Claimed {
         }
     }
 
-    // Whether a claim of its own stands in the way of this want.
+    // Whether one of these claims conflicts with this want.
     fn stops(self, group_want: GroupWant) -> bool {
         match self {
             Claimed::One(own) => own.group == group_want.group && conflict(own, group_want),
@@ -98,7 +97,7 @@ impl Claimed {
 }
 
 impl Action {
-    // Whether it claims this group too, which comes behind those that it claims.
+    // Whether the action claims this group too, which comes after those that it claims.
     fn claims_too(self, request: &Request, group_want: GroupWant) -> bool {
         match (request, group_want.group) {
             (Request::Delivery(_), _) | (Request::StockLevel(_), Group::Stock { .. }) => {
@@ -110,12 +109,12 @@ impl Action {
         }
     }
 
-    /// The warehouse where it is done.
+    /// The warehouse where the action is done.
     pub fn warehouse(self) -> u32 {
         warehouse_of(self.claimed.first().group)
     }
 
-    /// The groups that it claims, in words.
+    /// The groups of the action, in words.
     pub fn groups(self) -> Phrase {
         match self.claimed {
             Claimed::One(group_want) => Phrase::One(group_want.group),
@@ -124,7 +123,7 @@ impl Action {
         }
     }
 
-    /// Whether its claims are all shared.
+    /// Whether all claims of the action are shared.
     pub fn is_shared(self) -> bool {
         match self.claimed {
             Claimed::One(group_want) => group_want.mode == Mode::Shared,
@@ -134,19 +133,19 @@ impl Action {
         }
     }
 
-    /// Whether one of the two would have to wait for the other, or die.
+    /// Whether one of the two actions would have to wait for the other, or die.
     pub fn conflicts(self, other: Action) -> bool {
         let (own, others) = (self.claimed, other.claimed);
         match own {
             Claimed::One(group_want) => others.stops(group_want),
             Claimed::Two(one, two) => others.stops(one) || others.stops(two),
-            // Where the other claims some of these groups, its first is of them.
+            // If the other action claims some of these groups, its first group is one of them.
             Claimed::All(_, _) => own.stops(others.first()),
         }
     }
 }
 
-// Whether two claims of one group can't be held at once.
+// Whether two claims on one group can't be held at once.
 fn conflict(one: GroupWant, other: GroupWant) -> bool {
     !(one.mode == Mode::Shared && other.mode == Mode::Shared)
 }

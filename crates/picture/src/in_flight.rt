@@ -1,4 +1,4 @@
-//! What is in flight while a course is followed: messages, items, transactions and executors.
+//! What is in flight in a course: messages, items, transactions and executors.
 use crate::graph::Action;
 use crate::phrase::Phrase;
 use range_moves::MoveOrder;
@@ -12,24 +12,24 @@ pub enum Content {
     Start,
     Act(usize),
     Report(usize),
-    /// What follows when all of a phase have reported: the next phase, the commit, or a refusal.
+    /// What follows when all actions of a phase have reported: the next phase, the commit, or a refusal.
     Next,
     Commit,
     Reply,
     GiveBack(usize),
     Ended(usize),
-    /// A move begins, at the executor to which it goes.
+    /// The order of a move, to the executor that gets the warehouses.
     Order(MoveOrder),
-    /// The slice of a warehouse is to be fetched from an executor that has it, for another.
+    /// The request for the slice of a warehouse, to the executor that has it.
     Fetch { w_id: u32, from: u32, to: u32 },
     /// The slice of a warehouse, on its way to an executor.
     Parcel { w_id: u32, to: u32 },
-    /// It has come there.
+    /// The report that the slice has arrived.
     Arrival { w_id: u32 },
 }
 
-/// A message or an item, the number of its transaction in the course (0 where it is of a move), and where it was put: on
-/// which line, in which row.
+/// A message or an item; the index of its transaction in the course, 0 if it is of a move; and where it was put: the line and
+/// the row.
 #[derive(Clone, Copy)]
 pub struct Item {
     pub content: Content,
@@ -45,14 +45,14 @@ impl Item {
     }
 }
 
-/// A message that waits for the slice of a warehouse.
+/// A message parked until the slice of a warehouse arrives.
 #[derive(Clone, Copy)]
 pub struct Parked {
     pub w_id: u32,
     pub item: Item,
 }
 
-/// An action that has run: in which row, at which executor, and in which slot its claims are drawn.
+/// An action that has run: its row, its executor, and the slot in which its claims are drawn.
 #[derive(Clone, Copy)]
 pub struct Ran {
     pub at: usize,
@@ -65,21 +65,20 @@ pub struct Ran {
 pub struct Flow {
     pub age: u64,
     pub session: u32,
-    /// Its actions by place, to which executor the message of each goes that was put last, and which of them have run and
-    /// hold claims.
+    /// Its actions by place; for each the executor that gets its last message, and, while it holds claims, where it ran.
     pub actions: Vec<Action>,
     pub goes_to: Vec<u32>,
     pub ran: Vec<Option<Ran>>,
-    /// The phase that is in flight, and how many of its actions have yet to report.
+    /// The phase in flight, and the number of its actions that have yet to report.
     pub phase: u32,
     pub awaited: usize,
     pub logged: bool,
     pub rolled_back: bool,
-    /// How many actions have yet to end.
+    /// The number of actions that have yet to end.
     pub left: usize,
 }
 
-/// An executor: its inbox, its outbox, the messages that are parked there, and which slots beside its line are taken.
+/// An executor: its inbox, its outbox, the messages parked there, and which slots beside its line are taken.
 #[derive(Drop)]
 pub struct Executor {
     pub inbox: VecDeque<Item>,
@@ -89,7 +88,7 @@ pub struct Executor {
 }
 
 impl Flow {
-    /// A transaction that has just been admitted.
+    /// A newly admitted transaction.
     pub fn new(
         alloc: Global,
         age: u64,
@@ -117,7 +116,7 @@ impl Flow {
         })
     }
 
-    /// Whether one of these actions would have to wait for one of its own, or die.
+    /// Whether one of these actions would have to wait for one of this transaction's, or die.
     pub fn may_stop(&self, actions: &[Action]) -> bool {
         for own in self.actions.iter() {
             for action in actions {
@@ -129,7 +128,7 @@ impl Flow {
         false
     }
 
-    /// The first place of a phase, and the one after its last.
+    /// The first place of a phase, and the place after its last.
     pub fn places_of(&self, phase: u32) -> (usize, usize) {
         let mut first = 0;
         let mut end = 0;
@@ -144,14 +143,14 @@ impl Flow {
         (first, end)
     }
 
-    /// Begins the phase that is in flight: its first place, and the one after its last.
+    /// Begins the current phase. Returns its first place and the place after its last.
     pub fn begin_phase(&mut self) -> (usize, usize) {
         let (first, end) = self.places_of(self.phase);
         self.awaited = end.saturating_sub(first);
         (first, end)
     }
 
-    /// The warehouse where the action of that place is done.
+    /// The warehouse of the action at this place.
     pub fn warehouse(&self, place: usize) -> Option<u32> {
         match self.actions.get(place) {
             Some(action) => Some(action.warehouse()),
@@ -159,19 +158,19 @@ impl Flow {
         }
     }
 
-    /// The message of that place goes to this executor.
+    /// Sends the message of this place to this executor.
     pub fn address(&mut self, place: usize, to: u32) {
         if let Some(goes_to) = self.goes_to.get_mut(place) {
             *goes_to = to;
         }
     }
 
-    /// Whether the action of that place has run and holds claims.
+    /// Whether the action at this place has run and holds claims.
     pub fn holds(&self, place: usize) -> bool {
         matches!(self.ran.get(place), Some(Some(_)))
     }
 
-    /// How a message or an item of the transaction is named.
+    /// The name of a message or an item of the transaction.
     pub fn name(&self, content: Content) -> Phrase {
         let age = self.age;
         match content {
@@ -189,7 +188,7 @@ impl Flow {
 }
 
 impl Executor {
-    /// Takes the first slot that is free, or else the last.
+    /// Takes the first free slot, or the last slot if none is free.
     pub fn take_slot(&mut self) -> usize {
         for (slot, taken) in self.slots.iter_mut().enumerate() {
             if !*taken {
@@ -207,7 +206,7 @@ impl Executor {
         }
     }
 
-    /// Forgets all that is in flight.
+    /// Removes everything in flight.
     pub fn clear(&mut self) {
         self.inbox.clear();
         self.outbox.clear();

@@ -1,5 +1,6 @@
-//! Where the lanes stand, from left to right: the sessions that submit, in the order of their first submissions, the
-//! executors, and the log. An executor's lane has a line for what it takes and a line for what it sends.
+//! The positions of the lanes, from left to right: the sessions that submit, in the order of their first submissions; the
+//! executors; and the log. An executor's lane has a line for what it takes and a line for what it sends. Positions are in
+//! pixels.
 ghost use Rattle.std.specs.Prelude.{◌≡◌, ◌==◌, [], IfOk, OnOk, length, position};
 ghost use Rattle.std.specs.List.{list_any};
 ghost use Rattle.picture.specs.Lanes as spec;
@@ -8,7 +9,7 @@ use history::{Event, Scheduled};
 use schema::NoMemory;
 use std::alloc::Global;
 
-/// Which lanes there are.
+/// The lanes of a picture.
 #[derive(Drop)]
 pub struct Lanes {
     pub sessions: Vec<u32>,
@@ -30,7 +31,7 @@ pub fn lanes_of(alloc: Global, schedule: &[Scheduled], executors: u32) -> Result
     })
 }
 
-// Adds the session that submits, if it has no lane yet.
+// Adds the submitting session, if it has no lane yet.
 fn put_submitter(sessions: &mut Vec<u32>, item: &Scheduled) -> Result<(), NoMemory>
     ensures { OnOk result (sessions.new.items ≡ spec.with_submitter sessions.old.items (spec.submitter item.now)) }
 {
@@ -64,7 +65,7 @@ fn has_lane(sessions: &[u32], session: u32) -> bool
     sessions.iter().any(|other| *other == session)
 }
 
-// How many lanes of sessions stand before that of this one, if it has one.
+// The number of session lanes before that of this one. `None` if it has no lane.
 fn place_of(sessions: &[u32], session: u32) -> Option<usize>
     ensures { result ≡ position (λ other. other == session) sessions.now }
 {
@@ -104,13 +105,13 @@ impl Lanes {
         self.executor(executor) + 152
     }
 
-    /// How far to the right what bends down the line of what an executor sends.
+    /// The rightmost x of arrows that bend down the line of what an executor sends.
     pub fn side(&self, executor: u32) -> u128 {
         self.executor(executor) + 180
     }
 
-    /// A slot beside the line of what an executor takes, where claims are drawn: its left edge, the line of its words, and
-    /// its right edge.
+    /// A slot beside the line of what an executor takes, where claims are drawn: its left edge, the line of its text, and its
+    /// right edge.
     pub fn slot(&self, executor: u32, slot: usize) -> (u128, u128, u128) {
         let left = self.executor(executor) + 12 + 14 * slot as u128;
         (left, left + 2, left + 11)
@@ -137,14 +138,14 @@ impl Lanes {
         self.executor(self.executors) + 64
     }
 
-    /// The left edge of what was taken or sent.
+    /// The left edge of the names of what was taken or sent.
     pub fn named(&self) -> u128
         ensures { result ≡ spec.named_x (length self.now.sessions.items) self.now.executors }
     {
         self.executor(self.executors) + 96
     }
 
-    /// The left edge of what is told.
+    /// The left edge of the output.
     pub fn reported(&self) -> u128
         ensures { result ≡ spec.reported_x (length self.now.sessions.items) self.now.executors }
     {
@@ -159,14 +160,14 @@ impl Lanes {
     }
 }
 
-/// Where an order stands, at the left of all lanes.
+/// The position of orders, left of all lanes.
 pub fn outside() -> u128
     ensures { result ≡ spec.outside_x }
 {
     152
 }
 
-/// The upper edge of the row at that place, from 0.
+/// The upper edge of the row at this index, from 0.
 pub fn row_top(at: usize) -> u128
     ensures { result ≡ spec.row_top at }
 {
@@ -180,7 +181,7 @@ pub fn row_middle(at: usize) -> u128
     84 + 20 * at as u128
 }
 
-/// The line on which the row's words stand.
+/// The baseline of the row's text.
 pub fn row_words(at: usize) -> u128
     ensures { result ≡ spec.row_words at }
 {
@@ -194,14 +195,14 @@ pub fn row_bottom(at: usize) -> u128
     93 + 20 * at as u128
 }
 
-/// The height of a picture of so many rows.
+/// The height of a picture with this many rows.
 pub fn height(rows: usize) -> u128
     ensures { result ≡ spec.height rows }
 {
     260 + 20 * rows as u128
 }
 
-/// Where so many rows end.
+/// The lower end of this many rows.
 pub fn rows_end(rows: usize) -> u128
     ensures { result ≡ spec.rows_end rows }
 {

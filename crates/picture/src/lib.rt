@@ -1,9 +1,8 @@
-//! A picture of a schedule, as SVG: time goes down, one row for each event, with a lane for each session that
-//! submits, for each executor, and for the log.
+//! A picture of a schedule, as SVG: time goes down, one row for each event, with a lane for each session that submits, for each
+//! executor, and for the log.
 //!
-//! A row shows what was scheduled, and what is told of it. The arrows between rows show which event put what another
-//! took or sent; they are followed by the rules of the core's messages, from the schedule and from what is told, as far
-//! as these determine it.
+//! A row shows what was scheduled and its output. The arrows between rows show which event put what another took or sent. They
+//! are reconstructed by the rules of the core's messages, from the schedule and the output, as far as these determine them.
 #![tactic(auto)]
 
 mod asides;

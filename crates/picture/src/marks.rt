@@ -1,31 +1,31 @@
-//! What is told, as marks. All that is green or red is here.
+//! The output, as marks. Only marks are green or red.
 use crate::lanes::{row_bottom, row_middle, row_top, row_words};
 use crate::phrase::Phrase;
 use std::fmt;
 
-/// How a mark looks: the name of its class in the picture's style.
+/// The look of a mark: the name of its class in the picture's style.
 #[derive(Clone, Copy)]
 pub enum Style {
-    /// A number that ends at its place.
+    /// A number, aligned to its end.
     Number,
-    /// Words.
+    /// Text.
     Plain,
     Dim,
-    /// Words in the middle of their place.
+    /// Centered text.
     Middle,
-    /// A message is taken, an item is sent, and the event can't happen.
+    /// A message is taken; an item is sent; the event can't happen.
     Take,
     Send,
     Nothing,
-    /// It is logged or done, and refused.
+    /// The transaction is logged or done; the transaction is refused.
     Done,
     Refused,
 }
 
-/// A mark in the row at that place. The other places are in pixels from the left.
+/// A mark in the row at this index. Other positions are in pixels from the left.
 #[derive(Clone, Copy)]
 pub enum Mark {
-    /// Words.
+    /// Text.
     Words {
         style: Style,
         x: u128,

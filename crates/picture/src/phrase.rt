@@ -1,10 +1,10 @@
-//! The words of a picture.
+//! The texts of a picture.
 use crate::row::{Deed, Kind, RowAnswer};
 use range_moves::MoveOrder;
 use requests::{Group, Refusal};
 use std::fmt;
 
-/// What words say.
+/// The content of a text.
 #[derive(Clone, Copy)]
 pub enum Phrase {
     Heading(Heading),
@@ -12,18 +12,18 @@ pub enum Phrase {
     Number(u64),
     /// What was scheduled, as far as it is shown.
     Deed(Deed),
-    /// Rounds, as they are scheduled.
+    /// Rounds that were scheduled.
     Rounds,
-    /// What is told, as far as it is shown.
+    /// The output, as far as it is shown.
     RowAnswer(RowAnswer),
-    /// A place of the log.
+    /// A place in the log.
     Place(u32),
     /// The groups of a claim.
     One(Group),
     Two(Group, Group),
     /// All groups of a warehouse's orders, customers or stock, from the first to the last.
     All(Group, Group),
-    /// What was taken or sent, for the transaction of this age.
+    /// What was taken or sent for the transaction of this age.
     Start { age: u64 },
     Act { place: usize, age: u64 },
     Report { place: usize, age: u64 },
@@ -32,21 +32,21 @@ pub enum Phrase {
     Settle { place: usize, age: u64 },
     Undo { place: usize, age: u64 },
     Ended { place: usize, age: u64 },
-    /// What was taken or sent of a move: its order, and of the slice of a warehouse that it is to be fetched, the slice
-    /// itself, and that it has come.
+    /// What was taken or sent for a move: its order, a request for the slice of a warehouse, the slice itself, and the report
+    /// of its arrival.
     Move { lo: u32, hi: u32 },
     Fetch { w_id: u32 },
     Parcel { w_id: u32 },
     Arrival { w_id: u32 },
-    /// What was taken waits for the slice of its warehouse.
+    /// The message that was taken waits for the slice of its warehouse.
     Parked,
-    /// From here on it isn't known what is taken and sent.
+    /// From here on it is unknown what is taken and sent.
     Unknown,
-    /// What happens in rounds is not shown.
+    /// The events of rounds are not shown.
     NotShown,
 }
 
-/// What stands over a lane or a column.
+/// The heading of a lane or a column.
 #[derive(Clone, Copy)]
 pub enum Heading {
     Event,

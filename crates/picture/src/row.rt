@@ -1,4 +1,4 @@
-//! The rows of a picture: what was scheduled, and what is told of it.
+//! The rows of a picture: what was scheduled, and its output.
 ghost use Rattle.std.specs.Prelude.{◌≡◌, ◌++◌, IfOk, OnOk, slice_get};
 ghost use Rattle.picture.specs.Rows as spec;
 
@@ -9,7 +9,7 @@ use requests::{Refusal, Reply, Request};
 use schema::NoMemory;
 use std::alloc::Global;
 
-/// The kind of a request, by its letter.
+/// The kind of a request.
 #[derive(Clone, Copy)]
 pub enum Kind {
     NewOrder,
@@ -36,7 +36,7 @@ pub enum Deed {
     },
 }
 
-/// What is told.
+/// The output of an event or of rounds.
 #[derive(Clone, Copy)]
 pub enum RowAnswer {
     Accepted {
@@ -69,23 +69,23 @@ pub enum RowAnswer {
 /// A row of the picture.
 #[derive(Clone, Copy)]
 pub enum Row {
-    /// One event. The first item of a schedule has the number 1.
+    /// An event. The first item of a schedule has the number 1.
     Event {
         number: u64,
         deed: Deed,
         reported: RowAnswer,
     },
-    /// Rounds begin. Their events are not shown.
+    /// The beginning of rounds. Their events are not shown.
     Rounds {
         number: u64,
     },
-    /// What is told of rounds.
+    /// An output of rounds.
     InRounds {
         reported: RowAnswer,
     },
 }
 
-/// The rows of a schedule of which this is told, in order. Places that answers name are those of the log.
+/// The rows of a schedule with these outputs, in order. The places in the outputs are those of the log.
 pub fn rows_of(
     alloc: Global,
     schedule: &[Scheduled],
@@ -126,7 +126,7 @@ fn event_row(log: &[Entry], number: u64, event: &Event, output: &Output) -> Row
     }
 }
 
-// Adds what is told of rounds, up to their end, and gives what is told later.
+// Adds the outputs of rounds, up to their end. Returns the outputs after it.
 fn put_rounds<'a>(
     rows: &mut Vec<Row>,
     outputs: &'a [Output],
@@ -234,7 +234,7 @@ fn reported_of_answer(
     }
 }
 
-// Whether the transaction at this place of the log was rolled back.
+// Whether the transaction at this place in the log was rolled back.
 fn is_rolled_back(log: &[Entry], place: u32) -> bool
     ensures { result ≡ spec.entry_is_rolled_back (slice_get log.now place) }
 {

@@ -20,7 +20,7 @@ pub fn marks_of(alloc: Global, lanes: &Lanes, rows: &[Row]) -> Result<Vec<Mark>,
     Ok(marks)
 }
 
-// Adds the marks of the row at that place.
+// Adds the marks of the row at this index.
 fn put_row(marks: &mut Vec<Mark>, lanes: &Lanes, at: usize, row: Row) -> Result<(), NoMemory>
     ensures { OnOk result (marks.new.items ≡ marks.old.items ++ spec.row_marks lanes.now.sessions.items lanes.now.executors at row) }
 {
@@ -73,7 +73,7 @@ fn spot(style: Style, x: u128, at: usize) -> Mark
     Mark::Spot { style, x, at }
 }
 
-// Adds the number of an item of the schedule, and what it says.
+// Adds the number and the text of an item of the schedule.
 fn put_number(
     marks: &mut Vec<Mark>,
     at: usize,
@@ -87,7 +87,7 @@ fn put_number(
     Ok(())
 }
 
-// Adds what an event has in its row beside its words.
+// Adds the signs of an event.
 fn put_event(
     marks: &mut Vec<Mark>,
     lanes: &Lanes,

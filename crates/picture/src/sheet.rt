@@ -1,14 +1,14 @@
-//! The sheet of a picture, its style, and its legend. No sign is told from another by its colour alone.
+//! The sheet of a picture, its style, and its legend. No two signs differ by colour alone.
 use std::fmt;
 
-/// The sheet, with its style. It begins a picture.
+/// The sheet with its style: the beginning of a picture.
 #[derive(Clone, Copy)]
 pub struct Sheet {
     pub width: u128,
     pub height: u128,
 }
 
-/// A ground under all else, plain or with the stripes of rows.
+/// A background, plain or with the stripes of rows.
 #[derive(Clone, Copy)]
 pub struct Ground {
     pub striped: bool,
@@ -17,7 +17,7 @@ pub struct Ground {
     pub bottom: u128,
 }
 
-/// What the signs mean, under the rows. It ends a picture.
+/// The legend, below the rows: the end of a picture.
 #[derive(Clone, Copy)]
 pub struct Legend {
     pub top: u128,
@@ -76,10 +76,10 @@ impl fmt::Display for Legend {
     }
 }
 
-/// How a picture begins, up to its width.
+/// The beginning of a picture, up to its width.
 pub const OPENING: &str = "<svg xmlns=\"http://www.w3.org/2000/svg\" width=\"";
 
-/// The style, with what every picture has.
+/// The style and the definitions of every picture.
 pub const STYLE: &str = "<title>A schedule, event by event</title>
 <style>
 svg{background:#fff;font:12px ui-monospace,Menlo,Consolas,'DejaVu Sans Mono',monospace}
@@ -129,7 +129,7 @@ text{fill:#e8e8e8}
 </defs>
 ";
 
-/// What the signs mean.
+/// The text of the legend.
 pub const LEGEND: &str = "<text class=\"number\" x=\"40\" y=\"4\">signs</text>
 <circle class=\"take\" cx=\"74\" cy=\"0\" r=\"5\"/>
 <text x=\"120\" y=\"4\">a request is admitted, a move is ordered, or a message is taken</text>

@@ -1,4 +1,4 @@
-//! Where the slices of the warehouses are, as far as a course is followed.
+//! The places of the warehouses' slices, as far as a course is followed.
 ghost use Rattle.std.specs.Prelude.{◌<◌, ◌≤◌, IsTrue};
 ghost use Rattle.range_moves.specs.Placements.{IsWarehouse};
 
@@ -8,12 +8,12 @@ use schema::{NoMemory, Scale};
 use std::alloc::Global;
 use std::marker::Model;
 
-/// Where the slices are. What asks for a warehouse or an executor that there isn't, changes nothing.
+/// The places of the slices. A call with a warehouse or an executor that does not exist changes nothing.
 #[derive(Drop)]
 pub struct Slices {
     placements: Placements,
     warehouses: u32,
-    /// The move that was ordered last.
+    /// The last move that was ordered.
     ordered: Option<MoveOrder>,
 }
 
@@ -29,7 +29,7 @@ impl Model for Slices {
 }
 
 impl Slices {
-    /// The slices where they are dealt out; `None` where there are more executors than there may be.
+    /// The slices as the opening deals them out. `None` if there are more executors than allowed.
     pub fn open(alloc: Global, scale: &Scale, executors: u32) -> Result<Option<Slices>, NoMemory>
         requires { 1 ≤ executors }
     {
@@ -45,24 +45,25 @@ impl Slices {
         }))
     }
 
-    /// The executor to which messages for a warehouse are sent.
+    /// The executor to which messages for a warehouse are routed.
     pub fn route(&self, w_id: u32) -> u32 {
         self.placements.route(w_id)
     }
 
-    /// What an executor finds of the slice of a warehouse.
+    /// What an executor finds out about the slice of a warehouse.
     pub fn find(&self, executor: u32, w_id: u32) -> Found {
         self.placements.find(executor, w_id)
     }
 
-    // Whether there are such a warehouse and such an executor.
+    // Whether the warehouse and the executor exist.
     fn has(&self, w_id: u32, executor: u32) -> bool
         ensures { IsTrue result → IsWarehouse self.now w_id × (executor < self.now.executors) }
     {
         1 <= w_id && w_id <= self.warehouses && executor < self.placements.executors()
     }
 
-    /// A move is outstanding from here on. It gives whether it can be: what was ordered before is over, as far as this is known.
+    /// Makes a move outstanding. Returns whether it can be: it is in range, and the move before is over, as far as this is
+    /// known.
     pub fn order(&mut self, order: MoveOrder) -> bool {
         let fits = !self.placements.is_moving();
         self.settle();
@@ -74,7 +75,7 @@ impl Slices {
         fits
     }
 
-    /// What was ordered is over: each slice of its range is where it was to go.
+    /// Ends the last move: each slice of its range is at its destination.
     pub fn settle(&mut self) {
         let Some(MoveOrder { lo, hi, to }) = self.ordered else {
             return;
@@ -85,8 +86,8 @@ impl Slices {
         }
     }
 
-    /// The move of one warehouse begins at its destination: the executor from whom it is to be fetched, and `None` where it
-    /// is there.
+    /// Begins the move of one warehouse at its destination. Returns the executor from which the slice is to be fetched, or
+    /// `None` if it is there already.
     pub fn move_to(&mut self, w_id: u32, to: u32) -> Option<u32> {
         if self.has(w_id, to) {
             self.placements.move_to(w_id, to)
@@ -95,7 +96,7 @@ impl Slices {
         }
     }
 
-    /// An executor takes the slice out, to send it to another. It gives whether it has the slice.
+    /// An executor takes the slice out to send it to another. Returns whether it has the slice.
     pub fn take_out(&mut self, w_id: u32, here: u32, to: u32) -> bool {
         if !(self.has(w_id, here) && self.has(w_id, to)) {
             return false;
@@ -112,8 +113,8 @@ impl Slices {
         }
     }
 
-    /// One warehouse more has come to its destination: whether the move that is outstanding is over by it, and `None` where
-    /// none is.
+    /// One more slice has arrived at its destination. Returns whether this ends the outstanding move, or `None` if no move is
+    /// outstanding.
     pub fn report(&mut self) -> Option<bool> {
         if self.placements.is_moving() {
             Some(self.placements.report())

@@ -6,7 +6,7 @@ use range_moves::{Found, MoveOrder};
 use schema::NoMemory;
 
 impl<'a> Course<'a> {
-    /// A message comes into an inbox.
+    /// Puts a message into an inbox.
     pub fn put_in(&mut self, executor: u32, item: Item) -> Result<bool, NoMemory> {
         let Some(one) = self.executors.get_mut(executor as usize) else {
             return Ok(false);
@@ -15,7 +15,7 @@ impl<'a> Course<'a> {
         Ok(true)
     }
 
-    // An item comes into an outbox.
+    // Puts an item into an outbox.
     fn put_out(&mut self, executor: u32, item: Item) -> Result<bool, NoMemory> {
         let Some(one) = self.executors.get_mut(executor as usize) else {
             return Ok(false);
@@ -24,7 +24,7 @@ impl<'a> Course<'a> {
         Ok(true)
     }
 
-    /// The executor takes a message. It gives whether it is known still what is in flight.
+    /// The executor takes a message. Returns whether it is still known what is in flight.
     pub fn take(&mut self, at: usize, executor: u32) -> Result<bool, NoMemory> {
         let item = match self.executors.get_mut(executor as usize) {
             Some(one) => one.inbox.pop_front(),
@@ -52,7 +52,7 @@ impl<'a> Course<'a> {
         }
     }
 
-    // The messages of the first phase are put.
+    // Puts the messages of the first phase.
     fn take_start(&mut self, executor: u32, put: Item) -> Result<bool, NoMemory> {
         let (first, end) = self.begin_phase(put.flow);
         self.address(put.flow, first, end);
@@ -62,8 +62,8 @@ impl<'a> Course<'a> {
         Ok(first < end)
     }
 
-    // A message of an action is worked on where the slice of its warehouse is; else it goes on to where the slice went, or is
-    // parked until it comes.
+    // Processes the message of an action if the slice of its warehouse is here. Otherwise forwards it to where the slice went,
+    // or parks it.
     fn take_message(&mut self, executor: u32, place: usize, put: Item) -> Result<bool, NoMemory> {
         let Some(flow) = self.flows.get_mut(put.flow) else {
             return Ok(false);
@@ -84,7 +84,7 @@ impl<'a> Course<'a> {
         }
     }
 
-    // An action runs, or its claims go back.
+    // Runs an action, or gives its claims back.
     fn work_on(&mut self, executor: u32, place: usize, put: Item) -> Result<bool, NoMemory> {
         match put.content {
             Content::Act(_) => {
@@ -98,7 +98,7 @@ impl<'a> Course<'a> {
         }
     }
 
-    // A message is parked.
+    // Parks a message.
     fn park(&mut self, executor: u32, w_id: u32, item: Item) -> Result<bool, NoMemory> {
         let Some(one) = self.executors.get_mut(executor as usize) else {
             return Ok(false);
@@ -107,7 +107,7 @@ impl<'a> Course<'a> {
         Ok(true)
     }
 
-    // A move begins at the executor to which it goes: each slice of its range is there, or is fetched.
+    // Begins a move at its destination: each slice of its range is fetched or is here already.
     fn take_order(&mut self, executor: u32, order: MoveOrder, put: Item) -> Result<bool, NoMemory> {
         for w_id in order.lo..=order.hi {
             let content = match self.slices.move_to(w_id, executor) {
@@ -123,7 +123,7 @@ impl<'a> Course<'a> {
         Ok(true)
     }
 
-    // The slice of a warehouse has come: its report is put, and then what is parked for it, in order.
+    // Installs the slice of a warehouse. Puts the report of its arrival, and then the messages parked for it, in order.
     fn take_parcel(&mut self, executor: u32, w_id: u32, put: Item) -> Result<bool, NoMemory> {
         self.slices.install(w_id, executor);
         self.put_out(executor, put.with(Content::Arrival { w_id }))?;
@@ -137,7 +137,8 @@ impl<'a> Course<'a> {
         Ok(true)
     }
 
-    // The first message that is parked is put to be sent, if it is for that warehouse; else it is parked as the last.
+    // Takes the first parked message. Puts it into the outbox if it is for this warehouse; otherwise parks it again, as the
+    // last.
     fn unpark(&mut self, executor: u32, w_id: u32, put: Item) -> Result<(), NoMemory> {
         let Some(one) = self.executors.get_mut(executor as usize) else {
             return Ok(());
@@ -167,7 +168,7 @@ impl<'a> Course<'a> {
         Ok(())
     }
 
-    // The messages of these places go to where routing has the warehouses of their actions now.
+    // Sends the messages of these places to where the warehouses of their actions are routed now.
     fn address(&mut self, flow: usize, first: usize, end: usize) {
         let Some(flow) = self.flows.get_mut(flow) else {
             return;
@@ -186,7 +187,7 @@ impl<'a> Course<'a> {
         }
     }
 
-    // An action has run, and its claims get a slot.
+    // Records that an action has run, and takes a slot for its claims.
     fn note_ran(&mut self, flow: usize, place: usize, executor: u32, at: usize) {
         let slot = match self.executors.get_mut(executor as usize) {
             Some(one) => one.take_slot(),
@@ -199,8 +200,8 @@ impl<'a> Course<'a> {
         }
     }
 
-    /// The first item of an outbox is sent. What has followed a phase shows by what is told of it. It gives whether it
-    /// is known still what is in flight.
+    /// Sends the first item of an outbox. What followed a phase is determined by the output. Returns whether it is still known
+    /// what is in flight.
     pub fn send(
         &mut self,
         at: usize,
@@ -232,7 +233,7 @@ impl<'a> Course<'a> {
         Ok(known)
     }
 
-    // What has followed a phase: the next one, whose other actions stand behind its first; the commit; or an answer.
+    // What followed a phase: the next phase, whose other actions come after its first in the outbox; the commit; or an answer.
     fn resolve(
         &mut self,
         executor: u32,
@@ -259,8 +260,8 @@ impl<'a> Course<'a> {
         Ok(Some(Content::Act(first)))
     }
 
-    // What comes of an item that is sent, in the row where it is. It gives whether it is known still what is in flight:
-    // which actions of a refused transaction hold claims is not told.
+    // The effect of an item sent in this row. Returns whether it is still known what is in flight: the output does not contain
+    // which actions of a refused transaction hold claims.
     fn sent(&mut self, executor: u32, item: Item, reported: RowAnswer) -> Result<bool, NoMemory> {
         match (item.content, reported) {
             (Content::Fetch { from, .. }, RowAnswer::Sent) => return self.put_in(from, item),
@@ -316,7 +317,7 @@ impl<'a> Course<'a> {
         }
     }
 
-    // The reply is put, and then what gives the claims of each action back.
+    // Puts the reply, and then the messages that give the claims of each action back.
     fn release(&mut self, executor: u32, item: Item) -> Result<bool, NoMemory> {
         let (Some(flow), Some(one)) = (
             self.flows.get_mut(item.flow),

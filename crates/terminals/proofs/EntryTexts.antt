@@ -1,4 +1,4 @@
--- The records of a log's entry, of a move and of a schedule's item tell it.
+-- The records of a log's entry, of a move and of a schedule's item determine it.
 use Rattle.std.proofs.Common.{◌≡◌, ℕ, List, ◌++◌, length, refl, sym, ap, subst, ◌∙◌, arith}
 use Rattle.std.specs.Fmt.{decimal}
 use Rattle.std.proofs.lemmas.Fmt.{decimal_injective}

@@ -1,4 +1,4 @@
--- What the records of a listing tell, where each tells its item.
+-- The records of a listing determine its items, if each record determines its item.
 use Rattle.std.proofs.Common.{◌≡◌, ℕ, ◌+◌, List, [], ◌∷◌, ◌++◌, length, refl, sym, ap, subst, ◌∙◌, arith, length-append}
 use Rattle.std.specs.List.{AllByRecursion}
 use Rattle.terminals.specs.Listing.{IsListing, end_fields}

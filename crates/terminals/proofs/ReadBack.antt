@@ -41,7 +41,7 @@ use Rattle.terminals.proofs.RequestsReadBack.{IsReadRequest, alone_is_read, requ
 
 -- ---- records
 
--- what comes of a record whose first word is taken
+-- what has been read of a record whose first field is taken
 abbrev reported : (ℕ → List ℕ → FieldsView → FieldsView) → ℕ → List ℕ × FieldsView → Option FaultKind
 reported take place p = at_end (after_listed take place p.0 p.1).left (after_listed take place p.0 p.1).fault
 

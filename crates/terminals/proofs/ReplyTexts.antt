@@ -1,4 +1,4 @@
--- The fields of a reply tell it.
+-- The fields of a reply determine it.
 use Rattle.std.proofs.Common.{◌≡◌, ◌<◌, ◌^◌, ℕ, List, [], ◌∷◌, ◌++◌, length, get_or, flat_map, map, Option, Some, None, IfSome, refl, sym, ap, subst, ◌∙◌, arith}
 use Rattle.std.specs.Prelude.{ℤ}
 use Rattle.std.specs.Fmt.{decimal, signed_decimal}
@@ -309,7 +309,7 @@ same_shown a b x y fields s r =
 
 -- ---- what was rolled back
 
--- how long the word is that tells why
+-- the length of the word for the reason
 abbrev word_length : Fault → ℕ
 word_length NoCustomer = 10
 word_length (NoItem last credit o_id) = 6

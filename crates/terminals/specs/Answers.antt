@@ -11,32 +11,33 @@ use Rattle.requests.specs.declared.refusal.Refusal.TheVariants.{Died}
 use Rattle.terminals.specs.Numbered.{AreNumbered}
 use Rattle.terminals.specs.ReplyFields.{IsReply}
 
--- which group was held, and the holder's age
+-- For a death, the group and the holder's age; otherwise nothing.
 abbrev pub holder_fields : Refusal → List (List ℕ)
 holder_fields (Died group holder) = group_text group ∷ decimal holder ∷ []
 holder_fields _ = []
 
--- the number of the refusal, and who held the group, if one was held
+-- The code of the refusal, and for a death the group and the holder's age.
 abbrev pub refusal_fields : Refusal → List (List ℕ)
 refusal_fields refusal = decimal (refusal_number refusal) ∷ holder_fields refusal
 
--- the fields are those of the answer to the request of that number of a session
+-- These are the fields of the answer to the request of this number of a session.
 abbrev pub IsAnswer : ℕ → ℕ → Answer → List (List ℕ) → Type 0
 IsAnswer session number (Done place reply) fields =
     (replied : List (List ℕ)) × IsReply reply replied × (fields ≡ decimal session ∷ decimal number ∷ codes "done" ∷ decimal place ∷ replied)
 IsAnswer session number (Refused refusal) fields =
     fields ≡ decimal session ∷ decimal number ∷ codes "refused" ∷ refusal_fields refusal
 
--- the fields of the answer to the request of that number of a session: with the reply of the log's entry at this place, or refused
+-- These are the fields of the answer to the request of this number of a session: with the reply of the log's entry at this
+-- place, or a refusal.
 abbrev pub IsAnswerIn : List Entry → ℕ → ℕ → Result ℕ Refusal → List (List ℕ) → Type 0
 IsAnswerIn log session number (Ok place) fields =
     (entry : Entry) × (slice_get log place ≡ Some entry) × IsAnswer session number (Done place entry.reply) fields
 IsAnswerIn log session number (Err refusal) fields = IsAnswer session number (Refused refusal) fields
 
--- the records of a session's answers in this log, of which the first answers the request of number 0
+-- The records of a session's answers in this log. The first answers request number 0.
 abbrev pub AreAnswers : List Entry → ℕ → List (Result ℕ Refusal) → List (List (List ℕ)) → Type 0
 AreAnswers log session answers rows = AreNumbered (IsAnswerIn log session) 0 answers rows
 
--- wherever a place answers, the log has an entry there
+-- The log has an entry at each place that is an answer.
 abbrev pub AreInLog : List Entry → List (Result ℕ Refusal) → Type 0
 AreInLog log answers = (k place : ℕ) → slice_get answers k ≡ Some (Ok place) → place < length log

@@ -1,15 +1,15 @@
--- What the text of a choice tells.
+-- Laws of the text of a choice.
 use Rattle.std.specs.Prelude.{◌≡◌, ◌<◌, ◌^◌, false}
 use Rattle.requests.specs.LastName.{begins_with_hash}
 use Rattle.requests.specs.declared.request.Choice.{Choice}
 use Rattle.requests.specs.declared.request.Choice.TheVariants.{Number, LastName}
 use Rattle.terminals.specs.ChoiceText.{choice_text}
 
--- a choice that can be made: a number of 32 bits, or a last name that doesn't begin with `#`
+-- A possible choice: a number of 32 bits, or a last name that does not begin with `#`.
 abbrev pub IsChoice : Choice → Type 0
 IsChoice (Number number) = number < 2 ^ 32
 IsChoice (LastName last) = begins_with_hash last ≡ false
 
--- different choices have different texts
+-- Different choices have different texts.
 abbrev pub ChoiceTextsDiffer : Type 0
 ChoiceTextsDiffer = (one other : Choice) → IsChoice one → IsChoice other → choice_text one ≡ choice_text other → one ≡ other

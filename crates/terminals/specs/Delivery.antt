@@ -1,4 +1,4 @@
--- The fields of a Delivery, and of its reply.
+-- The fields of a Delivery and of its reply.
 use Rattle.std.specs.Prelude.{◌≡◌, ℕ, List, [], ◌∷◌, codes, map}
 use Rattle.std.specs.Fmt.{decimal}
 use Rattle.files.specs.MomentText.{IsMomentText}
@@ -6,14 +6,14 @@ use Rattle.requests.specs.declared.delivery.Delivery.{Delivery}
 use Rattle.requests.specs.declared.delivery.DeliveryReply.{DeliveryReply}
 use Rattle.terminals.specs.Nullable.{nullable_text}
 
--- the letter and the values of a request whose moment is spelt like this
+-- The letter and the values of a request whose moment has this text.
 abbrev pub delivery_fields : Delivery → List ℕ → List (List ℕ)
 delivery_fields d moment = codes "D" ∷ decimal d.w_id ∷ decimal d.carrier_id ∷ moment ∷ []
 
--- the fields are those of the request
+-- These are the fields of the request.
 abbrev pub IsDelivery : Delivery → List (List ℕ) → Type 0
 IsDelivery d fields = (moment : List ℕ) × IsMomentText moment d.moment × (fields ≡ delivery_fields d moment)
 
--- the letter and what is shown (clause 2.7.3.2): of each district the order, or the empty field
+-- The letter and what is shown (clause 2.7.3.2): for each district the order, or the empty field.
 abbrev pub delivery_reply_fields : DeliveryReply → List (List ℕ)
 delivery_reply_fields shown = codes "D" ∷ decimal shown.carrier_id ∷ map nullable_text shown.orders

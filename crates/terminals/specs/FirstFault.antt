@@ -1,4 +1,4 @@
--- The first fault of a script, of moves, of a schedule and of a log, by its record and its kind.
+-- The first fault of a script, of moves, of a schedule and of a log: its record and its kind.
 use Rattle.std.specs.Prelude.{◌≡◌, ℕ, ◌+◌, List, [], ◌∷◌, length, Bool, true, false, ◌==◌, codes, Option, Some, None, Result, Ok, Err, if◌then◌else◌}
 use Rattle.std.specs.Str.{bytes_eq}
 use Rattle.files.specs.declared.fault.FaultKind.{FaultKind}
@@ -14,17 +14,17 @@ use Rattle.requests.specs.declared.request.Request.{Request}
 use Rattle.terminals.specs.ReplyColumns.{after_reply}
 use Rattle.terminals.specs.RequestColumns.{fault_in, number, repeated, request_columns, after_request}
 
--- ---- what is known of a record once the fields behind its first one are taken
+-- ---- what has been read of a record once the fields after its first one are taken
 
--- of a move: `lo` is taken, and `hi` and `to` follow
+-- A move: `lo` is taken; `hi` and `to` follow.
 abbrev pub after_move : List ℕ → FieldsView → FieldsView
 after_move lo t = take_columns (number ∷ number ∷ []) (found (fault_in (whole_read 0 4294967295 lo)) t)
 
--- of a script: the first one is a request's letter
+-- A record of a script: the first field is a request's letter.
 abbrev pub after_asked : List ℕ → FieldsView → FieldsView
 after_asked letter t = after_request (length t.left + 1) letter t
 
--- of a schedule: a session, a number and a request; a move; an executor that takes or sends; or rounds
+-- A record of a schedule: a session, a number and a request; or a move; or an executor that takes or sends; or rounds.
 abbrev pub after_submit : FieldsView → FieldsView
 after_submit t =
     let u : FieldsView = take_columns (number ∷ number ∷ []) t in
@@ -38,34 +38,34 @@ after_scheduled letter t =
     else (if bytes_eq letter (codes "X") then take_column number t
     else (if bytes_eq letter (codes "R") then t else found (Some WrongShape) t))))
 
--- the fault of the number of a place, which is to be that one
+-- The fault of a field that should be this place.
 abbrev pub other_place : ℕ → Result ℕ FaultKind → Option FaultKind
 other_place place (Ok value) = if value == place then None else Some OutOfOrder
 other_place place (Err kind) = Some kind
 
--- a count that no record has is as a wrong shape
+-- A count too great for any record is a wrong shape.
 abbrev pub count_fault : FaultKind → FaultKind
 count_fault OutOfRange = WrongShape
 count_fault kind = kind
 
--- all words that are left are passed over
+-- All fields left are skipped.
 abbrev pub pass_over : FieldsView → FieldsView
 pass_over t = take_columns (repeated (length t.left) (Spelt (λ word. None) ∷ [])) t
 
--- a request of these columns and a letter, which are to be so many fields, and the reply to it
+-- A request with these columns after its letter, which should have this many fields, and its reply.
 abbrev pub after_logged : Option (List Column) → ℕ → FieldsView → FieldsView
 after_logged None count t = found (Some WrongShape) t
 after_logged (Some columns) count t =
     let u : FieldsView = found (if length columns + 1 == count then None else Some WrongShape) (take_columns columns t) in
     after_reply (take_word u).0 (take_word u).1
 
--- a request of so many fields, and the reply to it; without a count it isn't known which fields are whose
+-- A request of this many fields, and its reply. Without a count it is unknown which fields are the request's.
 abbrev pub after_counted : Result ℕ FaultKind → FieldsView → FieldsView
 after_counted (Ok count) t =
     after_logged (request_columns count (take_word t).0 (length (take_word t).1.left)) count (take_word t).1
 after_counted (Err kind) t = pass_over (found (Some (count_fault kind)) t)
 
--- of a log: its place is taken, and a session, a number, and how many fields the request has follow
+-- A record of a log: the place is taken; a session, a number and the number of the request's fields follow.
 abbrev pub after_entry : ℕ → List ℕ → FieldsView → FieldsView
 after_entry place first t =
     let u : FieldsView = take_columns (number ∷ number ∷ []) (found (other_place place (whole_read 0 4294967295 first)) t) in
@@ -73,15 +73,16 @@ after_entry place first t =
 
 -- ---- the first fault
 
--- what is known of a record whose first word is taken: of the end record, which counts those before it, or of another one
+-- What has been read of a record once its first field is taken: the end record, with the number of records before it, or an
+-- item.
 abbrev pub after_listed : (ℕ → List ℕ → FieldsView → FieldsView) → ℕ → List ℕ → FieldsView → FieldsView
 after_listed take count first t = if bytes_eq first (codes "END") then take_column (Count count) t else take count first t
 
--- whether a record is the end record
+-- Whether a record is the end record.
 abbrev pub is_end : List (List ℕ) → Bool
 is_end fields = bytes_eq (take_word (record { left = fields; fault = None })).0 (codes "END")
 
--- the least fault of a record behind so many, whatever its length, and in all
+-- The least fault of a record after `count` others: first without regard to its length, then of the whole record.
 abbrev pub fields_fault : (ℕ → List ℕ → FieldsView → FieldsView) → ℕ → List (List ℕ) → Option FaultKind
 fields_fault take count fields =
     let first : List ℕ × FieldsView = take_word (record { left = fields; fault = None }) in
@@ -91,8 +92,8 @@ fields_fault take count fields =
 abbrev pub record_fault : (ℕ → List ℕ → FieldsView → FieldsView) → ℕ → List (List ℕ) → Option FaultKind
 record_fault take count fields = unless_long fields (fields_fault take count fields)
 
--- The first fault of the records that come behind so many, each of which is taken so, up to the end record. There may be none
--- behind that.
+-- The first fault of the records after `count` others, up to the end record, each read by `take`. No record may follow the end
+-- record.
 unfoldable pub listing_fault : (ℕ → List ℕ → FieldsView → FieldsView) → ℕ → List (List (List ℕ)) → Option FileFault
 listing_fault take count [] = Some (fault_at NoEnd (count + 1))
 listing_fault take count (row ∷ rows) =
@@ -111,15 +112,15 @@ schedule_fault rows = listing_fault (λ place. after_scheduled) 0 rows
 abbrev pub log_fault : List (List (List ℕ)) → Option FileFault
 log_fault rows = listing_fault after_entry 0 rows
 
--- ---- what was read of a record
+-- ---- reading a record
 
--- a count was taken; or its fault is noted
+-- A count was taken, or its fault is recorded.
 abbrev pub IsCounted : Option ℕ → FieldsView → FieldsView → Type 0
 IsCounted (Some count) old new = (whole_read 0 18446744073709551615 (take_word old).0 ≡ Ok count) × (new ≡ (take_word old).1)
 IsCounted None old new =
     (kind : FaultKind) × (whole_read 0 18446744073709551615 (take_word old).0 ≡ Err kind) × (new ≡ found (Some (count_fault kind)) (take_word old).1)
 
--- a request that is to have so many fields was taken, with its letter; or that is unknown, which is noted
+-- A request that should have this many fields was taken, with its letter; or the letter is unknown, which is recorded.
 abbrev pub IsAsked : Option Request → ℕ → FieldsView → FieldsView → Type 0
 IsAsked None count old new =
     (request_columns count (take_word old).0 (length (take_word old).1.left) ≡ None) × (new ≡ found (Some WrongShape) (take_word old).1)
@@ -127,13 +128,13 @@ IsAsked (Some request) count old new =
     (columns : List Column) × (request_columns count (take_word old).0 (length (take_word old).1.left) ≡ Some columns)
     × (new ≡ found (if length columns + 1 == count then None else Some WrongShape) (take_columns columns (take_word old).1))
 
--- a record behind so many was read, as that of an item or as the end record; or an error tells its fault
+-- A record after `count` others was read as an item or as the end record; or the error is its fault.
 abbrev pub IsReadAs : {T : Type 0} → (ℕ → List ℕ → FieldsView → FieldsView) → ℕ → List (List ℕ) → ℕ → Result (Option T) FileError → Type 0
 IsReadAs take count fields at (Ok (Some item)) = (fields_fault take count fields ≡ None) × (is_end fields ≡ false)
 IsReadAs take count fields at (Ok None) = (fields_fault take count fields ≡ None) × (is_end fields ≡ true)
 IsReadAs take count fields at (Err error) = ReportsKind error (fields_fault take count fields) at
 
--- of all these records the end record was read, and more may be left
+-- The end record among all these records was read; more records may follow.
 pub record ReachesEnd {R : Type 0} (remaining : R → Option (List ℕ)) (take : ℕ → List ℕ → FieldsView → FieldsView) (rows : List (List (List ℕ))) (r : Records R) : Type 0 where
   pub more : List (List (List ℕ))
   pub fault : listing_fault take 0 rows ≡ behind_end (record_number r) more

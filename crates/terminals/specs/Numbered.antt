@@ -1,7 +1,7 @@
--- Records that are numbered.
+-- Numbered records.
 use Rattle.std.specs.Prelude.{ℕ, ◌+◌, List, [], ◌∷◌}
 
--- a record for each item, as `IsRecord` says of the item and of its number, and the first item has this number
+-- A record for each item that satisfies `IsRecord` with the item and its number. The first item has this number.
 unfoldable pub AreNumbered : {T : Type 0} → (ℕ → T → List (List ℕ) → Type 0) → ℕ → List T → List (List (List ℕ)) → Type 0
 AreNumbered IsRecord number [] [] = Unit {0}
 AreNumbered IsRecord number [] (fields ∷ rows) = ⊥

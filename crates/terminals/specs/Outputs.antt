@@ -1,4 +1,4 @@
--- The fields of what is told of a schedule.
+-- The fields of the output of a schedule.
 use Rattle.std.specs.Prelude.{◌≡◌, ℕ, List, [], ◌∷◌, All, length, codes}
 use Rattle.std.specs.Fmt.{decimal}
 use Rattle.std.specs.List.{AllZip}
@@ -10,8 +10,8 @@ use Rattle.history.specs.declared.schedule.Output.TheVariants.{Event, Quiet, Lim
 use Rattle.history.specs.Fits.{IsLoggedBelow}
 use Rattle.terminals.specs.Answers.{IsAnswerIn}
 
--- the fields are what came of an event: a word, and after it the transaction's age, the log's place or the fields of the answer, with the
--- reply of its entry in this log
+-- These are the fields of the answer to an event: a word, and then the transaction's age, the place in the log, or the fields
+-- of the answer with the reply of its entry in this log.
 abbrev pub IsEventAnswer : List Entry → EventAnswer → List (List ℕ) → Type 0
 IsEventAnswer log (Accepted age) fields = fields ≡ codes "accepted" ∷ decimal age ∷ []
 IsEventAnswer log Ordered fields = fields ≡ codes "ordered" ∷ []
@@ -24,22 +24,22 @@ IsEventAnswer log (Answered session number answer) fields =
     (answered : List (List ℕ)) × IsAnswerIn log session number answer answered × (fields ≡ codes "answered" ∷ answered)
 IsEventAnswer log Nothing fields = fields ≡ codes "nothing" ∷ []
 
--- the fields are what came of an event, or how rounds ended
+-- These are the fields of the answer to an event, or of how rounds ended.
 abbrev pub IsOutput : List Entry → Output → List (List ℕ) → Type 0
 IsOutput log (Event answer) fields = IsEventAnswer log answer fields
 IsOutput log Quiet fields = fields ≡ codes "quiet" ∷ []
 IsOutput log Limit fields = fields ≡ codes "limit" ∷ []
 
--- the records of what is told, one after the other
+-- The records of the output, one after the other.
 abbrev pub AreOutputs : List Entry → List Output → List (List (List ℕ)) → Type 0
 AreOutputs log reported rows = AllZip (IsOutput log) reported rows
 
--- where it names a place of the log, it is one of these
+-- A place in the log that the output contains is below this number.
 abbrev pub IsReportedBelow : ℕ → Output → Type 0
 IsReportedBelow n (Event answer) = IsLoggedBelow n answer
 IsReportedBelow n Quiet = Unit {0}
 IsReportedBelow n Limit = Unit {0}
 
--- wherever a place of the log is named, an entry stands there
+-- The log has an entry at each place that the outputs contain.
 abbrev pub NameEntries : List Entry → List Output → Type 0
 NameEntries log reported = All (IsReportedBelow (length log)) reported

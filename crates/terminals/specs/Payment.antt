@@ -1,4 +1,4 @@
--- The fields of a payment, and of its reply.
+-- The fields of a payment and of its reply.
 use Rattle.std.specs.Prelude.{◌≡◌, ℕ, List, [], ◌∷◌, codes}
 use Rattle.std.specs.Fmt.{decimal, signed_decimal}
 use Rattle.files.specs.MomentText.{IsMomentText}
@@ -7,17 +7,17 @@ use Rattle.requests.specs.declared.payment.Payment.{Payment}
 use Rattle.requests.specs.declared.payment.PaymentReply.{PaymentReply}
 use Rattle.terminals.specs.ChoiceText.{choice_text}
 
--- the letter and the values of a payment whose moment is spelt like this
+-- The letter and the values of a payment whose moment has this text.
 abbrev pub payment_fields : Payment → List ℕ → List (List ℕ)
 payment_fields p moment =
     codes "P" ∷ decimal p.home.w_id ∷ decimal p.home.d_id ∷ decimal p.customer_home.w_id ∷ decimal p.customer_home.d_id
     ∷ choice_text p.customer ∷ decimal p.amount ∷ moment ∷ []
 
--- the fields are those of the payment
+-- These are the fields of the payment.
 abbrev pub IsPayment : Payment → List (List ℕ) → Type 0
 IsPayment p fields = (moment : List ℕ) × IsMomentText moment p.moment × (fields ≡ payment_fields p moment)
 
--- the letter and what a payment shows; money is in cents, and a discount in ten-thousandths (clause 2.5.3)
+-- The letter and what a payment shows. Money is in cents, the discount in ten-thousandths (clause 2.5.3).
 abbrev pub payment_reply_fields : PaymentReply → List (List ℕ)
 payment_reply_fields shown =
     codes "P" ∷ decimal shown.c_id ∷ shown.first ∷ shown.middle ∷ shown.last ∷ credit_text shown.credit

@@ -1,4 +1,4 @@
--- What can be read: the records of a script, of moves, of a schedule and of a log have no fault.
+-- The records of a script, of moves, of a schedule and of a log have no fault if their values are in range.
 use Rattle.std.specs.Prelude.{◌≡◌, ◌≤◌, ◌<◌, ◌^◌, ℕ, List, length, None, IfSome}
 use Rattle.std.specs.List.{AllByRecursion}
 use Rattle.amounts.specs.Money.{IsMoney}
@@ -31,16 +31,16 @@ use Rattle.terminals.specs.RecordLaws.{CanBeAsked, CanBeOrdered, IsWord}
 use Rattle.terminals.specs.Schedule.{IsSchedule}
 use Rattle.terminals.specs.Script.{IsScript}
 
--- a number from low to high
+-- A number from low to high.
 abbrev pub IsBetween : ℕ → ℕ → ℕ → Type 0
 IsBetween low high n = (low ≤ n) × (n ≤ high)
 
--- a name fits its column
+-- A last name fits its column.
 abbrev pub IsNamed : Choice → Type 0
 IsNamed (Number number) = Unit {0}
 IsNamed (LastName last) = IsText 16 last
 
--- What the types keep of a request beside that, and how many lines a New-Order's record may have.
+-- Further ranges of a request's type, and the limit on the lines of a New-Order's record.
 abbrev pub Fits : Request → Type 0
 Fits (request.NewOrder n) = IsMoment n.moment × (length n.lines ≤ 64)
 Fits (request.Payment p) = IsNamed p.customer × IsMoment p.moment
@@ -48,11 +48,11 @@ Fits (request.OrderStatus o) = IsNamed o.customer
 Fits (request.Delivery d) = IsMoment d.moment
 Fits (request.StockLevel s) = Unit {0}
 
--- a request that can be read
+-- A request that can be read.
 abbrev pub CanBeRead : Request → Type 0
 CanBeRead r = CanBeAsked r × Fits r
 
--- an item of a schedule that can be read
+-- An item of a schedule that can be read.
 abbrev pub CanBeReadEvent : Event → Type 0
 CanBeReadEvent (Submit session number request) = IsWord session × IsWord number × CanBeRead request
 CanBeReadEvent (Order order) = CanBeOrdered order
@@ -63,23 +63,23 @@ abbrev pub CanBeReadItem : Scheduled → Type 0
 CanBeReadItem (scheduled.Event event) = CanBeReadEvent event
 CanBeReadItem scheduled.Rounds = Unit {0}
 
--- what the types keep of a line that a New-Order shows
+-- The ranges of a line that a New-Order shows.
 abbrev pub FitsShownLine : NewOrderLine → Type 0
 FitsShownLine line =
     IsWord line.supply_w_id × IsWord line.i_id × IsText 24 line.name × IsBetween 1 10 line.quantity
     × IsBetween 10 100 line.stock_quantity × IsBetween 1 99999 line.price × IsBetween 0 999999 line.amount
 
--- the same of a line that an Order-Status shows
+-- The ranges of a line that an Order-Status shows.
 abbrev pub FitsStatusLine : StatusLine → Type 0
 FitsStatusLine line =
     IsWord line.i_id × IsWord line.supply_w_id × IsBetween 1 10 line.quantity × IsBetween 0 999999 line.amount × IfSome line.delivery_d IsMoment
 
--- the same of an order that it shows
+-- The ranges of an order that an Order-Status shows.
 abbrev pub FitsStatusOrder : StatusOrder → Type 0
 FitsStatusOrder order =
     IsBetween 1 9999999 order.o_id × IsMoment order.entry_d × IfSome order.carrier_id (IsBetween 1 10) × AllByRecursion FitsStatusLine order.lines
 
--- The same of all that is shown, and how many lines and orders there are.
+-- The ranges of everything that is shown, and the numbers of lines and orders.
 abbrev pub FitsShown : Shown → Type 0
 FitsShown (shown.NewOrder n) =
     IsText 16 n.last × IsBetween 0 9999 n.discount × IsBetween 0 9999 n.warehouse_tax × IsBetween 0 9999 n.district_tax × IsBetween 1 9999999 n.o_id
@@ -92,22 +92,22 @@ FitsShown (shown.Delivery d) =
     IsBetween 1 10 d.carrier_id × (length d.orders ≡ 10) × AllByRecursion (λ order. IfSome order (IsBetween 1 9999999)) d.orders
 FitsShown (shown.StockLevel s) = IsWord s.count
 
--- the same of why nothing changed
+-- The ranges of the reason of a rollback.
 abbrev pub FitsFault : Fault → Type 0
 FitsFault NoCustomer = Unit {0}
 FitsFault (NoItem last credit o_id) = IsText 16 last × IsBetween 1 10000000 o_id
 FitsFault Range = Unit {0}
 
--- a reply that can be read
+-- A reply that can be read.
 abbrev pub FitsReply : Reply → Type 0
 FitsReply (Done shown) = FitsShown shown
 FitsReply (RolledBack fault) = FitsFault fault
 
--- an entry that can be read
+-- An entry that can be read.
 abbrev pub CanBeReadEntry : Entry → Type 0
 CanBeReadEntry entry = IsWord entry.session × IsWord entry.number × CanBeRead entry.request × FitsReply entry.reply
 
--- ---- the laws: where no record is too long, there is no fault
+-- ---- the laws: if no record is too long, there is no fault
 
 abbrev pub ScriptsAreRead : Type 0
 ScriptsAreRead =

@@ -1,4 +1,4 @@
--- What the records of scripts, moves, schedules and logs tell.
+-- The records of a script, of moves, of a schedule and of a log determine it.
 use Rattle.std.specs.Prelude.{◌≡◌, ◌<◌, ◌^◌, ℕ, List, length, IfSome}
 use Rattle.std.specs.List.{AllByRecursion}
 use Rattle.amounts.specs.Money.{IsMoney}
@@ -27,21 +27,21 @@ use Rattle.terminals.specs.Script.{IsScript}
 use Rattle.terminals.specs.Schedule.{IsSchedule}
 use Rattle.terminals.specs.LogRecord.{IsLog}
 
--- ---- what the types keep of every value
+-- ---- the ranges of the types
 
--- a number of 32 bits
+-- A number of 32 bits.
 abbrev pub IsWord : ℕ → Type 0
 IsWord number = number < 2 ^ 32
 
--- the key of a district
+-- The key of a district.
 abbrev pub IsDistrictKey : DistrictKey → Type 0
 IsDistrictKey key = IsWord key.w_id × IsWord key.d_id
 
--- a line of an order, as it is placed
+-- A line of an order in a request.
 abbrev pub IsOrderedLine : OrderedLine → Type 0
 IsOrderedLine line = IsWord line.i_id × IsWord line.supply_w_id × IsWord line.quantity
 
--- a request that can be made
+-- A possible request.
 abbrev pub CanBeAsked : Request → Type 0
 CanBeAsked (request.NewOrder n) = IsDistrictKey n.home × IsWord n.c_id × IsWord (length n.lines) × AllByRecursion IsOrderedLine n.lines
 CanBeAsked (request.Payment p) = IsDistrictKey p.home × IsDistrictKey p.customer_home × IsChoice p.customer × IsWord p.amount
@@ -49,20 +49,20 @@ CanBeAsked (request.OrderStatus o) = IsDistrictKey o.home × IsChoice o.customer
 CanBeAsked (request.Delivery d) = IsWord d.w_id × IsWord d.carrier_id
 CanBeAsked (request.StockLevel s) = IsDistrictKey s.home × IsWord s.threshold
 
--- a line of an order, as a New-Order shows it
+-- A line of an order, as a New-Order shows it.
 abbrev pub IsShownLine : NewOrderLine → Type 0
 IsShownLine line =
     IsWord line.supply_w_id × IsWord line.i_id × IsWord line.quantity × IsWord line.stock_quantity × IsWord line.price × IsWord line.amount
 
--- a line of an order, as an Order-Status shows it
+-- A line of an order, as an Order-Status shows it.
 abbrev pub IsLineOfStatus : StatusLine → Type 0
 IsLineOfStatus line = IsWord line.i_id × IsWord line.supply_w_id × IsWord line.quantity × IsWord line.amount
 
--- an order, as an Order-Status shows it
+-- An order, as an Order-Status shows it.
 abbrev pub IsOrderOfStatus : StatusOrder → Type 0
 IsOrderOfStatus order = IsWord order.o_id × IfSome order.carrier_id IsWord × AllByRecursion IsLineOfStatus order.lines
 
--- what can be shown
+-- A possible output of a transaction.
 abbrev pub CanBeShown : Shown → Type 0
 CanBeShown (shown.NewOrder n) =
     IsWord n.discount × IsWord n.warehouse_tax × IsWord n.district_tax × IsWord n.o_id × IsMoney n.total × AllByRecursion IsShownLine n.lines
@@ -71,58 +71,58 @@ CanBeShown (shown.OrderStatus o) = IsWord o.c_id × IsMoney o.balance × IfSome 
 CanBeShown (shown.Delivery d) = IsWord d.carrier_id × AllByRecursion (λ order. IfSome order IsWord) d.orders
 CanBeShown (shown.StockLevel s) = IsWord s.count
 
--- why a transaction can have changed nothing
+-- A possible reason of a rollback.
 abbrev pub CanBeFault : Fault → Type 0
 CanBeFault NoCustomer = Unit {0}
 CanBeFault (NoItem last credit o_id) = IsWord o_id
 CanBeFault Range = Unit {0}
 
--- a reply that can be given
+-- A possible reply.
 abbrev pub CanBeReplied : Reply → Type 0
 CanBeReplied (Done shown) = CanBeShown shown
 CanBeReplied (RolledBack fault) = CanBeFault fault
 
--- an entry that can be logged
+-- A possible entry of a log.
 abbrev pub CanBeLogged : Entry → Type 0
 CanBeLogged entry = IsWord entry.session × IsWord entry.number × CanBeAsked entry.request × CanBeReplied entry.reply
 
--- a move that can be ordered
+-- A possible move order.
 abbrev pub CanBeOrdered : MoveOrder → Type 0
 CanBeOrdered order = IsWord order.lo × IsWord order.hi × IsWord order.to
 
--- an event that can be asked for
+-- A possible event.
 abbrev pub CanBeEvent : Event → Type 0
 CanBeEvent (Submit session number request) = IsWord session × IsWord number × CanBeAsked request
 CanBeEvent (Order order) = CanBeOrdered order
 CanBeEvent (Take executor) = IsWord executor
 CanBeEvent (Send executor) = IsWord executor
 
--- an item that can be scheduled
+-- A possible item of a schedule.
 abbrev pub CanBeScheduled : Scheduled → Type 0
 CanBeScheduled (scheduled.Event event) = CanBeEvent event
 CanBeScheduled scheduled.Rounds = Unit {0}
 
 -- ---- the laws
 
--- different scripts have different records
+-- Different scripts have different records.
 abbrev pub ScriptsDiffer : Type 0
 ScriptsDiffer =
     (one other : List Request) → AllByRecursion CanBeAsked one → AllByRecursion CanBeAsked other
     → (rows : List (List (List ℕ))) → IsScript one rows → IsScript other rows → one ≡ other
 
--- different moves have different records
+-- Different lists of moves have different records.
 abbrev pub MovesDiffer : Type 0
 MovesDiffer =
     (one other : List MoveOrder) → AllByRecursion CanBeOrdered one → AllByRecursion CanBeOrdered other
     → (rows : List (List (List ℕ))) → AreMoves one rows → AreMoves other rows → one ≡ other
 
--- different schedules have different records
+-- Different schedules have different records.
 abbrev pub SchedulesDiffer : Type 0
 SchedulesDiffer =
     (one other : List Scheduled) → AllByRecursion CanBeScheduled one → AllByRecursion CanBeScheduled other
     → (rows : List (List (List ℕ))) → IsSchedule one rows → IsSchedule other rows → one ≡ other
 
--- different logs have different records
+-- Different logs have different records.
 abbrev pub LogsDiffer : Type 0
 LogsDiffer =
     (one other : List Entry) → AllByRecursion CanBeLogged one → AllByRecursion CanBeLogged other

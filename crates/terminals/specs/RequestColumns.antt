@@ -1,4 +1,4 @@
--- The columns of a request's record: what its fields are to spell, and so which fault it has.
+-- The columns of a request's record. They determine its fault.
 use Rattle.std.specs.Prelude.{◌≡◌, ℕ, zero, suc, ◌+◌, ◌-◌, ◌*◌, ◌/◌, min, List, [], ◌∷◌, ◌++◌, length, ◌==◌, codes, Option, Some, None, Result, Ok, Err, if◌then◌else◌}
 use Rattle.std.specs.Str.{bytes_eq}
 use Rattle.files.specs.declared.fault.FaultKind.{FaultKind}
@@ -9,16 +9,16 @@ use Rattle.files.specs.Word.{text_read}
 use Rattle.requests.specs.declared.request.Request.{Request}
 use Rattle.requests.specs.declared.request.Request.TheVariants.{NewOrder, Payment, OrderStatus, Delivery, StockLevel}
 
--- a number of 32 bits
+-- A number of 32 bits.
 abbrev pub number : Column
 number = Whole 0 4294967295
 
--- the fault, where nothing is read
+-- The fault if nothing could be read.
 abbrev pub fault_in : {X : Type 0} → Result X FaultKind → Option FaultKind
 fault_in (Ok value) = None
 fault_in (Err kind) = Some kind
 
--- the fault of a word that says who is chosen: `#` and a C_ID, or else a C_LAST of at most 16 bytes
+-- The fault of a field that identifies a customer: `#` and a C_ID, or a C_LAST of at most 16 bytes.
 abbrev pub choice_fault : List ℕ → Option FaultKind
 choice_fault [] = None
 choice_fault (first ∷ rest) =
@@ -27,20 +27,21 @@ choice_fault (first ∷ rest) =
 abbrev pub choice : Column
 choice = Spelt choice_fault
 
--- so many times the same columns
+-- The same columns this many times.
 abbrev pub repeated : ℕ → List Column → List Column
 repeated zero columns = []
 repeated (suc times) columns = repeated times columns ++ columns
 
--- what is ordered: item, supply warehouse and quantity
+-- A line of an order: item, supply warehouse and quantity.
 abbrev pub line_columns : List Column
 line_columns = number ∷ number ∷ number ∷ []
 
--- how many lines a New-Order has of so many fields with its letter, where so many are left for them: no more than 64
+-- The number of lines of a New-Order that should have `count` fields, including its letter, if `left` fields are left for
+-- lines: at most 64.
 abbrev pub lines_in : ℕ → ℕ → ℕ
 lines_in count left = min (min ((count - 5) / 3) (left / 3)) 64
 
--- behind the letter of each kind
+-- The columns after the letter of each kind.
 abbrev pub new_order_columns : ℕ → ℕ → List Column
 new_order_columns count left = (number ∷ number ∷ number ∷ Moment ∷ []) ++ repeated (lines_in count (left - 4)) line_columns
 
@@ -56,8 +57,8 @@ delivery_columns = number ∷ number ∷ Moment ∷ []
 abbrev pub stock_level_columns : List Column
 stock_level_columns = number ∷ number ∷ number ∷ []
 
--- the columns behind a letter, of a request of so many fields with the letter, where so many are left; none where it is no
--- kind's
+-- The columns after a letter, of a request of `count` fields including the letter, if `left` fields are left. None if the
+-- letter is of no kind.
 abbrev pub request_columns : ℕ → List ℕ → ℕ → Option (List Column)
 request_columns count letter left =
     if bytes_eq letter (codes "N") then Some (new_order_columns count left)
@@ -66,16 +67,16 @@ request_columns count letter left =
     else (if bytes_eq letter (codes "D") then Some delivery_columns
     else (if bytes_eq letter (codes "L") then Some stock_level_columns else None))))
 
--- what is known of a record once these columns are taken; an unknown letter has none, and a wrong shape
+-- What has been read of a record once these columns are taken. An unknown letter has no columns and is a wrong shape.
 abbrev pub after_known : Option (List Column) → FieldsView → FieldsView
 after_known (Some columns) t = take_columns columns t
 after_known None t = found (Some WrongShape) t
 
--- the same of a request's behind its letter
+-- The same for a request, after its letter.
 abbrev pub after_request : ℕ → List ℕ → FieldsView → FieldsView
 after_request count letter t = after_known (request_columns count letter (length t.left)) t
 
--- how many fields a request has, with its letter
+-- The number of fields of a request, including its letter.
 abbrev pub request_size : Request → ℕ
 request_size (NewOrder n) = 5 + 3 * length n.lines
 request_size (Payment p) = 8
@@ -83,7 +84,7 @@ request_size (OrderStatus o) = 4
 request_size (Delivery d) = 4
 request_size (StockLevel s) = 4
 
--- a request has these columns behind its letter; none was taken where there are none
+-- A request has these columns after its letter. No request was taken if there are none.
 abbrev pub HasColumns : Option Request → Option (List Column) → Type 0
 HasColumns None columns = columns ≡ None
 HasColumns (Some request) columns = (own : List Column) × (columns ≡ Some own) × (length own + 1 ≡ request_size request)

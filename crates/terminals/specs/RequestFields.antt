@@ -8,7 +8,7 @@ use Rattle.terminals.specs.OrderStatus.{IsOrderStatus}
 use Rattle.terminals.specs.Delivery.{IsDelivery}
 use Rattle.terminals.specs.StockLevel.{stock_level_fields}
 
--- the fields are those of the request
+-- These are the fields of the request.
 abbrev pub IsRequest : Request → List (List ℕ) → Type 0
 IsRequest (NewOrder n) fields = IsNewOrder n fields
 IsRequest (Payment p) fields = IsPayment p fields

@@ -9,8 +9,8 @@ use Rattle.terminals.specs.Listing.{IsListing}
 use Rattle.terminals.specs.MoveOrders.{order_fields}
 use Rattle.terminals.specs.RequestFields.{IsRequest}
 
--- the fields are those of the event: `S` with the session, the number and the request, `M` with the range of warehouses and the
--- executor to which they go, or `T` or `X` with the executor
+-- These are the fields of the event: `S` with the session, the number and the request; `M` with the range of warehouses and the
+-- executor that gets them; or `T` or `X` with the executor.
 abbrev pub IsEventRecord : Event → List (List ℕ) → Type 0
 IsEventRecord (Submit session number request) fields =
     (asked : List (List ℕ)) × IsRequest request asked × (fields ≡ codes "S" ∷ decimal session ∷ decimal number ∷ asked)
@@ -18,11 +18,11 @@ IsEventRecord (Order order) fields = fields ≡ codes "M" ∷ order_fields order
 IsEventRecord (Take executor) fields = fields ≡ codes "T" ∷ decimal executor ∷ []
 IsEventRecord (Send executor) fields = fields ≡ codes "X" ∷ decimal executor ∷ []
 
--- the fields are those of an event, or `R` alone for rounds
+-- These are the fields of an event, or `R` alone for rounds.
 abbrev pub IsScheduleRecord : Scheduled → List (List ℕ) → Type 0
 IsScheduleRecord (scheduled.Event event) fields = IsEventRecord event fields
 IsScheduleRecord scheduled.Rounds fields = fields ≡ codes "R" ∷ []
 
--- the records of a schedule: one for each of its items, and then the end record
+-- The records of a schedule: one for each item, and then the end record.
 abbrev pub IsSchedule : List Scheduled → List (List (List ℕ)) → Type 0
 IsSchedule schedule rows = IsListing (λ place. IsScheduleRecord) schedule rows

@@ -4,10 +4,10 @@ use Rattle.requests.specs.declared.request.Request.{Request}
 use Rattle.terminals.specs.Listing.{BeginsListing, IsListing}
 use Rattle.terminals.specs.RequestFields.{IsRequest}
 
--- the records of a script: one for each request, and then the end record
+-- The records of a script: one for each request, and then the end record.
 abbrev pub IsScript : List Request → List (List (List ℕ)) → Type 0
 IsScript requests rows = IsListing (λ place. IsRequest) requests rows
 
--- some first ones of them, or all
+-- The first of them, or all.
 abbrev pub BeginsScript : List Request → List (List (List ℕ)) → Type 0
 BeginsScript requests rows = BeginsListing (λ place. IsRequest) requests rows

@@ -14,7 +14,7 @@ use schema::NoMemory;
 use std::alloc::Global;
 use std::io::Write;
 
-/// The record of the answer to the request of that number of the session.
+/// The record of the answer to the request of this number of the session.
 pub fn answer_record(
     alloc: Global,
     session: u32,
@@ -28,12 +28,12 @@ pub fn answer_record(
     Ok(row.into_byte_record())
 }
 
-/// Writes the records of a session's answers, which stand in the order of their requests, to the sink: `Ok` has
-/// the place of the entry in the log, whose reply is written, and `Err` why the request was refused.
+/// Writes the records of a session's answers to the sink, in the order of the requests. `Ok` is the place of the entry in the
+/// log, whose reply is written; `Err` is why the request was refused.
 ///
-/// `NoMemory` comes where there is none for a record, and `Failed` where the sink fails, with the number of
-/// the record in flight, 0 where there is none; since records are gathered before they are sent, what was not
-/// taken may be an earlier one. After an error the sink has got a beginning of their text.
+/// Returns NoMemory if there is no memory for a record. Returns Failed if the sink fails, with the number of the current
+/// record, 0 if there is none; because records are buffered, what was not written may be of an earlier record. After an error
+/// the sink has got a beginning of the text.
 pub fn write_answers<W: Write>(
     alloc: Global,
     sink: &mut W,
@@ -56,7 +56,7 @@ pub fn write_answers<W: Write>(
     writer.finish(sink)
 }
 
-/// Adds the fields of the answer to a request that stands at this place of the log, or was refused.
+/// Adds the fields of the answer to a request that was logged at this place or refused.
 pub fn put_answer_in(
     row: &mut NewRecord,
     session: u32,
@@ -120,7 +120,7 @@ fn put_refused(
     put_refusal(row, refusal)
 }
 
-// Adds the fields of a refusal: its number, and why it died, if it did.
+// Adds the fields of a refusal: its code, and for a death the group and the holder's age.
 fn put_refusal(row: &mut NewRecord, refusal: Refusal) -> Result<(), NoMemory>
     ensures { OnOk result (row.new ≡ row.old ++ refusal_fields refusal) }
 {

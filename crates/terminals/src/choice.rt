@@ -13,9 +13,9 @@ use itoa::Buffer;
 use requests::{Choice, LastName};
 use schema::NoMemory;
 
-/// Takes the field that says who is chosen: `#` and a C_ID, 0 to 4,294,967,295, or else a C_LAST of at
-/// most 16 bytes. What goes on with no number after `#`, and a name that has a byte outside 32 to 126, is
-/// noted as `NotOfKind`; a greater number and a longer name as `OutOfRange`.
+/// Takes the field that identifies the customer: `#` and a C_ID, 0 to 4,294,967,295, or a C_LAST of at most 16 bytes. The fault
+/// is `NotOfKind` if no number follows `#` or the name has a byte outside 32 to 126, and `OutOfRange` if the number is greater
+/// or the name longer.
 pub fn take(fields: &mut Fields) -> Choice
     ensures left { fields_left fields.new ≡ drop 1 (fields_left fields.old) }
     ensures taken { TakesWell fields.old fields.new (choice_text result) }
@@ -30,7 +30,7 @@ pub fn take(fields: &mut Fields) -> Choice
     }
 }
 
-/// Adds the field that says who is chosen.
+/// Adds the field that identifies the customer.
 pub fn put(row: &mut NewRecord, choice: &Choice) -> Result<(), NoMemory>
     ensures { OnOk result (row.new ≡ row.old ++ (choice_text choice.now ∷ [])) }
 {

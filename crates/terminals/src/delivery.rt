@@ -1,4 +1,4 @@
-//! The fields of a Delivery, and of its reply.
+//! The fields of a Delivery and of its reply.
 ghost use Rattle.std.specs.Prelude.{◌≡◌, ℕ, List, [], ◌∷◌, ◌++◌, map, OnOk, codes};
 ghost use Rattle.files.specs.Columns.{MaybeWhole, take_column, take_columns};
 ghost use Rattle.files.specs.FieldRead.{fields_view};
@@ -12,10 +12,10 @@ use files::{Fields, NewRecord, moment_text};
 use requests::{Delivery, DeliveryReply};
 use schema::{NoMemory, Ranged};
 
-/// How many fields a Delivery has, with its letter.
+/// The number of fields of a Delivery, including its letter.
 pub const FIELDS: u64 = 4;
 
-/// Takes the fields of a Delivery that come after its letter.
+/// Takes the fields of a Delivery after its letter.
 pub fn take(fields: &mut Fields) -> Delivery
     ensures taken { Takes fields.old fields.new (λ said. IsDelivery result (codes "D" ∷ said)) }
     ensures columns { fields_view fields.new ≡ take_columns delivery_columns (fields_view fields.old) }
@@ -27,7 +27,7 @@ pub fn take(fields: &mut Fields) -> Delivery
     }
 }
 
-/// Adds the fields of a Delivery, with its letter.
+/// Adds the fields of a Delivery, including its letter.
 pub fn put(row: &mut NewRecord, asked: &Delivery) -> Result<(), NoMemory>
     ensures { OnOk result ((fields : List (List ℕ)) × IsDelivery asked.now fields × (row.new ≡ row.old ++ fields)) }
 {
@@ -37,7 +37,7 @@ pub fn put(row: &mut NewRecord, asked: &Delivery) -> Result<(), NoMemory>
     row.push(moment_text(asked.moment).as_str())
 }
 
-/// Takes the fields of a reply of Delivery that come after its letter.
+/// Takes the fields of the reply to a Delivery after its letter.
 pub fn take_reply(fields: &mut Fields) -> DeliveryReply
     ensures taken { Takes fields.old fields.new (λ said. codes "D" ∷ said ≡ delivery_reply_fields result) }
     ensures columns { fields_view fields.new ≡ take_columns delivery_shown (fields_view fields.old) }
@@ -60,7 +60,7 @@ fn take_orders(fields: &mut Fields) -> [Option<u32>; 10]
     orders
 }
 
-// Takes the number of an order, 1 to 9,999,999; `None` for the empty field.
+// Takes the number of an order, 1 to 9,999,999. Returns `None` for the empty field.
 fn take_order(fields: &mut Fields) -> Option<u32>
     ensures taken { TakesWell fields.old fields.new (nullable_text result) }
     ensures column { fields_view fields.new ≡ take_column (MaybeWhole 1 9999999) (fields_view fields.old) }
@@ -69,7 +69,7 @@ fn take_order(fields: &mut Fields) -> Option<u32>
     Some(number?.get())
 }
 
-/// Adds the fields of a reply of Delivery, with its letter.
+/// Adds the fields of the reply to a Delivery, including its letter.
 pub fn put_reply(row: &mut NewRecord, shown: &DeliveryReply) -> Result<(), NoMemory>
     ensures { OnOk result (row.new ≡ row.old ++ delivery_reply_fields shown.now) }
 {

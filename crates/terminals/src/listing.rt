@@ -13,16 +13,16 @@ use schema::NoMemory;
 use std::alloc::Global;
 use std::io::Write;
 
-/// What a record says, in a file whose records are ended by their count.
+/// An item that is read from a record, in a file that ends with its number of records.
 pub trait Listed: Drop {
-    // The record of the item at that place, from 0, has these fields.
+    // These are the fields of the record of the item at this place, from 0.
     ghost is_record: { ℕ → Self → List (List ℕ) → Type 0 };
 
-    // What is known of the record at that place once its fields are taken, of which the first one is that word.
+    // What has been read of the record at this place once its fields are taken. The second argument is its first field.
     ghost after: { ℕ → List ℕ → FieldsView → FieldsView };
 
-    /// Takes the fields of the record at that place, from 0, that come after the first one. `None` where
-    /// it can't be told what they are, which is noted as a fault.
+    /// Takes the fields after the first one, of the record at this place, from 0. Returns `None` if the first fields do not
+    /// determine the others; then a fault is recorded.
     fn take(
         alloc: Global,
         place: u64,
@@ -34,11 +34,10 @@ pub trait Listed: Drop {
         ensures columns { OnOk result (fields_view fields.new ≡ after place first.now (fields_view fields.old)) };
 }
 
-/// The items that `source` lists, each in its record, before the end record.
+/// Reads the items of `source`, one from each record before the end record.
 ///
-/// A fault comes with its record, and nothing else is given then. The first faulty record decides, and
-/// of its faults the least one. Want of memory and a failed read are as `Records` says them. Memory is taken
-/// item by item.
+/// A fault is returned with its record: that of the first faulty record, and of its faults the least. Nothing else is returned
+/// then. NoMemory and Failed are as for `Records`. Memory is allocated item by item.
 pub fn read<T: Listed, R: Input + Drop>(alloc: Global, source: R) -> Result<Vec<T>, FileError>
     ensures listed { IfOk result (λ listed. (text : List ℕ) → R.remaining source ≡ Some text → (rows : List (List (List ℕ))) × IsCsv text rows × IsListing T.is_record listed.items rows) }
     ensures first { (text : List ℕ) (rows : List (List (List ℕ))) → R.remaining source ≡ Some text → IsCsv text rows → length rows < 2 ^ 64 - 1
@@ -51,7 +50,7 @@ pub fn read<T: Listed, R: Input + Drop>(alloc: Global, source: R) -> Result<Vec<
     Ok(items)
 }
 
-// The items up to the end record, which is then in flight.
+// Reads the items up to the end record, which is the current one then.
 fn read_items<T: Listed, R: Input + Drop>(
     alloc: Global,
     records: &mut Records<R>,
@@ -79,7 +78,7 @@ fn read_items<T: Listed, R: Input + Drop>(
     Err(records.fault(FaultKind::NoEnd))
 }
 
-// The item of the record in flight; `None` for the end record, after `count` items.
+// The item of the current record. Returns `None` for the end record after `count` items.
 fn parse<T: Listed, R: Input + Drop>(
     alloc: Global,
     records: &Records<R>,
@@ -104,18 +103,18 @@ fn parse<T: Listed, R: Input + Drop>(
     }
 }
 
-/// What is written as a record, in a file whose records are ended by their count.
+/// An item that is written as a record, in a file that ends with its number of records.
 pub trait WrittenRecord {
-    // The record of the item at that place, from 0, has these fields.
+    // These are the fields of the record of the item at this place, from 0.
     ghost is_record: { ℕ → Self → List (List ℕ) → Type 0 };
 
-    /// Adds the fields of the record at that place, from 0.
+    /// Adds the fields of the record at this place, from 0.
     fn put(&self, place: u64, row: &mut NewRecord) -> Result<(), NoMemory>
         ensures { OnOk result ((fields : List (List ℕ)) × is_record place self.now fields × (row.new ≡ row.old ++ fields)) };
 }
 
-/// Writes the record of each item, and then the end record, to the sink. An error is as `RecordWriter` says it;
-/// after one the sink has got a beginning of their text.
+/// Writes the record of each item, and then the end record, to the sink. Errors are as for `RecordWriter`. After an error the
+/// sink has got a beginning of the text.
 pub fn write<T: WrittenRecord, W: Write>(
     alloc: Global,
     sink: &mut W,

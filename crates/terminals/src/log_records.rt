@@ -22,17 +22,16 @@ use schema::NoMemory;
 use std::alloc::Global;
 use std::io::Write;
 
-/// The entries of the log that `source` gives, as `write_log` writes it.
+/// Reads the log of `source`, in the format of `write_log`.
 ///
-/// A fault comes with its record, and nothing else is given then. The first faulty record decides, and
-/// of its faults the least one. A place is that of its record, from 0, else `OutOfOrder`; another number of
-/// request fields than the kind has is `WrongShape`. Whether a session is one of 64 and the numbers fit a
-/// scale is not looked at, nor whether a reply is of its request's kind.
+/// A fault is returned with its record: that of the first faulty record, and of its faults the least. Nothing else is returned
+/// then. The place of each record must be its index, from 0; otherwise the fault is `OutOfOrder`. The number of request fields
+/// must be that of the request's kind; otherwise it is `WrongShape`. Not checked: whether a session is one of 64, whether the
+/// numbers fit a scale, and whether a reply is of its request's kind.
 ///
-/// `NoMemory` comes where there is none for a record or for the entries; `Failed` comes where a read of
-/// `source` fails, with the number of the record in flight, and never where none does. Of the text neither
-/// says anything, and nothing else is given then either. After an error it is not said how far `source` was
-/// read. Memory is taken entry by entry.
+/// Returns NoMemory if there is no memory for a record or for the entries. Returns Failed if a read of `source` fails, and only
+/// then, with the number of the current record. Neither error says anything about the text, and nothing else is returned with
+/// it. After an error it is unspecified how far `source` was read. Memory is allocated entry by entry.
 pub fn read_log<R: Input + Drop>(alloc: Global, source: R) -> Result<Vec<Entry>, FileError>
     ensures log { IfOk result (λ entries. (text : List ℕ) → R.remaining source ≡ Some text → (rows : List (List (List ℕ))) × IsCsv text rows × IsLog entries.items rows) }
     ensures first { (text : List ℕ) (rows : List (List (List ℕ))) → R.remaining source ≡ Some text → IsCsv text rows → length rows < 2 ^ 64 - 1
@@ -76,7 +75,7 @@ impl Listed for Entry {
     }
 }
 
-// Notes a fault where the field is not the number of that place: `OutOfOrder` where it is another one.
+// Records a fault if the field is not this place: `OutOfOrder` if it is another number.
 fn expect_place(place: u64, field: &str, fields: &mut Fields)
     ensures place { fault_of fields.new ≡ None → (fault_of fields.old ≡ None) × (field.now ≡ decimal place) }
     ensures left { fields_left fields.new ≡ fields_left fields.old }
@@ -92,8 +91,8 @@ fn expect_place(place: u64, field: &str, fields: &mut Fields)
     }
 }
 
-// Takes the number of the request's fields. `None` where it is no number, which is noted as `NotOfKind`,
-// or a number that no record has, which is noted as `WrongShape`.
+// Takes the number of the request's fields. Returns `None` if it is no number, with the fault `NotOfKind`, or greater than any
+// record's, with the fault `WrongShape`.
 fn take_count(fields: &mut Fields) -> Option<u64>
     ensures taken { IfSome result (λ count. TakesWell fields.old fields.new (decimal count)) }
     ensures unknown { IfNone result (fault_of fields.new ≢ None) }
@@ -112,7 +111,7 @@ fn take_count(fields: &mut Fields) -> Option<u64>
     }
 }
 
-// Passes over the fields after the count, where it isn't known which of them are the request's.
+// Skips the fields after a faulty count: it is unknown which of them are the request's.
 fn pass_over_rest(fields: &mut Fields)
     ensures stays { fault_of fields.old ≢ None → fault_of fields.new ≢ None }
     ensures columns { fields_view fields.new ≡ pass_over (fields_view fields.old) }
@@ -122,8 +121,8 @@ fn pass_over_rest(fields: &mut Fields)
     }
 }
 
-// Takes the fields of a request, with its letter; another number of them than `count` is noted as
-// `WrongShape`. `None` where the letter is unknown, which is noted so too.
+// Takes the fields of a request, including its letter. If their number is not `count`, the fault is `WrongShape`. Returns
+// `None` if the letter is unknown, with the same fault.
 fn take_request(alloc: Global, count: u64, fields: &mut Fields) -> Result<Option<Request>, NoMemory>
     ensures taken { IfOk result (λ taken. IfSome taken (λ request. Takes fields.old fields.new (λ asked. IsRequest request asked × (length asked ≡ count)))) }
     ensures unknown { IfOk result (λ taken. IfNone taken (fault_of fields.new ≢ None)) }
@@ -139,7 +138,7 @@ fn take_request(alloc: Global, count: u64, fields: &mut Fields) -> Result<Option
     Ok(Some(request))
 }
 
-/// The record of the log's entry at that place.
+/// The record of the log's entry at this place.
 pub fn log_record(alloc: Global, place: u32, entry: &Entry) -> Result<ByteRecord, NoMemory>
     ensures { IfOk result (λ row. IsLogRecord place entry.now (fields_of row)) }
 {
@@ -150,9 +149,9 @@ pub fn log_record(alloc: Global, place: u32, entry: &Entry) -> Result<ByteRecord
 
 /// Writes a log to the sink: the record of each entry, whose place is its index, and then the end record.
 ///
-/// `NoMemory` comes where there is none for a record, and `Failed` where the sink fails, with the number of
-/// the record in flight; since records are gathered before they are sent, what was not taken may be an
-/// earlier one. After an error the sink has got a beginning of their text.
+/// Returns NoMemory if there is no memory for a record. Returns Failed if the sink fails, with the number of the current
+/// record; because records are buffered, what was not written may be of an earlier record. After an error the sink has got a
+/// beginning of the text.
 pub fn write_log<W: Write>(alloc: Global, sink: &mut W, entries: &[Entry]) -> Result<(), FileError>
     ensures written { OnOk result (Writes (W.contents sink.old) (W.contents sink.new) (IsLog entries.now)) }
     ensures begun { OnErr result (BeginsToWrite (W.contents sink.old) (W.contents sink.new) (BeginsLog entries.now)) }

@@ -1,4 +1,4 @@
-//! The fields of a move's order.
+//! The fields of a move order.
 ghost use Rattle.std.specs.Prelude.{◌≡◌, ◌∷◌, None};
 ghost use Rattle.std.specs.Fmt.{decimal};
 ghost use Rattle.files.specs.Columns.{found};
@@ -11,8 +11,8 @@ ghost use Rattle.terminals.specs.RequestColumns.{fault_in};
 use files::{Fields, parse_whole};
 use range_moves::MoveOrder;
 
-/// Takes the fields of a move's order that come after its first one, which is `lo`. Each is a number from 0
-/// to 4,294,967,295; whether there are such warehouses and such an executor is not looked at.
+/// Takes the fields of a move order after its first one, `lo`. Each is a number from 0 to 4,294,967,295. Whether there are such
+/// warehouses and such an executor is not checked.
 pub fn take_order(lo: &str, fields: &mut Fields) -> MoveOrder
     ensures taken { Takes fields.old fields.new (λ said. lo.now ∷ said ≡ order_fields result) }
     ensures columns { fields_view fields.new ≡ after_move lo.now (fields_view fields.old) }
@@ -24,7 +24,7 @@ pub fn take_order(lo: &str, fields: &mut Fields) -> MoveOrder
     }
 }
 
-// The number that a field spells which was taken; 0 after a fault, which is noted.
+// The number in a field that was taken. After a fault, which is recorded, 0.
 fn read_number(field: &str, fields: &mut Fields) -> u32
     ensures read { fault_of fields.new ≡ None → (fault_of fields.old ≡ None) × (field.now ≡ decimal result) }
     ensures left { fields_left fields.new ≡ fields_left fields.old }

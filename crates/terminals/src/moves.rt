@@ -13,16 +13,14 @@ use range_moves::MoveOrder;
 use schema::NoMemory;
 use std::alloc::Global;
 
-/// The moves that `source` gives.
+/// Reads the moves of `source`.
 ///
-/// A fault comes with its record, and nothing else is given then. The first faulty record decides, and
-/// of its faults the least one. Whether there are such warehouses and executors, and whether a range ends
-/// before it begins, is not looked at.
+/// A fault is returned with its record: that of the first faulty record, and of its faults the least. Nothing else is returned
+/// then. Not checked: whether there are such warehouses and executors, and whether a range ends before it begins.
 ///
-/// `NoMemory` comes where there is none for a record or for the moves; `Failed` comes where a read of
-/// `source` fails, with the number of the record in flight, and never where none does. Of the text neither
-/// says anything, and nothing else is given then either. After an error it is not said how far `source` was
-/// read. Memory is taken record by record.
+/// Returns NoMemory if there is no memory for a record or for the moves. Returns Failed if a read of `source` fails, and only
+/// then, with the number of the current record. Neither error says anything about the text, and nothing else is returned with
+/// it. After an error it is unspecified how far `source` was read. Memory is allocated record by record.
 pub fn read_moves<R: Input + Drop>(alloc: Global, source: R) -> Result<Vec<MoveOrder>, FileError>
     ensures moves { IfOk result (λ moves. (text : List ℕ) → R.remaining source ≡ Some text → (rows : List (List (List ℕ))) × IsCsv text rows × AreMoves moves.items rows) }
     ensures first { (text : List ℕ) (rows : List (List (List ℕ))) → R.remaining source ≡ Some text → IsCsv text rows → length rows < 2 ^ 64 - 1

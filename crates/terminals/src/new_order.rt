@@ -1,4 +1,4 @@
-//! The fields of a New-Order, and of its reply.
+//! The fields of a New-Order and of its reply.
 ghost use Rattle.std.specs.Prelude.{◌≡◌, ◌-◌, ◌/◌, ◌+◌, ◌*◌, min, ℕ, List, ◌∷◌, ◌++◌, length, OnOk, IfOk, codes, flat_map};
 ghost use Rattle.files.specs.Columns.{Spelt, take_column, take_columns};
 ghost use Rattle.files.specs.FieldRead.{fields_view};
@@ -13,19 +13,19 @@ use requests::{Lines, NewOrder, NewOrderLine, NewOrderReply, OrderedLine};
 use schema::{BrandGeneric, NoMemory};
 use std::alloc::Global;
 
-/// How many lines an order has in a record, at most.
+/// The greatest number of lines of an order in a record.
 pub const MOST_LINES: u64 = 64;
 
-// How many fields a New-Order has without its lines, with its letter.
+// The number of fields of a New-Order without lines, including its letter.
 const FIELDS: u64 = 5;
 
-// How many fields a line has that is ordered, and one that is shown.
+// The number of fields of an ordered line, and of a line in a reply.
 const ORDERED_FIELDS: u64 = 3;
 
 const SHOWN_FIELDS: u64 = 8;
 
-/// Takes the fields of a New-Order that come after its letter, of `count` fields with the letter. Those of
-/// them that make no line, or come after 64 lines, are left.
+/// Takes the fields of a New-Order after its letter. `count` is the number of its fields, including the letter. Fields that
+/// make no whole line, or come after 64 lines, are left.
 pub fn take(alloc: Global, count: u64, fields: &mut Fields) -> Result<NewOrder, NoMemory>
     ensures taken { IfOk result (λ order. Takes fields.old fields.new (λ said. IsNewOrder order (codes "N" ∷ said))) }
     ensures columns { OnOk result (fields_view fields.new ≡ take_columns (new_order_columns count (length (fields_left fields.old))) (fields_view fields.old)) }
@@ -39,7 +39,7 @@ pub fn take(alloc: Global, count: u64, fields: &mut Fields) -> Result<NewOrder, 
     })
 }
 
-// Takes so many lines, but no more than a record has, and no more than there are fields left for.
+// Takes `count` lines, but at most 64 and at most as many as the fields left make.
 fn take_lines(
     alloc: Global,
     count: u64,
@@ -69,7 +69,7 @@ fn take_line(fields: &mut Fields) -> OrderedLine
     }
 }
 
-/// How many fields the New-Order has, with its letter.
+/// The number of fields of the New-Order, including its letter.
 pub fn field_count(asked: &NewOrder) -> u64
     ensures fields { (fields : List (List ℕ)) → IsNewOrder asked.now fields → length fields ≡ result }
     ensures size { result ≡ 5 + 3 * length asked.now.lines }
@@ -77,7 +77,7 @@ pub fn field_count(asked: &NewOrder) -> u64
     FIELDS + ORDERED_FIELDS * asked.lines.as_slice().len() as u64
 }
 
-/// Adds the fields of a New-Order, with its letter.
+/// Adds the fields of a New-Order, including its letter.
 pub fn put(row: &mut NewRecord, asked: &NewOrder) -> Result<(), NoMemory>
     ensures { OnOk result ((fields : List (List ℕ)) × IsNewOrder asked.now fields × (row.new ≡ row.old ++ fields)) }
 {
@@ -105,7 +105,8 @@ fn put_line(row: &mut NewRecord, line: &OrderedLine) -> Result<(), NoMemory>
     row.push_number(u64::from(line.quantity))
 }
 
-/// Takes the fields of a reply of New-Order that come after its letter, to the end of the record.
+/// Takes the fields of the reply to a New-Order after its letter. Fields that make no whole line, or come after 64 lines, are
+/// left.
 pub fn take_reply(alloc: Global, fields: &mut Fields) -> Result<NewOrderReply, NoMemory>
     ensures taken { IfOk result (λ shown. Takes fields.old fields.new (λ said. IsNewOrderReply shown (codes "N" ∷ said))) }
     ensures columns { OnOk result (fields_view fields.new ≡ take_columns (new_order_shown (length (fields_left fields.old))) (fields_view fields.old)) }
@@ -151,7 +152,7 @@ fn take_shown_line(fields: &mut Fields) -> NewOrderLine
     }
 }
 
-// Takes `B` or `G`; another word is noted as `OutOfRange`.
+// Takes `B` or `G`. Another word is the fault `OutOfRange`.
 fn take_brand(fields: &mut Fields) -> BrandGeneric
     ensures taken { TakesWell fields.old fields.new (brand_text result) }
     ensures column { fields_view fields.new ≡ take_column (Spelt brand_fault) (fields_view fields.old) }
@@ -166,7 +167,7 @@ fn take_brand(fields: &mut Fields) -> BrandGeneric
     }
 }
 
-/// Adds the fields of a reply of New-Order, with its letter.
+/// Adds the fields of the reply to a New-Order, including its letter.
 pub fn put_reply(row: &mut NewRecord, shown: &NewOrderReply) -> Result<(), NoMemory>
     ensures { OnOk result ((fields : List (List ℕ)) × IsNewOrderReply shown.now fields × (row.new ≡ row.old ++ fields)) }
 {
@@ -174,7 +175,7 @@ pub fn put_reply(row: &mut NewRecord, shown: &NewOrderReply) -> Result<(), NoMem
     put_shown_lines(row, shown.lines.as_slice())
 }
 
-// Adds the letter, and what is shown of the order, whose moment is spelt like this.
+// Adds the letter and the fields of the order before its lines. `entry` is the text of its moment.
 fn put_order(row: &mut NewRecord, shown: &NewOrderReply, entry: &str) -> Result<(), NoMemory>
     ensures { OnOk result (row.new ≡ row.old ++ order_shown_fields shown.now entry.now) }
 {

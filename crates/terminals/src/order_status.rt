@@ -1,4 +1,4 @@
-//! The fields of an Order-Status, and of its reply.
+//! The fields of an Order-Status and of its reply.
 ghost use Rattle.std.specs.Prelude.{◌≡◌, ℕ, List, [], ◌∷◌, ◌++◌, None, OnOk, IfOk, codes};
 ghost use Rattle.files.specs.Columns.{take_column, take_columns};
 ghost use Rattle.files.specs.FieldRead.{fields_view};
@@ -15,13 +15,13 @@ use requests::{Lines, OrderStatus, OrderStatusReply, StatusLine, StatusOrder};
 use schema::{CarrierId, Moment, NoMemory};
 use std::alloc::Global;
 
-/// How many fields an Order-Status has, with its letter.
+/// The number of fields of an Order-Status, including its letter.
 pub const FIELDS: u64 = 4;
 
-// How many fields a line of an order has.
+// The number of fields of an order's line.
 const LINE_FIELDS: usize = 5;
 
-/// Takes the fields of an Order-Status that come after its letter.
+/// Takes the fields of an Order-Status after its letter.
 pub fn take(fields: &mut Fields) -> OrderStatus
     ensures taken { Takes fields.old fields.new (λ said. IsOrderStatus result (codes "O" ∷ said)) }
     ensures columns { fields_view fields.new ≡ take_columns order_status_columns (fields_view fields.old) }
@@ -32,7 +32,7 @@ pub fn take(fields: &mut Fields) -> OrderStatus
     }
 }
 
-/// Adds the fields of an Order-Status, with its letter.
+/// Adds the fields of an Order-Status, including its letter.
 pub fn put(row: &mut NewRecord, asked: &OrderStatus) -> Result<(), NoMemory>
     ensures { OnOk result ((fields : List (List ℕ)) × IsOrderStatus asked.now fields × (row.new ≡ row.old ++ fields)) }
 {
@@ -41,7 +41,7 @@ pub fn put(row: &mut NewRecord, asked: &OrderStatus) -> Result<(), NoMemory>
     choice::put(row, &asked.customer)
 }
 
-/// Takes the fields of a reply of Order-Status that come after its letter, to the end of the record.
+/// Takes the fields of the reply to an Order-Status after its letter. Fields that make no whole line are left.
 pub fn take_reply(alloc: Global, fields: &mut Fields) -> Result<OrderStatusReply, NoMemory>
     ensures taken { IfOk result (λ shown. Takes fields.old fields.new (λ said. IsOrderStatusReply shown (codes "O" ∷ said))) }
     ensures columns { OnOk result (fields_view fields.new ≡ take_columns (order_status_shown (fields_left fields.old)) (fields_view fields.old)) }
@@ -56,8 +56,8 @@ pub fn take_reply(alloc: Global, fields: &mut Fields) -> Result<OrderStatusReply
     })
 }
 
-// Takes what is shown of an order, with as many lines as the record has left; `None` where there is no
-// order, and O_ID is empty.
+// Takes the fields of an order, with as many lines as the fields left make. Returns `None` if O_ID is empty: the customer has
+// no order.
 fn take_order(alloc: Global, fields: &mut Fields) -> Result<Option<StatusOrder>, NoMemory>
     ensures taken { IfOk result (λ order. Takes fields.old fields.new (IsStatusOrder order)) }
     ensures columns { OnOk result (fields_view fields.new ≡ take_columns (status_order (fields_left fields.old)) (fields_view fields.old)) }
@@ -82,7 +82,7 @@ fn take_order(alloc: Global, fields: &mut Fields) -> Result<Option<StatusOrder>,
     }))
 }
 
-// Takes the three empty fields that stand for no order.
+// Takes the three empty fields of a reply without an order.
 fn take_no_order(fields: &mut Fields)
     ensures taken { Takes fields.old fields.new (IsStatusOrder None) }
     ensures columns { fields_view fields.new ≡ take_columns (null ∷ null ∷ null ∷ []) (fields_view fields.old) }
@@ -92,7 +92,7 @@ fn take_no_order(fields: &mut Fields)
     take_null(fields);
 }
 
-// Takes an empty field; another one is noted as `NotOfKind`.
+// Takes an empty field. Another one is the fault `NotOfKind`.
 fn take_null(fields: &mut Fields)
     ensures taken { TakesWell fields.old fields.new [] }
     ensures column { fields_view fields.new ≡ take_column null (fields_view fields.old) }
@@ -115,7 +115,7 @@ fn take_line(fields: &mut Fields) -> StatusLine
     }
 }
 
-/// Adds the fields of a reply of Order-Status, with its letter.
+/// Adds the fields of the reply to an Order-Status, including its letter.
 pub fn put_reply(row: &mut NewRecord, shown: &OrderStatusReply) -> Result<(), NoMemory>
     ensures { OnOk result ((fields : List (List ℕ)) × IsOrderStatusReply shown.now fields × (row.new ≡ row.old ++ fields)) }
 {
@@ -165,7 +165,7 @@ fn put_line(row: &mut NewRecord, line: &StatusLine) -> Result<(), NoMemory>
     put_delivery(row, line.delivery_d)
 }
 
-// Adds O_CARRIER_ID; the empty field where the order is not delivered.
+// Adds O_CARRIER_ID, or the empty field if the order is not delivered.
 fn put_carrier(row: &mut NewRecord, carrier: Option<CarrierId>) -> Result<(), NoMemory>
     ensures { OnOk result (row.new ≡ row.old ++ (nullable_text carrier ∷ [])) }
 {
@@ -175,7 +175,7 @@ fn put_carrier(row: &mut NewRecord, carrier: Option<CarrierId>) -> Result<(), No
     }
 }
 
-// Adds OL_DELIVERY_D; the empty field where the line is not delivered.
+// Adds OL_DELIVERY_D, or the empty field if the line is not delivered.
 fn put_delivery(row: &mut NewRecord, delivery: Option<Moment>) -> Result<(), NoMemory>
     ensures { OnOk result ((text : List ℕ) × IsNullableMoment text delivery × (row.new ≡ row.old ++ (text ∷ []))) }
 {

@@ -12,12 +12,12 @@ use schema::NoMemory;
 use std::alloc::Global;
 use std::io::Write;
 
-/// Writes a record for each output of a schedule to the sink, with the replies of the log's entries where their
-/// places answer.
+/// Writes a record for each output of a schedule to the sink. An answer with a place in the log has the reply of the entry
+/// there.
 ///
-/// `NoMemory` comes where there is none for a record, and `Failed` where the sink fails, with the number of
-/// the record in flight, 0 where there is none; since records are gathered before they are sent, what was not
-/// taken may be an earlier one. After an error the sink has got a beginning of their text.
+/// Returns NoMemory if there is no memory for a record. Returns Failed if the sink fails, with the number of the current
+/// record, 0 if there is none; because records are buffered, what was not written may be of an earlier record. After an error
+/// the sink has got a beginning of the text.
 pub fn write_outputs<W: Write>(
     alloc: Global,
     sink: &mut W,
@@ -51,7 +51,7 @@ fn put_output(row: &mut NewRecord, reported: &Output, log: &[Entry]) -> Result<(
     }
 }
 
-// Adds the fields of what came of an event.
+// Adds the fields of the answer to an event.
 fn put_event_answer(
     row: &mut NewRecord,
     answer: &EventAnswer,

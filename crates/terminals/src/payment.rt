@@ -1,4 +1,4 @@
-//! The fields of a payment, and of its reply.
+//! The fields of a payment and of its reply.
 ghost use Rattle.std.specs.Prelude.{◌≡◌, ℕ, List, ◌∷◌, ◌++◌, IfOk, OnOk, codes};
 ghost use Rattle.files.specs.Columns.{take_columns};
 ghost use Rattle.files.specs.FieldRead.{fields_view};
@@ -14,10 +14,10 @@ use requests::{Payment, PaymentReply, ShownData};
 use schema::NoMemory;
 use std::alloc::Global;
 
-/// How many fields a payment has, with its letter.
+/// The number of fields of a payment, including its letter.
 pub const FIELDS: u64 = 8;
 
-/// Takes the fields of a payment that come after its letter.
+/// Takes the fields of a payment after its letter.
 pub fn take(fields: &mut Fields) -> Payment
     ensures taken { Takes fields.old fields.new (λ said. IsPayment result (codes "P" ∷ said)) }
     ensures columns { fields_view fields.new ≡ take_columns payment_columns (fields_view fields.old) }
@@ -31,7 +31,7 @@ pub fn take(fields: &mut Fields) -> Payment
     }
 }
 
-/// Adds the fields of a payment, with its letter.
+/// Adds the fields of a payment, including its letter.
 pub fn put(row: &mut NewRecord, payment: &Payment) -> Result<(), NoMemory>
     ensures { OnOk result ((fields : List (List ℕ)) × IsPayment payment.now fields × (row.new ≡ row.old ++ fields)) }
 {
@@ -43,7 +43,7 @@ pub fn put(row: &mut NewRecord, payment: &Payment) -> Result<(), NoMemory>
     row.push(moment_text(payment.moment).as_str())
 }
 
-/// Takes the fields of a payment's reply that come after its letter.
+/// Takes the fields of the reply to a payment after its letter.
 pub fn take_reply(alloc: Global, fields: &mut Fields) -> Result<PaymentReply, NoMemory>
     ensures taken { IfOk result (λ shown. Takes fields.old fields.new (λ said. codes "P" ∷ said ≡ payment_reply_fields shown)) }
     ensures columns { OnOk result (fields_view fields.new ≡ take_columns payment_shown (fields_view fields.old)) }
@@ -60,7 +60,7 @@ pub fn take_reply(alloc: Global, fields: &mut Fields) -> Result<PaymentReply, No
     })
 }
 
-/// Adds the fields of a payment's reply, with its letter.
+/// Adds the fields of the reply to a payment, including its letter.
 pub fn put_reply(row: &mut NewRecord, shown: &PaymentReply) -> Result<(), NoMemory>
     ensures { OnOk result (row.new ≡ row.old ++ payment_reply_fields shown.now) }
 {

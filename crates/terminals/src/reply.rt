@@ -10,9 +10,8 @@ use requests::{Fault, Reply, Shown};
 use schema::NoMemory;
 use std::alloc::Global;
 
-/// Takes the fields of a reply that come after its letter. `None` where the letter is unknown, or what
-/// comes after `X` is no fault, which is noted as `WrongShape`. Only what a reply shows of an order or of C_DATA
-/// takes memory.
+/// Takes the fields of a reply after its letter. Returns `None` if the letter, or the word after `X`, is unknown, with the
+/// fault `WrongShape`. Only the lines of an order and C_DATA allocate memory.
 pub fn take(alloc: Global, letter: &str, fields: &mut Fields) -> Result<Option<Reply>, NoMemory>
     ensures taken { IfOk result (λ taken. IfSome taken (λ reply. Takes fields.old fields.new (λ said. IsReply reply (letter.now ∷ said)))) }
     ensures unknown { IfOk result (λ taken. IfNone taken (fault_of fields.new ≢ None)) }
@@ -50,7 +49,7 @@ pub fn take(alloc: Global, letter: &str, fields: &mut Fields) -> Result<Option<R
     }
 }
 
-// Takes why nothing changed; `None` where the word is unknown, which is noted as `WrongShape`.
+// Takes the reason of a rollback. Returns `None` if the word is unknown, with the fault `WrongShape`.
 fn take_fault(fields: &mut Fields) -> Option<Fault>
     ensures taken { IfSome result (λ fault. TakesAll fields.old fields.new (fault_fields fault)) }
     ensures unknown { IfNone result (fault_of fields.new ≢ None) }
@@ -71,7 +70,7 @@ fn take_fault(fields: &mut Fields) -> Option<Fault>
     }
 }
 
-/// Adds the fields of the reply, with its letter.
+/// Adds the fields of the reply, including its letter.
 pub fn put(row: &mut NewRecord, reply: &Reply) -> Result<(), NoMemory>
     ensures { OnOk result ((fields : List (List ℕ)) × IsReply reply.now fields × (row.new ≡ row.old ++ fields)) }
 {
@@ -84,7 +83,7 @@ pub fn put(row: &mut NewRecord, reply: &Reply) -> Result<(), NoMemory>
     }
 }
 
-// Adds the fields of what is shown, with its letter.
+// Adds the fields of what is shown, including the letter of its kind.
 fn put_shown(row: &mut NewRecord, shown: &Shown) -> Result<(), NoMemory>
     ensures { OnOk result ((fields : List (List ℕ)) × IsShown shown.now fields × (row.new ≡ row.old ++ fields)) }
 {
@@ -97,7 +96,7 @@ fn put_shown(row: &mut NewRecord, shown: &Shown) -> Result<(), NoMemory>
     }
 }
 
-// Adds why nothing changed.
+// Adds the reason of a rollback.
 fn put_fault(row: &mut NewRecord, fault: &Fault) -> Result<(), NoMemory>
     ensures { OnOk result (row.new ≡ row.old ++ fault_fields fault.now) }
 {

@@ -37,9 +37,9 @@ impl WrittenRecord for Request {
     }
 }
 
-/// Takes the fields of a request that come after its letter. `count` is how many it should have, with the
-/// letter, which tells how many lines an order has. `None` where the letter is unknown, which is noted as
-/// `WrongShape`. Only the lines of an order take memory.
+/// Takes the fields of a request after its letter. `count` is the number of fields it should have, including the letter; it
+/// determines the number of an order's lines. Returns `None` if the letter is unknown, with the fault `WrongShape`. Only the
+/// lines of an order allocate memory.
 pub fn take(
     alloc: Global,
     count: u64,
@@ -67,7 +67,7 @@ pub fn take(
     }
 }
 
-/// Takes the numbers of a warehouse and of a district.
+/// Takes the numbers of a warehouse and a district.
 pub(crate) fn take_district(fields: &mut Fields) -> DistrictKey
     ensures taken { TakesAll fields.old fields.new (decimal result.w_id ∷ decimal result.d_id ∷ []) }
     ensures columns { fields_view fields.new ≡ take_columns (number ∷ number ∷ []) (fields_view fields.old) }
@@ -78,7 +78,7 @@ pub(crate) fn take_district(fields: &mut Fields) -> DistrictKey
     }
 }
 
-/// How many fields the request has, with its letter.
+/// The number of fields of the request, including its letter.
 pub fn field_count(request: &Request) -> u64
     ensures fields { (fields : List (List ℕ)) → IsRequest request.now fields → length fields ≡ result }
     ensures size { result ≡ request_size request.now }
@@ -92,7 +92,7 @@ pub fn field_count(request: &Request) -> u64
     }
 }
 
-/// Adds the fields of the request, with its letter.
+/// Adds the fields of the request, including its letter.
 pub fn put(row: &mut NewRecord, request: &Request) -> Result<(), NoMemory>
     ensures { OnOk result ((fields : List (List ℕ)) × IsRequest request.now fields × (row.new ≡ row.old ++ fields)) }
 {
@@ -105,7 +105,7 @@ pub fn put(row: &mut NewRecord, request: &Request) -> Result<(), NoMemory>
     }
 }
 
-/// Adds the numbers of a warehouse and of a district.
+/// Adds the numbers of a warehouse and a district.
 pub(crate) fn put_district(row: &mut NewRecord, district: DistrictKey) -> Result<(), NoMemory>
     ensures { OnOk result (row.new ≡ row.old ++ (decimal district.w_id ∷ decimal district.d_id ∷ [])) }
 {

@@ -15,16 +15,14 @@ use history::{Event, Scheduled};
 use schema::NoMemory;
 use std::alloc::Global;
 
-/// The schedule that `source` gives.
+/// Reads the schedule of `source`.
 ///
-/// A fault comes with its record, and nothing else is given then. The first faulty record decides, and
-/// of its faults the least one. Whether there are such sessions, warehouses and executors, and whether the
-/// numbers fit a scale, is not looked at.
+/// A fault is returned with its record: that of the first faulty record, and of its faults the least. Nothing else is returned
+/// then. Not checked: whether there are such sessions, warehouses and executors, and whether the numbers fit a scale.
 ///
-/// `NoMemory` comes where there is none for a record or for the schedule; `Failed` comes where a read of
-/// `source` fails, with the number of the record in flight, and never where none does. Of the text neither
-/// says anything, and nothing else is given then either. After an error it is not said how far `source` was
-/// read. Memory is taken record by record.
+/// Returns NoMemory if there is no memory for a record or for the schedule. Returns Failed if a read of `source` fails, and
+/// only then, with the number of the current record. Neither error says anything about the text, and nothing else is returned
+/// with it. After an error it is unspecified how far `source` was read. Memory is allocated record by record.
 pub fn read_schedule<R: Input + Drop>(alloc: Global, source: R) -> Result<Vec<Scheduled>, FileError>
     ensures schedule { IfOk result (λ schedule. (text : List ℕ) → R.remaining source ≡ Some text → (rows : List (List (List ℕ))) × IsCsv text rows × IsSchedule schedule.items rows) }
     ensures first { (text : List ℕ) (rows : List (List (List ℕ))) → R.remaining source ≡ Some text → IsCsv text rows → length rows < 2 ^ 64 - 1
@@ -74,7 +72,7 @@ fn take(alloc: Global, letter: &str, fields: &mut Fields) -> Result<Option<Sched
     }
 }
 
-// Takes the session, the number and the request; `None` where the request's letter is unknown.
+// Takes the session, the number and the request. Returns `None` if the request's letter is unknown.
 fn take_submit(alloc: Global, fields: &mut Fields) -> Result<Option<Scheduled>, NoMemory>
     ensures taken { IfOk result (λ taken. IfSome taken (λ item. Takes fields.old fields.new (λ said. IsScheduleRecord item (codes "S" ∷ said)))) }
     ensures unknown { IfOk result (λ taken. IfNone taken (fault_of fields.new ≢ None)) }

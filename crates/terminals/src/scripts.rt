@@ -12,15 +12,15 @@ use requests::Script;
 use std::alloc::Global;
 use std::io::Write;
 
-/// The script that `source` gives.
+/// Reads the script of `source`.
 ///
-/// A fault comes with its record, and nothing else is given then. The first faulty record decides, and
-/// of its faults the least one. Whether the numbers fit a scale is not looked at.
+/// A fault is returned with its record: that of the first faulty record, and of its faults the least. Nothing else is returned
+/// then. Whether the numbers fit a scale is not checked.
 ///
-/// `NoMemory` comes where there is none for a record or for the requests, and where these are more than 2^32;
-/// `Failed` comes where a read of `source` fails, with the number of the record in flight, and never where
-/// none does. Of the text neither says anything, and nothing else is given then either. After an error it is
-/// not said how far `source` was read. Memory is taken request by request.
+/// Returns NoMemory if there is no memory for a record or for the requests, or if there are more than 2^32 requests. Returns
+/// Failed if a read of `source` fails, and only then, with the number of the current record. Neither error says anything about
+/// the text, and nothing else is returned with it. After an error it is unspecified how far `source` was read. Memory is
+/// allocated request by request.
 pub fn read_script<R: Input + Drop>(alloc: Global, source: R) -> Result<Script, FileError>
     ensures script { IfOk result (λ script. (text : List ℕ) → R.remaining source ≡ Some text → (rows : List (List (List ℕ))) × IsCsv text rows × IsScript script rows) }
     ensures first { (text : List ℕ) (rows : List (List (List ℕ))) → R.remaining source ≡ Some text → IsCsv text rows → length rows < 2 ^ 64 - 1
@@ -36,9 +36,9 @@ pub fn read_script<R: Input + Drop>(alloc: Global, source: R) -> Result<Script, 
 
 /// Writes a script to the sink: the record of each request, and then the end record.
 ///
-/// `NoMemory` comes where there is none for a record, and `Failed` where the sink fails, with the number of
-/// the record in flight; since records are gathered before they are sent, what was not taken may be an
-/// earlier one. After an error the sink has got a beginning of their text.
+/// Returns NoMemory if there is no memory for a record. Returns Failed if the sink fails, with the number of the current
+/// record; because records are buffered, what was not written may be of an earlier record. After an error the sink has got a
+/// beginning of the text.
 pub fn write_script<W: Write>(alloc: Global, sink: &mut W, script: &Script) -> Result<(), FileError>
     ensures written { OnOk result (Writes (W.contents sink.old) (W.contents sink.new) (IsScript script.now)) }
     ensures begun { OnErr result (BeginsToWrite (W.contents sink.old) (W.contents sink.new) (BeginsScript script.now)) }

@@ -1,4 +1,4 @@
-//! The fields of a Stock-Level, and of its reply.
+//! The fields of a Stock-Level and of its reply.
 ghost use Rattle.std.specs.Prelude.{◌≡◌, ◌∷◌, ◌++◌, OnOk, codes};
 ghost use Rattle.files.specs.Columns.{take_columns};
 ghost use Rattle.files.specs.FieldRead.{fields_view};
@@ -12,10 +12,10 @@ use files::{Fields, NewRecord};
 use requests::{StockLevel, StockLevelReply};
 use schema::NoMemory;
 
-/// How many fields a Stock-Level has, with its letter.
+/// The number of fields of a Stock-Level, including its letter.
 pub const FIELDS: u64 = 4;
 
-/// Takes the fields of a Stock-Level that come after its letter.
+/// Takes the fields of a Stock-Level after its letter.
 pub fn take(fields: &mut Fields) -> StockLevel
     ensures taken { Takes fields.old fields.new (λ said. codes "L" ∷ said ≡ stock_level_fields result) }
     ensures columns { fields_view fields.new ≡ take_columns stock_level_columns (fields_view fields.old) }
@@ -26,7 +26,7 @@ pub fn take(fields: &mut Fields) -> StockLevel
     }
 }
 
-/// Adds the fields of a Stock-Level, with its letter.
+/// Adds the fields of a Stock-Level, including its letter.
 pub fn put(row: &mut NewRecord, asked: &StockLevel) -> Result<(), NoMemory>
     ensures { OnOk result (row.new ≡ row.old ++ stock_level_fields asked.now) }
 {
@@ -35,7 +35,7 @@ pub fn put(row: &mut NewRecord, asked: &StockLevel) -> Result<(), NoMemory>
     row.push_number(u64::from(asked.threshold))
 }
 
-/// Takes the field of a reply of Stock-Level that comes after its letter.
+/// Takes the field of the reply to a Stock-Level after its letter.
 pub fn take_reply(fields: &mut Fields) -> StockLevelReply
     ensures taken { Takes fields.old fields.new (λ said. codes "L" ∷ said ≡ stock_level_reply_fields result) }
     ensures columns { fields_view fields.new ≡ take_columns stock_level_shown (fields_view fields.old) }
@@ -45,7 +45,7 @@ pub fn take_reply(fields: &mut Fields) -> StockLevelReply
     }
 }
 
-/// Adds the fields of a reply of Stock-Level, with its letter.
+/// Adds the fields of the reply to a Stock-Level, including its letter.
 pub fn put_reply(row: &mut NewRecord, shown: &StockLevelReply) -> Result<(), NoMemory>
     ensures { OnOk result (row.new ≡ row.old ++ stock_level_reply_fields shown.now) }
 {

@@ -41,7 +41,7 @@ module _ {J : Type 0} where
           by (inl put) = (x, subst (λ n. slice_get slots n ≡ Some (Some x)) (sym put.0) there)
           by (inr is) = (b, is)
 
-  -- one more is admitted, who has the next age
+  -- one more transaction is admitted, with the next age
   pub ages_admitted : (at : ActiveTransactions) (admitted slot : ℕ) (slots : List (Option (Active J))) (begun : Active J) → (at slot).age ≡ admitted
       → HaveTheirAges at admitted slots → HaveTheirAges at (admitted + 1) (slice_set slots slot (Some begun))
   ages_admitted at admitted slot slots begun age h = record {

@@ -355,7 +355,7 @@ module _ {J : Type 0} (once : TransactionsClaimEachGroupOnce) (shared : SharedTa
         ap {B = ℕ} (work_on u group) sound.work,
       )
 
-  -- so nobody has a claim on a group that it wants for
+  -- so no holder has a claim on a group that it wants
   none_holds : (opening : Database) (history : List Step) (w_id : ℕ) → Fits opening history w → HoldsGroupWanted ((joined_in w).holdings w_id) (group_wants_of act.work) → ⊥
   none_holds opening history w_id fits of =
       let claims = (flight w).claims in
@@ -380,7 +380,7 @@ one_slot slots i j x y one here there =
     let still : slice_get (slice_set slots i None) j ≡ Some (Some y) = get_other slots i j None other ∙ there in
     absurd (omega (arith, one, taken_counts slots i x here, taken_counts (slice_set slots i None) j y still)))
 
--- reports of those who have run tell of no death, where none has died
+-- the reports of actions that have run are of no death if none has died
 module _ {J : Type 0} (shared : SharedTables) (old : Core J) (h : IsSound shared old) (alone : count_active old.parts.desk.active ≡ 1) where
   abbrev all : Parts J
   all = together old
@@ -393,7 +393,7 @@ module _ {J : Type 0} (shared : SharedTables) (old : Core J) (h : IsSound shared
       let same : holder.0 ≡ slot = one_slot all.desk.active holder.0 slot holder.1.0 (active.Acting there.0 there.1.0) alone holder.1.1.0 there.1.1.0 in
       holder.1.1.1 ∙ ap (λ n. (h.all.in_flight n).age) same
 
-  -- so it waits for nobody
+  -- so it waits for no holder
   waits_for_none : (act : AnyAct J) → Contains all.inbox (Act act) → (w_id : ℕ) → MustWait ((joined_in old.parts).holdings w_id) act.age (wants_of act.work) → ⊥
   waits_for_none act is w_id must =
       let at = h.all.in_flight in
@@ -413,7 +413,7 @@ module _ {J : Type 0} (shared : SharedTables) (old : Core J) (h : IsSound shared
       let claim = claim_of w_id (flight all).claims holding out in
       omega (arith, must.younger holding must.some.1, own_age act.slot act.place claim.0 some claim.1.0, ap (λ (x : HeldClaim). x.by.age) claim.1.1, fine.age)
 
-  -- and nobody waits
+  -- and no action waits
   none_parked : (s : ShardView (Carried J)) → Contains old.parts.shards.items s → s.parked ≡ []
   none_parked s is = by s.parked refl
     where
@@ -431,7 +431,7 @@ module _ {J : Type 0} (shared : SharedTables) (old : Core J) (h : IsSound shared
           (subst (λ (hs : List HeldClaim). MustWait hs p.by.age (wants_of p.work)) (sym (stands_among old.parts h.all.slices s is)) must))
 
 module _ {J : Type 0} where
-  -- where nobody waits, nobody has a turn
+  -- if no action waits, none has a turn
   no_turn : (home : ℕ) (turned : List (Turned J (Carried J))) (old new : Parts J) → ((s : ShardView (Carried J)) → slice_get old.shards.items (home - 1) ≡ Some s → s.parked ≡ []) → TurnsFollow home turned old new → new.outbox ≡ old.outbox
   no_turn home [] old new none same = ap (λ (w : Parts J). w.outbox) same.rest
   no_turn home (one ∷ more) old new none follow =
@@ -459,7 +459,7 @@ module _ {J : Type 0} where
     parked_at : (home : ℕ) (s : ShardView (Carried J)) → slice_get old.parts.shards.items home ≡ Some s → s.parked ≡ []
     parked_at home s is = none_parked shared old h alone s (home, slice_get_within old.parts.shards.items home s is, get_or_from_slice_get old.parts.shards.items home s s is)
 
-    -- after what happened at a shard, with as few who wait
+    -- after what happened at a shard, with as few waiting actions
     and_no_turns : (home : ℕ) (items : List (Item J)) (of : ShardView (Carried J) → ShardView (Carried J) → Type 0) (left mid new : Parts J) → left.shards ≡ old.parts.shards → left.outbox ≡ []
         → (at : AtShard home items of left mid) → at.now.parked ≡ at.was.parked → All RecordsNoDeath items → AllTurns home mid new → Puts new
     and_no_turns home items of left mid new shards outbox_is at same records turns =

@@ -29,7 +29,7 @@ never_busy : (shared : SharedTables) (asked : Request) → check_of shared.scale
 never_busy shared asked is = absurd (omega (arith, refused_by_itself shared.scale asked SessionBusy is))
 
 module _ {J : Type 0} where
-  -- where its pass is at the desk a session isn't told that it waits
+  -- a session whose pass is at the desk is not refused as busy
   here_not_busy : (room : Bool) (shared : SharedTables) (asked : Request) (pass : PassView) (active : Bool) (session number : ℕ) (desk : SessionDesk J) (old new : Parts J) (answer : EventAnswer)
       → SubmitsUnless room (refuses (Some pass) (check_of shared.scale asked) active) session number asked desk old answer new → answer ≡ Answered session number (Err SessionBusy) → ⊥
   here_not_busy room shared asked pass active session number desk old new answer said is = by_check (check_of shared.scale asked) active refl said

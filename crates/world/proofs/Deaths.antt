@@ -1,4 +1,4 @@
--- Of whom a session is told that its transaction died.
+-- The transaction of which a session gets a death as its answer.
 use Rattle.std.proofs.Common.{◌≡◌, ℕ, Bool, true, false, Option, Some, None, refl, ap, ◌∙◌, ⊎_elim, arith}
 use Rattle.std.specs.Prelude.{Result, Ok, Err}
 use Rattle.std.specs.List.{slice_get}

@@ -1,4 +1,4 @@
--- Of whom actions die as a message is worked on.
+-- Of which transactions actions die while a message is processed.
 use Rattle.std.proofs.Common.{◌≡◌, ⊎_elim, slice_set, ℕ, ◌<◌, ◌≤◌, Bool, true, false, cond, List, [], ◌∷◌, ◌++◌, length, map, refl, sym, ap, subst, ◌∙◌, append-nil, append_assoc, arith}
 use Rattle.std.specs.Prelude.{All, Contains}
 use Rattle.std.specs.List.{filter}
@@ -76,7 +76,7 @@ more_held w_id (c ∷ more) claims x is = either (at_home w_id c.group) (more_he
 
 -- ---- a claim that is out
 
--- somebody of this age has a claim on the group
+-- a holder of this age has a claim on the group
 abbrev IsHeldBy : JoinedSlices → Group → ℕ → Type 0
 IsHeldBy slices group holder = (w_id : ℕ) × ((x : HeldClaim) × (Contains (slices.holdings w_id) x × ((x.group ≡ group) × (x.by.age ≡ holder))))
 
@@ -91,13 +91,13 @@ kept_stays old new more claims kept held w_id x is =
     (more_held w_id more claims x (Contains-permutation (old.holdings w_id) (held_at w_id claims) x (held w_id) is))
 
 module _ {J : Type 0} where
-  -- the action, if it has died, died of one who has a claim on the group
+  -- the action, if it has died, died of a holder of a claim on the group
   abbrev DiedOfHolder : JoinedSlices → Ran J → Type 0
   DiedOfHolder slices (ran.Done claims found) = Unit {0}
   DiedOfHolder slices (ran.Died group holder) = IsHeldBy slices group holder
   DiedOfHolder slices ran.NoMemory = Unit {0}
 
-  -- the item, if it is a report of a death, is of one who has a claim on the group that it names
+  -- the item, if it is the report of a death, names a holder of a claim on the group that it names
   abbrev RecordsOfHolder : JoinedSlices → Item J → Type 0
   RecordsOfHolder slices (item.Push m) = Unit {0}
   RecordsOfHolder slices (item.Report r) = DiedOfHolder slices r.ran
@@ -132,7 +132,7 @@ module _ {J : Type 0} where
   one_records : (slices : JoinedSlices) (i : Item J) → RecordsOfHolder slices i → All (RecordsOfHolder slices) (i ∷ [])
   one_records slices i h = All-cons (RecordsOfHolder slices) i [] h (All-nil (RecordsOfHolder slices))
 
-  -- who died at a shard, died of one who has a claim there
+  -- an action that died at a shard died of a holder of a claim there
   died_there : (by : Holder) (was now : SliceView) (work : Work) (one : Ran J) (slices : JoinedSlices) (home : ℕ) → slices.holdings home ≡ was.holdings → IsRan by was work one now → DiedOfHolder slices one
   died_there by was now work (ran.Done claims found) slices home is of = tt
   died_there by was now work (ran.Died group holder) slices home is of =
@@ -142,7 +142,7 @@ module _ {J : Type 0} where
 
   -- ---- a message is worked on
 
-  -- these items are put, and tell of whom actions died
+  -- these items are put, and report of which transactions actions died
   abbrev PutsRecording : Parts J → Parts J → Type 0
   PutsRecording old new = (put : List (Item J)) × ((new.outbox ≡ old.outbox ++ put) × All (RecordsOfHolder (joined_in new)) put)
 
@@ -151,7 +151,7 @@ module _ {J : Type 0} where
     joined_now : (home : ℕ) (items : List (Item J)) (of : ShardView (Carried J) → ShardView (Carried J) → Type 0) (old new : Parts J) → AtShard home items of old new → joined old.catalog (slices_in new) ≡ joined_in new
     joined_now home items of old new at = ap (λ (w : Parts J). joined w.catalog (slices_in new)) (sym at.rest)
 
-    -- those who have their turns report, and no claim comes back
+    -- the actions that have their turns report, and no claim comes back
     turns_record : (home : ℕ) (turned : List (Turned J (Carried J))) (old new : Parts J) → IsSoundWith shared nothing (seen old ms is) → TurnsFollow home turned old new
         → PutsRecording old new × StaysHeld (joined_in old) (joined_in new)
     turns_record home [] old new h same =
@@ -238,7 +238,7 @@ module _ {J : Type 0} where
 
   -- ---- the event
 
-  -- what is told in a world, where a history fits it
+  -- what is reported in a world that a history fits
   module _ (opening : Database) (history : List Step) (shared : SharedTables) (w : Parts J) (f : Fits opening history w) (h : IsSoundWith shared nothing w) where
     recorded_at : (i : Item J) → Contains w.outbox i → RecordsOfHolder (joined_in w) i → RecordsWhom history w h.in_flight i
     recorded_at (item.Push m) there of = tt

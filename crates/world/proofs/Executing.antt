@@ -72,7 +72,7 @@ module _ {J : Type 0} where
   abbrev pub GoesOnWith : SharedTables → Core J → Event → EventAnswer → Core J → Type 0
   GoesOnWith shared old event answer new = IsSound shared new × Advances (together old) (step event answer ∷ []) (together new)
 
-  -- an event that tells nothing of a transaction
+  -- an event that reports nothing of a transaction
   pub quietly : (shared : SharedTables) (old new : Core J) (event : Event) (answer : EventAnswer) → IsQuiet event answer → Keeps shared [] [] [] 0 new → GoesOn shared nothing (together old) (together new)
       → GoesOnWith shared old event answer new
   quietly shared old new event answer quiet keeps goes = (
@@ -102,7 +102,7 @@ module _ {J : Type 0} where
     no_outbox = k.no_outbox;
   }
 
-  -- ---- what is posted of items
+  -- ---- items in outboxes
 
   pub outgoing_items : (h : PlacementsView) (items : List (Item J)) → items_in (map (outgoing_by h) items) ≡ items
   outgoing_items h [] = refl
@@ -131,7 +131,7 @@ module _ {J : Type 0} where
   none_sent h (item.Commit commit ∷ items) = none_sent h items
   none_sent h (item.Reply recorded ∷ items) = none_sent h items
 
-  -- a message that is sent where its warehouse's messages go, goes to one who knows of the slice
+  -- a message that is routed by its warehouse goes to an executor that knows of the slice
   goes_knows : (h : PlacementsView) (m : Message J) → All (KnowsOf h) (goes (route_of h (home_of_message m)) m)
   goes_knows h (message.Start flow works) = All-nil (KnowsOf h)
   goes_knows h (message.Act act) = All-cons (KnowsOf h) _ [] (routed_knows h (home_of_message {J = J} (message.Act act))) (All-nil (KnowsOf h))
@@ -165,7 +165,7 @@ module _ {J : Type 0} where
     abbrev brought : Core J
     brought = record w { parts = record parts { outbox = [] } }
 
-    -- it is posted: nothing but its envelopes is on its way more
+    -- it is put into the outbox: only its envelopes are added to what is on its way
     pub brings_keep : (ms : List (Message J)) (is : List (Item J)) (envelopes : List (Envelope J)) (arrived : ℕ) → Keeps shared ms is envelopes arrived w → IsSoundWith shared nothing (holding [] parts.outbox brought) → All (IsShardOf shared.scale.warehouses) parts.shards.items
         → All HaveToWait parts.shards.items → parts.inbox ≡ [] → IsLocatedWith 0 w.placements (going_in (envelopes_of_all w)) (sent_in (envelopes_of_all w)) (arrived_in w) (map home_of_message w.parked)
         → Keeps shared [] [] [] 0 (bringing executor parts w)

@@ -42,7 +42,7 @@ logged_held (reply.RolledBack fault) holdings own others held = held
 
 -- ---- a history goes on
 
--- what it told it tells
+-- what it recorded before, it still records
 pub accepted_still : (history : List Step) (s : Step) (age : ℕ) (asked : Request) → WasAccepted history age asked → WasAccepted (history ++ s ∷ []) age asked
 accepted_still history s age asked h = (h.0, (h.1.0, Contains-append_left history (s ∷ []) (step (Submit h.0 h.1.0 asked) (Accepted age)) h.1.1))
 
@@ -53,7 +53,7 @@ pub all_claimed : (history : List Step) (s : Step) (claims : List ClaimView) →
 all_claimed history s claims h =
     All-weaker (IsClaimOf history) (IsClaimOf (history ++ s ∷ [])) (λ claim is. (is.0, (accepted_still history s claim.by.age is.0 is.1.0, is.1.1))) claims h
 
--- what stands behind
+-- what comes after
 pub All-behind : {X : Type 0} (P : X → Type 0) (xs ys : List X) → All P (xs ++ ys) → All P ys
 All-behind P [] ys h = h
 All-behind P (x ∷ xs) ys h = All-behind P xs ys (All-tail P x (xs ++ ys) h)
@@ -97,7 +97,7 @@ module _ (opening : Database) (history : List Step) (log : List Entry) where
     items = keeps.items ∙ h.items;
   }
 
-  -- an event that tells nothing of a transaction
+  -- an event that reports nothing of a transaction
   pub fits_quiet : (slices : JoinedSlices) (admitted : ℕ) (a : InFlight) (event : Event) (answer : EventAnswer) → IsQuiet event answer
       → FitsPart opening history log slices admitted a → FitsPart opening (history ++ step event answer ∷ []) log slices admitted a
   fits_quiet slices admitted a event answer quiet h = record {

@@ -21,7 +21,7 @@ use Rattle.world.proofs.Fitting.{fits_quiet}
 use Rattle.world.proofs.Asking.{not_refused, admits_sound, admits_fits}
 
 module _ {J : Type 0} where
-  -- nothing changes, and nothing is told of a transaction
+  -- nothing changes, and nothing is reported of a transaction
   pub stays : (old new : Parts J) (event : Event) (recorded answer : EventAnswer) → IsQuiet event recorded → StaysAt recorded old answer new → Advances old (step event answer ∷ []) new
   stays old new event recorded answer quiet said opening history f =
       subst (λ w. Fits opening (history ++ step event answer ∷ []) w) (sym said.1)

@@ -39,7 +39,7 @@ module _ {J : Type 0} where
     pub fits : (opening : Database) (history : List Step) (executor : ℕ) → FitsPart opening history old.log (joined_in old) old.desk.admitted (join hand (flight old))
         → Fits opening (history ++ step (Send executor) answer ∷ []) new
 
-  -- an event that tells nothing of a transaction
+  -- an event that reports nothing of a transaction
   quietly : (shared : SharedTables) (hand : InFlight) (old next new : Parts J) (answer : EventAnswer) → GoesOn shared hand old next → answer ≡ Sent → new ≡ next → SendsOn shared hand old answer new
   quietly shared hand old next new answer goes said is = record {
     sound = subst (λ w. IsSoundWith shared nothing w) (sym is) goes.sound;

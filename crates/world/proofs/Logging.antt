@@ -72,7 +72,7 @@ logged_claims : (shown : Reply) (held : List (List ClaimView)) → all_claims (m
 logged_claims shown [] = sym (logged_none shown)
 logged_claims shown (cs ∷ held) = ap (λ ds. claims_logged shown cs ++ ds) (logged_claims shown held) ∙ sym (logged_both shown cs (all_claims held))
 
--- the log refuses nobody for a death
+-- the log refuses no transaction for a death
 records_no_death : (groups : List Group) (age : ℕ) (why : AppendFault) → NamesOlder groups age (why_refused why)
 records_no_death groups age fault.NoMemory = tt
 records_no_death groups age fault.LogFull = tt

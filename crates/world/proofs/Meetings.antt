@@ -113,7 +113,7 @@ module _ {J : Type 0} where
     abbrev filled : List (Option (Report J))
     filled = slice_set slots k (Some r)
 
-    -- what stands at a place is sound
+    -- the report stored at a place is sound
     still_sound : (number : ℕ) (q : Report J) → slice_get filled number ≡ Some (Some q) → (q.place ≡ first + number) × ((q.slot ≡ r.slot) × IsSoundReport shared u q)
     still_sound number q stands = by (put_at slots k number (Some r) (Some q) stands)
       where

@@ -125,7 +125,7 @@ module _ (J : Type 0) where
       (located.moved_from n h going sent arrived parked w_id to away there kept from is))
 
 module _ {J : Type 0} where
-  -- what is posted for a warehouse is of no transaction
+  -- what a move puts for a warehouse belongs to no transaction
   no_items : (from : Option ℕ) (w_id to : ℕ) (more : List (Outgoing J)) → items_in more ≡ [] → items_in (outgoing_for from w_id to ∷ more) ≡ []
   no_items None w_id to more is = is
   no_items (Some from) w_id to more is = is
@@ -183,7 +183,7 @@ module _ {J : Type 0} where
   homes_else w_id [] = All-nil (λ v. v ≢ w_id)
   homes_else w_id (m ∷ ms) = homes_else_more w_id (is_at_home w_id m) m (parked_else w_id ms) refl (homes_else w_id ms)
 
-  -- they go to one who knows of the slice
+  -- they go to an executor that knows of the slice
   module _ (h : PlacementsView) (executor w_id : ℕ) (knows : Knows h executor w_id) where
     one_knows : (m : Message J) → home_of_message m ≡ w_id → All (KnowsOf h) (goes executor m)
     one_knows (message.Start flow works) is = All-nil (KnowsOf h)
@@ -247,7 +247,7 @@ module _ {J : Type 0} where
     no_outbox = h.no_outbox;
   }
 
-  -- an event that changes nothing, and tells nothing
+  -- an event that changes nothing and reports nothing
   pub stays_quiet : (shared : SharedTables) (w : Core J) (h : IsSound shared w) (event : Event) (answer : EventAnswer) → IsQuiet event answer → GoesOnWith shared w event answer w
   stays_quiet shared w h event answer quiet = quietly shared w w event answer quiet (sound_kept shared w h) (record { sound = h.all; fits = λ opening history f. f })
 
@@ -292,7 +292,7 @@ module _ {J : Type 0} where
       executor_is : executor < w.placements.executors
       executor_is = omega (arith, there, h.outboxes)
 
-      -- what the move has put is posted
+      -- what the move has put goes to the outbox
       module _ (placements : PlacementsView) (parked : List (Message J)) (posts : List (Outgoing J)) (executors : placements.executors ≡ w.placements.executors) (many : length placements.placements ≡ length w.placements.placements) where
         abbrev mid : Core J
         mid = record left { placements = placements; parked = parked }

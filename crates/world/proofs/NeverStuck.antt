@@ -1,4 +1,4 @@
--- Nobody waits for itself, through any others, and where nothing can be taken or sent nobody waits at all.
+-- No action waits for itself, through any others, and if nothing can be taken or sent no action waits at all.
 use Rattle.std.proofs.Common.{◌≡◌, ℕ, ◌<◌, ◌≤◌, zero, suc, List, [], ◌∷◌, ◌++◌, map, Some, refl, sym, ap, subst, ◌∙◌, cond, append-nil, arith, ◌==◌}
 use Rattle.std.specs.Prelude.{All, Contains}
 use Rattle.std.specs.List.{sum_by}
@@ -41,7 +41,7 @@ use Rattle.world.proofs.Tokens.{by_bool}
 use Rattle.world.proofs.Holders.{active_awaits, claim_of, contains_mapped, counted_in, empty_of, holder_active, mapped_contains, whose_token}
 use Rattle.world.proofs.Reported.{met_tokens}
 
--- ---- who waits is older than whom it waits for
+-- ---- a waiting action is older than those it waits for
 
 module _ {J : Type 0} where
   pub older : (w : Parts J) → All HaveToWait w.shards.items → (t u : ℕ) → WaitsFor w t u → t < u
@@ -58,11 +58,11 @@ path_rises waits rises t (next ∷ ages) u path = omega (arith, rises t next pat
 module _ {J : Type 0} where
   -- ---- where nothing can be taken or sent
 
-  -- somebody of this age waits at a shard
+  -- an action of this age waits at a shard
   abbrev Waits : Parts J → ℕ → Type 0
   Waits w n = (s : ShardView (Carried J)) × (Contains w.shards.items s × ((p : Parked (Carried J)) × (Contains s.parked p × (p.by.age ≡ n))))
 
-  -- who stands in front of all messages waits
+  -- a message of `waiting_in` is that of a waiting action
   who_waits : (w : Parts J) (m : Message J) → Contains (waiting_in w) m → (s : ShardView (Carried J)) × (Contains w.shards.items s × ((p : Parked (Carried J)) × (Contains s.parked p × (message_of p ≡ m))))
   who_waits w m is =
       let in_lists = joined_contains (λ queue. queue) (map waiting_at w.shards.items) m is in
@@ -101,7 +101,7 @@ module _ {J : Type 0} where
     abbrev at : ActiveTransactions
     at = h.all.in_flight
 
-    -- what is in flight is with who waits, or has met
+    -- what is in flight belongs to a waiting action or has met
     tokens_are : (weight : Token → ℕ) → sum_by weight (parts part_message waiting).tokens ≡ sum_by weight (awaited_by_all 0 all.desk.active)
     tokens_are weight =
         let met = parts part_met (reported_to_all all.desk.active) in
@@ -119,7 +119,7 @@ module _ {J : Type 0} where
     sound_waiting : (m : Message J) → Contains waiting m → IsSoundMessage shared at m
     sound_waiting m is = All-contains (IsSoundMessage shared at) waiting m (subst (All (IsSoundMessage shared at)) inbox_is h.all.inbox) is
 
-    -- somebody waits in each slot whose transaction awaits something
+    -- for each slot whose transaction awaits something, an action waits
     slot_waits : (slot : ℕ) → 1 ≤ sum_by (weigh_slots (of_slot slot)) (awaited_by_all 0 all.desk.active) → Waits w.parts (at slot).age
     slot_waits slot some =
         let one = whose_token part_message (weigh_slots (of_slot slot)) waiting (omega (arith, some, tokens_are (weigh_slots (of_slot slot)))) in
@@ -133,7 +133,7 @@ module _ {J : Type 0} where
         (λ other. absurd (omega (arith, weighs, sum_by-cons (weigh_slots (of_slot slot)) (Acting p.carried.slot p.by.place) [], ap {B = ℕ} (λ b. cond b 1 0) other))) in
         (who.0, (who.1.0, (p, (who.1.1.1.0, fine.age ∙ ap (λ n. (at n).age) (sym same)))))
 
-    -- who has a claim that is out waits too
+    -- a holder of a claim waits too
     holder_waits : (c : ClaimView) → Contains (flight all).claims c → Waits w.parts c.by.age
     holder_waits c is =
         let holder = holder_active shared all h.all c is in
@@ -142,7 +142,7 @@ module _ {J : Type 0} where
         subst (Waits w.parts) (sym holder.1.1.1)
         (slot_waits slot (omega (arith, some, awaited_of (weigh_slots (of_slot slot)) slot all.desk.active (Some holder.1.0) holder.1.1.0)))
 
-    -- who waits, waits for somebody younger who waits too
+    -- a waiting action waits for a younger one that waits too
     younger_waits : (n : ℕ) → Waits w.parts n → (m : ℕ) × ((n < m) × Waits w.parts m)
     younger_waits n waits =
         let s = waits.0 in
@@ -159,7 +159,7 @@ module _ {J : Type 0} where
         let claim = claim_of w_id (flight all).claims holding out in
         (claim.0.by.age, (omega (arith, must.younger holding must.some.1, waits.1.1.1.1, ap (λ (x : HeldClaim). x.by.age) claim.1.1), holder_waits claim.0 claim.1.0))
 
-    -- so whoever waits, some wait who are as young as one likes
+    -- so if an action waits, arbitrarily young ones wait
     as_young : (bound n : ℕ) → Waits w.parts n → (m : ℕ) × ((bound ≤ m) × Waits w.parts m)
     as_young zero n waits = (n, (omega arith, waits))
     as_young (suc bound) n waits =
@@ -217,7 +217,7 @@ module _ {J : Type 0} where
       let idle = (never_stuck_seen shared w seen same h).idle rest in
       omega (arith, idle.active, idle.awaited)
 
-  -- each slice stands somewhere
+  -- each slice is somewhere
   pub is_owned : (shared : SharedTables) (w : Core J) → IsSound shared w → IsOwned w
   is_owned shared w h =
       let envelopes = envelopes_of_all w in

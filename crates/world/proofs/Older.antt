@@ -1,4 +1,4 @@
--- No claim of a transaction is in the way of an action of its own: so who dies, dies of somebody older.
+-- No claim of a transaction conflicts with an action of its own, so an action that dies, dies of an older transaction.
 use Rattle.std.proofs.Common.{◌≡◌, ◌⊎◌, inl, inr, ℕ, ◌+◌, ◌-◌, ◌<◌, ◌≤◌, ◌==◌, zero, suc, Bool, true, false, List, [], ◌∷◌, ◌++◌, length, map, Option, Some, None, refl, sym, ap, subst, ◌∙◌, ⊎_elim, arith, cond, eq-eqb}
 use Rattle.std.specs.Prelude.{All, Contains}
 use Rattle.std.specs.List.{slice_get, sum_by}
@@ -440,7 +440,7 @@ module _ {J : Type 0} (shared : SharedTables) (w : Parts J) (h : IsSoundWith sha
                 let one = whose_token part_message weight w.inbox (omega (arith, more)) in
                 message_leads first phase.first_is one.0 (All-contains (IsSoundMessage shared at) w.inbox one.0 h.inbox one.1.0) one.1.1 (λ x has. in_first one.0 x one.1.0 has)
 
-  -- so its history tells its age and its request
+  -- so its history records its age and its request
   pub accepted_as : (opening : Database) (history : List Step) → Fits opening history w → (slot : ℕ) → IsActing slot → WasAccepted history (at slot).age (at slot).request
   accepted_as opening history f slot acting =
       let lead = leads slot acting in
@@ -510,7 +510,7 @@ module _ {J : Type 0} (shared : SharedTables) (w : Parts J) (h : IsSoundWith sha
         by (inr (inl committing)) = let acting = acts_now.1.1 in absurd (cc)
         by (inr (inr ending)) = let acting = acts_now.1.1 in let over = ending.1 in absurd (cc)
 
-    -- so who is in its way, and isn't younger, is older
+    -- so a conflicting holder that isn't younger is older
     pub dies_of_older : (w_id : ℕ) (holdings : List HeldClaim) → (joined_in w).holdings w_id ≡ holdings → (group : Group) (holder : ℕ) → MustDie holdings act.age (wants_of act.work) group holder → holder < act.age
     dies_of_older w_id holdings is group holder death =
         let on = dies_on holdings act.age (group_wants_of act.work) group holder death in
@@ -522,7 +522,7 @@ module _ {J : Type 0} (shared : SharedTables) (w : Parts J) (h : IsSoundWith sha
         not_own claim.0 claim.1.0 (ap (λ (x : HeldClaim). x.by.age) claim.1.1 ∙ on.by ∙ same)
         (subst (λ (g : Group). Contains (groups_of (group_wants_of act.work)) g) (sym (ap (λ (x : HeldClaim). x.group) claim.1.1 ∙ on.on)) on.group_wanted))
 
-    -- what an action holds once it has run is of its request's footprint, as the history tells
+    -- what an action holds once it has run is of its request's footprint, as the history records
     pub ran_claimed : (opening : Database) (history : List Step) → Fits opening history w → (was now : SliceView) (one : Ran J) → IsRan (holder_of act) was act.work one now → All (IsClaimOf history) (claims_of_ran one)
     ran_claimed opening history f was now (ran.Died group holder) of = All-nil (IsClaimOf history)
     ran_claimed opening history f was now ran.NoMemory of = All-nil (IsClaimOf history)
@@ -558,7 +558,7 @@ module _ {J : Type 0} (shared : SharedTables) (w : Parts J) (h : IsSoundWith sha
         acting_weighs r.slot r.place,
       ))
 
-  -- where one of that age has a claim on the group, the report names somebody older who is active
+  -- if a holder of that age has a claim on the group, the report names an older active transaction
   pub reports_of_older : (opening : Database) (history : List Step) → Fits opening history w → (r : Report J) → Contains w.outbox (item.Report r) → (group : Group) (holder : ℕ) → r.ran ≡ ran.Died group holder
       → (w_id : ℕ) (x : HeldClaim) → Contains ((joined_in w).holdings w_id) x → x.group ≡ group → x.by.age ≡ holder → DiesOf history w at r.slot group holder
   reports_of_older opening history f r there group holder is w_id x out on by =

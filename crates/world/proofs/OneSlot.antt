@@ -1,4 +1,4 @@
--- What the slots at the desk await and have met, with one of them told apart.
+-- What the slots at the desk await and have met, with one of them apart.
 use Rattle.std.proofs.Common.{◌≡◌, ℕ, ◌+◌, ◌<◌, ◌≤◌, ◌==◌, zero, suc, true, List, [], ◌∷◌, ◌++◌, length, Option, Some, None, refl, sym, ap, subst, cond, arith}
 use Rattle.std.specs.Prelude.{map, replicate, slice_set}
 use Rattle.std.specs.List.{slice_get, sum_by}

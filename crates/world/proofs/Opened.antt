@@ -50,7 +50,7 @@ use Rattle.world.proofs.Ages.{no_ages}
 
 -- ---- the log's seats
 
--- they tell what the tables have
+-- they have what the tables have
 pub seats_record : (t : Database) (openings : List OpenedGroup) (seats : List CommittedGroup) → AreOpenedFor t openings → AreInPlace t.scale.warehouses seats → contents_committed seats ≡ contents_opened openings
     → (place : ℕ) (d : CommittedGroup) → place < length seats → content t (get_or seats place d).group ≡ (get_or seats place d).content
 seats_record t openings seats opened in_place same place d small =
@@ -77,7 +77,7 @@ slices_back J [] = refl
 slices_back J (s ∷ slices) = ap (λ (l : List SliceView). s ∷ l) (slices_back J slices)
 
 module _ {J : Type 0} where
-  -- and nobody waits there
+  -- and no action waits there
   pub nobody_waits : (slices : List SliceView) → flat_map (λ queue. queue) (map (waiting_at {J = J}) (map shard_of slices)) ≡ []
   nobody_waits [] = refl
   nobody_waits (s ∷ slices) = nobody_waits slices
@@ -94,7 +94,7 @@ opened_shards {J} t shared slices shards are made =
       (ap (λ (l : List (ShardView (Carried J))). flat_map (λ queue. queue) (map waiting_at l)) made ∙ nobody_waits slices, ap (joined shared) back ∙ are.1),
     )
 
--- slices that were just cut have nobody who waits
+-- no action waits in slices that were just cut
 pub cut_waits : (parts : List Part) → All NobodyWaitsIn (map at_rest parts)
 cut_waits parts = All-map NobodyWaitsIn at_rest parts (All-from_recursion (λ p. NobodyWaitsIn (at_rest p)) parts (each parts))
   where

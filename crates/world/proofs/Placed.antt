@@ -67,7 +67,7 @@ shards_set warehouses shards place now seen below all is fine =
     let same : seen ≡ now = is ∙ get_or-set_same shards place now seen below in
     All-set (IsShardOf warehouses) shards place now (subst (λ s. IsShardOf warehouses s) same fine) all
 
--- who waits at one shard is among all who wait
+-- an action that waits at one shard is among all waiting actions
 pub waits_among : {J : Type 0} (w : Parts J) (place : ℕ) (s : ShardView (Carried J)) → slice_get w.shards.items place ≡ Some s → length s.parked ≤ length (waiting_in w)
 waits_among {J} w place s is = from w.shards.items place is
   where

@@ -1,4 +1,4 @@
--- What a world keeps while an event has something in hand: envelopes that were taken, messages, and items that are to be posted.
+-- What a world keeps while an event has something in hand: envelopes that were taken, messages, and items that are to go to an outbox.
 use Rattle.std.proofs.Common.{◌≡◌, ℕ, ◌+◌, ◌<◌, ◌≤◌, List, [], ◌∷◌, ◌++◌, length, refl, ◌∙◌, ap, subst, append_assoc, arith}
 use Rattle.std.specs.Prelude.{All, map, slice_set}
 use Rattle.std.specs.List.{sum_by}
@@ -175,7 +175,7 @@ module _ {J : Type 0} where
       no_outbox = h.no_outbox;
     }
 
-  -- ---- what is in hand is posted
+  -- ---- what is in hand goes to the outbox
 
   module _ (shared : SharedTables) (w : Core J) (executor : ℕ) (posts : List (Outgoing J)) (messages : List (Message J)) (there : executor < length w.outboxes) where
     abbrev pub then_outgoing : Core J

@@ -1,4 +1,4 @@
--- What stands at the end of an executor's outbox once it has opened an envelope.
+-- What opening an envelope appends to an executor's outbox.
 use Rattle.std.proofs.Common.{◌≡◌, ◌⊎◌, inl, inr, ℕ, ◌<◌, Bool, true, false, List, [], ◌∷◌, ◌++◌, length, map, refl, sym, ◌∙◌, ap, subst, append-nil}
 use Rattle.std.specs.Prelude.{All, Contains}
 use Rattle.std.proofs.lemmas.List.{get_or-set_same}
@@ -48,13 +48,13 @@ module _ {J : Type 0} where
   all_pushes [] = All-nil IsPush
   all_pushes (m ∷ ms) = All-cons IsPush (item.Push m) (map item.Push ms) tt (all_pushes ms)
 
-  -- pushes alone, and nothing else of a transaction, stand there more
+  -- only pushes, and nothing else of a transaction, are added there
   pub record PutsPushes (executor : ℕ) (old new : Core J) : Type 0 where
     pub posts : List (Outgoing J)
     pub stands : queue_of executor new.outboxes ≡ queue_of executor old.outboxes ++ posts
     pub pushes : All IsPush (items_in posts)
 
-  -- what was put at the end stands there
+  -- what was appended is there
   pub put_stands : (executor : ℕ) (more : List (Outgoing J)) (w : Core J) → executor < length w.outboxes → queue_of executor (posting executor more w).outboxes ≡ queue_of executor w.outboxes ++ more
   put_stands executor more w there = get_or-set_same w.outboxes executor (queue_of executor w.outboxes ++ more) [] there
 
@@ -93,7 +93,7 @@ module _ {J : Type 0} where
       by false works = inl (m, (refl, works))
       by true found = finds (found_by old.placements executor (home_of_message m)) found
 
-  -- the items of what stands in an executor's outbox are in flight
+  -- the items of an executor's outbox are in flight
   pub among_all : (w : Core J) (executor : ℕ) (before posts : List (Outgoing J)) → executor < length w.outboxes → queue_of executor w.outboxes ≡ before ++ posts → (i : Item J) → Contains (items_in posts) i → Contains (together w).outbox i
   among_all w executor before posts there is i own =
       let one = joined_contains items_of posts i own in

@@ -28,7 +28,7 @@ use Rattle.world.proofs.Reported.{HaveReported, all_done, is_carried, phase_repo
 use Rattle.world.proofs.Tokens.{is_awaited, weigh_acting, weigh_ending, one_weighs, acting_weighs, acting_in_flight, ending_in_flight}
 use Rattle.world.proofs.OneSlot.{sound_in}
 
--- what stands at a place below the length
+-- the element at a place below the length
 pub stands_at : {X : Type 0} (xs : List X) (n : ℕ) → n < length xs → (x : X) × (slice_get xs n ≡ Some x)
 stands_at [] n below = absurd (omega (arith, below))
 stands_at (x ∷ xs) zero below = (x, refl)

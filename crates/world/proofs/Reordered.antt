@@ -108,7 +108,7 @@ module _ {X : Type 0} (f : X → InFlight) where
     part = subst (λ p. IsSame (parts f (all_of (slice_set queues place own))) p) (sym (parts-append f own (others place queues))) (own_part queues place own below);
   }
 
-  -- and so they stand as they are
+  -- and so they are unchanged
   pub reordered_now : (queues : List (List X)) (place : ℕ) → place < length queues → Reordered f (all_of queues) (slice_index_or queues place [] ++ others place queues)
   reordered_now queues place below =
       subst (λ qs. Reordered f (all_of qs) (slice_index_or queues place [] ++ others place queues)) (set-get_or queues place [])

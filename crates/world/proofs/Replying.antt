@@ -22,7 +22,7 @@ use Rattle.world.specs.Worlds.{FitsPart, Fits}
 use Rattle.world.proofs.Fitting.{fits_answer}
 use Rattle.world.proofs.Sessions.{AreInPlace, AreAlone, AreMany, answered_alone, answered_many, still_in_place}
 
--- the answer is that of the transaction that it tells
+-- the answer is that of its own transaction
 pub is_answer_to : (age session number : ℕ) (request : _) (answer : Result ℕ Refusal)
     → IsAnswerTo (record { age = age; session = session; number = number; request = request; entry = place_answered answer }) answer
 is_answer_to age session number request (Ok place) = refl

@@ -36,7 +36,7 @@ all_claims-append [] others = refl
 all_claims-append (claims ∷ some) others =
     ap (λ cs. claims ++ cs) (all_claims-append some others) ∙ sym (append_assoc claims (all_claims some) (all_claims others))
 
--- what stands in a list once one element is put in it: that one, or what stood there
+-- an element of a list after one is set: the new one, or one that was there
 pub put_at : {X : Type 0} (xs : List X) (k i : ℕ) (x y : X) → slice_get (slice_set xs k x) i ≡ Some y → ((i ≡ k) × (x ≡ y)) ⊎ (slice_get xs i ≡ Some y)
 put_at [] k i x y is = absurd (cc)
 put_at (z ∷ xs) zero zero x y is = inl (refl, cc)
@@ -82,7 +82,7 @@ module _ {J : Type 0} where
   -- ---- the reports of a phase
 
   module _ (shared : SharedTables) (slot : ℕ) (u : ActiveTransaction) where
-    -- an action that ran has done this work, and all of it can be taken back; or it died of somebody older, who is on a group that it claims for it
+    -- an action that ran has done this work, and all of it can be undone; or it died of an older holder, on a group that it claims for the work
     abbrev pub HasRan : Work → Ran J → Type 0
     HasRan work (ran.Done claims found) = HasDone shared work found claims × AreUndoneBy u.age claims
     HasRan work (ran.Died group holder) = Contains (groups_of (group_wants_of work)) group × (holder < u.age)
@@ -145,7 +145,7 @@ module _ {J : Type 0} where
             subst (λ (p : Report J). IsPlaceOf u (0 + i) p.place × ((p.slot ≡ slot) × IsSoundReport shared u p)) same (omega (arith, put.0, here, at.first_is), (own, s))
         by i q (inr stood) = let recorded = at.reports i q stood in (omega (arith, recorded.0, at.first_is), recorded.1)
 
-    -- ---- who carries the transaction
+    -- ---- which report carries the transaction
 
     pub is_carried : (o : Option (Flow J)) → IsCarriedAt slot u 0 o → (flow : Flow J) × ((o ≡ Some flow) × IsSoundFlow slot u flow)
     is_carried None h = absurd h
@@ -216,14 +216,14 @@ module _ {J : Type 0} where
 
     -- ---- why it is refused
 
-    -- who died, died of one who is older, on a group that the work wants for, among others
+    -- an action that died, died of an older holder, on a group among those that the work wants
     one_fair : (group_wants : List GroupWant) (work : Work) → ((group : Group) → Contains (groups_of (group_wants_of work)) group → Contains (groups_of group_wants) group)
         → (own : Ran J) → HasRan work own → IfDied (NamesOlder (groups_of group_wants) u.age) own
     one_fair group_wants work among (ran.Done claims found) has = tt
     one_fair group_wants work among (ran.Died group holder) has = (among group has.0, has.1)
     one_fair group_wants work among ran.NoMemory has = tt
 
-    -- so did all who died
+    -- so did all actions that died
     pub all_fair : (group_wants : List GroupWant) (place : ℕ) (works : List Work) (reports : List (Report J)) → HaveReported place works reports
         → ((group : Group) → Contains (groups_of (all_group_wants works)) group → Contains (groups_of group_wants) group)
         → All (IfDied (NamesOlder (groups_of group_wants) u.age)) (rans_of reports)

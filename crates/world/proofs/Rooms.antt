@@ -121,7 +121,7 @@ module _ {J : Type 0} where
         length-more (in_outbox w).pending met.pending,
       )
 
-  -- ---- what stands in the executors' queues
+  -- ---- the executors' queues
 
   one_outgoing : (p : Outgoing J) → 1 ≤ length (items_of p) + (length (sent_in (envelopes_of p)) + arrived_of p)
   one_outgoing (outgoing.Envelope l) = by l.load

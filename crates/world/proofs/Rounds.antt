@@ -15,7 +15,7 @@ use Rattle.world.specs.Envelopes.{is_at_home, envelope, outgoing_by, parked_else
 use Rattle.world.specs.Queues.{put_into, queue_of}
 use Rattle.world.proofs.Steps.{back}
 
--- what is put twice stands last
+-- an element that is set twice has the second value
 set_twice : {X : Type 0} (xs : List X) (place : ℕ) (x y : X) → slice_set (slice_set xs place x) place y ≡ slice_set xs place y
 set_twice [] place x y = refl
 set_twice (z ∷ zs) zero x y = refl
@@ -27,7 +27,7 @@ put_twice place some more queues there =
     ∙ ap (λ q. slice_set queues place (q ++ more)) (get_or-set_same queues place (queue_of place queues ++ some) [] there)
     ∙ ap (λ q. slice_set queues place q) (append_assoc (queue_of place queues) some more)
 
--- the first of those that are left, which stand in front
+-- the first of those that are left, which come first
 first_left : {X : Type 0} (left others : List X) (m : X) (rest : List X) → 1 ≤ length left → left ++ others ≡ m ∷ rest → (more : List X) × ((left ≡ m ∷ more) × (more ++ others ≡ rest))
 first_left [] others m rest some is = absurd (omega (arith, some))
 first_left (x ∷ left) others m rest some is =
@@ -36,13 +36,13 @@ first_left (x ∷ left) others m rest some is =
     (left, ((λ k. head k ∷ left), tail))
 
 module _ {J : Type 0} where
-  -- what is posted, and then more, is posted together
+  -- appending to an outbox twice is appending both together
   outgoing_twice : (executor : ℕ) (some more : List (Outgoing J)) (w : Core J) → executor < length w.outboxes → posting executor more (posting executor some w) ≡ posting executor (some ++ more) w
   outgoing_twice executor some more w there = ap (λ (qs : List (List (Outgoing J))). record w { outboxes = qs }) (put_twice executor some more w.outboxes there)
 
   -- ---- those that were parked for a slice that has come
 
-  -- Of these some have been looked at: those for the slice stand in the outbox, and the others behind those that are left.
+  -- Some of these have been looked at: those for the slice are in the outbox, and the others come after those that are left.
   abbrev pub installing : ℕ → ℕ → List (Message J) → List (Message J) → Core J → Core J
   installing executor w_id done left w =
       posting executor (outgoing.Arrived ∷ to_itself executor (parked_for w_id done))
@@ -86,7 +86,7 @@ module _ {J : Type 0} where
 
   -- ---- what is in hand
 
-  -- what is in hand stands in the outbox, one after another
+  -- what was in hand is in the outbox, in order
   pub bring_one : (executor : ℕ) (i : Item J) (rest : List (Item J)) (w : Core J) → executor < length w.outboxes → w.parts.outbox ≡ i ∷ rest
       → bringing executor (record w.parts { outbox = rest }) (posting executor (outgoing_by w.placements i ∷ []) (record w { parts = record w.parts { outbox = rest } })) ≡ bringing executor w.parts w
   bring_one executor i rest w there is =

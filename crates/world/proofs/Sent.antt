@@ -139,7 +139,7 @@ module _ {J : Type 0} where
     sound_item : IsSoundWith shared nothing whole
     sound_item = (sends_passes shared w h executor p rest first h.all).sound
 
-    -- nothing stands in hand before
+    -- nothing is in hand before
     no_more : queued w.parts messages items ≡ framed messages items w.parts
     no_more = λ k. queued w.parts ((sym (append-nil messages) ∙ ap (λ (ms : List (Message J)). messages ++ ms) (sym h.no_inbox)) k) ((sym (append-nil items) ∙ ap (λ (is : List (Item J)). items ++ is) (sym h.no_outbox)) k)
 

@@ -57,7 +57,7 @@ module _ {J : Type 0} where
   abbrev pub AreInPlace : List (SessionDesk J) → Type 0
   AreInPlace sessions = (number : ℕ) (session : SessionDesk J) → slice_get sessions number ≡ Some session → IsSessionOf number session
 
-  -- every session but one stands as it stood
+  -- every session but one is unchanged
   by_session : (P : ℕ → SessionDesk J → Type 0) (sessions : List (SessionDesk J)) (place : ℕ) (old new : SessionDesk J) → slice_get sessions place ≡ Some old
       → P place new → ((number : ℕ) (session : SessionDesk J) → number ≢ place → slice_get sessions number ≡ Some session → P number session)
       → (number : ℕ) (session : SessionDesk J) → slice_get (slice_set sessions place new) number ≡ Some session → P number session

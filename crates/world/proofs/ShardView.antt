@@ -21,9 +21,9 @@ use Rattle.world.specs.Shards.{part_of, slice_of, slices_in}
 use Rattle.world.proofs.Parted.{all_keep, shared_is, there}
 use Rattle.world.proofs.Tokens.{IsFalse, by_bool}
 
--- ---- who waits in a slice is nothing to the rows and the claims
+-- ---- the waiting actions of a slice do not affect its rows and claims
 
--- what a slice keeps of another, it keeps whoever waits
+-- what a slice keeps of another, it keeps whichever actions wait
 keeps_rewaited : (waiters : List WaitingAction) (before after : List ClaimView) (old new : SliceView) → SliceKeeps before (with_waiters waiters old) after new → SliceKeeps before old after (with_waiters old.waiters new)
 keeps_rewaited waiters before after old new keeps = record {
   committed = keeps.committed;
@@ -108,7 +108,7 @@ module _ {J : Type 0} (old new : Parts J) (are : AreSlicesOf old.catalog (slices
   slices_now : slices_in new ≡ slice_set (slices_in old) place now
   slices_now = ap (map slice_of) at.shards ∙ map-set slice_of old.shards.items place at.now
 
-  -- what its slice keeps, all keep, whoever waits there
+  -- what its slice keeps, all keep, whichever actions wait there
   pub keeps_on : (waiters : List WaitingAction) (before after : List ClaimView) → All (IsClaimAt home) before → All (IsClaimAt home) after → SliceKeeps before (with_waiters waiters was) after now
       → AreSlicesOf old.catalog (slices_in new) × SlicesKeep before (joined_in old) after (joined old.catalog (slices_in new))
   keeps_on waiters before after held made keeps =
@@ -122,7 +122,7 @@ module _ {J : Type 0} (old new : Parts J) (are : AreSlicesOf old.catalog (slices
             (subst (SlicesKeep before (joined_in old) after) same both.1),
       )
 
-  -- and where the slice is as it was, but for who waits, all are
+  -- and if a slice is unchanged but for its waiting actions, all are
   pub stays_on : (waiters : List WaitingAction) → now ≡ with_waiters waiters was → AreSlicesOf old.catalog (slices_in new) × (joined old.catalog (slices_in new) ≡ joined_in old)
   stays_on waiters same =
       let shared = old.catalog in

@@ -1,4 +1,4 @@
--- The same in another order, said so that it goes along with functions of the elements.
+-- The same elements in another order, stated so that functions of the elements preserve it.
 use Rattle.std.proofs.Common.{◌≡◌, ℕ, ◌<◌, ◌≤◌, zero, suc, List, [], ◌∷◌, ◌++◌, length, refl, sym, ◌∙◌, subst, append_assoc, arith}
 use Rattle.std.specs.Prelude.{map, slice_set, slice_index_or}
 use Rattle.std.specs.List.{flat_map, sum_by}
@@ -30,7 +30,7 @@ module _ {X : Type 0} where
   shuffle-order _ _ (both xs ys us vs a b) = IsPermutation-append xs ys us vs (shuffle-order xs ys a) (shuffle-order us vs b)
   shuffle-order _ _ (then xs ys zs a b) = IsPermutation-trans xs ys zs (shuffle-order xs ys a) (shuffle-order ys zs b)
 
-  -- and so is what comes of each
+  -- and so are their images
   pub shuffle-flat : {Y : Type 0} (f : X → List Y) (xs ys : List X) → Shuffle xs ys → Shuffle (flat_map f xs) (flat_map f ys)
   shuffle-flat f _ _ (same xs) = same (flat_map f xs)
   shuffle-flat f _ _ (swap xs ys) =
@@ -71,7 +71,7 @@ module _ {X : Type 0} where
 -- ---- queues
 
 module _ {X : Type 0} where
-  -- one queue stands in front of the others
+  -- one queue comes before the others
   set_apart : (queues : List (List X)) (place : ℕ) (one : List X) → place < length queues → Shuffle (all_of (slice_set queues place one)) (one ++ all_of (slice_set queues place []))
   set_apart [] place one below = absurd (omega (arith, below))
   set_apart (queue ∷ queues) zero one below = same (one ++ all_of queues)
@@ -94,7 +94,7 @@ module _ {X : Type 0} where
       (subst (λ q. Shuffle (all_of queues) (q ++ others)) first (own_apart queues place below))
       (shuffle-cons x (rest ++ others) (all_of (slice_set queues place rest)) (shuffle-sym (all_of (slice_set queues place rest)) (rest ++ others) (set_apart queues place rest below)))
 
-  -- more stand at the end of a queue
+  -- more are appended to a queue
   pub put_apart : (queues : List (List X)) (place : ℕ) (more : List X) → place < length queues → Shuffle (all_of (put_into place more queues)) (more ++ all_of queues)
   put_apart queues place more below =
       let own = queue_of place queues in

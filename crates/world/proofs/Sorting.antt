@@ -178,7 +178,7 @@ module _ {J : Type 0} where
       subst (λ o. MeetsUnless o reports f old new) (sym from_none)
       (subst (λ (x : Flow J). GathersInto x.progress (found_in reports) x.transaction old new) same (subst (λ fs. GathersInto last.progress fs last.transaction old new) is_found gathers))) sorted
 
-  -- the next phase begins, or there is no memory for it
+  -- the next phase begins, or an allocation fails
   pub meets_next : (reports : List (Report J)) (last : Flow J) (start : Option Refusal) (found : List Found) (next : Progress) (old new : Parts J) → IsSorted reports last
       → refusal_of start reports ≡ None → found ≡ found_in reports → FollowsFrom last.progress found (Next next)
       → (new ≡ releasing false (refused last.transaction refusal.NoMemory) old) ⊎ (new ≡ goes_on last.transaction (Next next) old) → MeetsAs reports old new

@@ -1,4 +1,4 @@
--- What an event leaves as it was: the shards, but where a message is taken, and then the inbox.
+-- What an event leaves unchanged: the shards, unless a message is taken, and then the inbox.
 use Rattle.std.proofs.Common.{◌≡◌, inl, inr, ℕ, Bool, true, false, List, [], ◌∷◌, length, Option, Some, None, refl, ◌∙◌, ap, nat_lt, ⊎_elim}
 use Rattle.requests.specs.declared.request.Request.{Request}
 use Rattle.requests.specs.declared.refusal.Refusal.{Refusal}

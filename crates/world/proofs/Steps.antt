@@ -1,4 +1,4 @@
--- What each event does, from what its functions tell.
+-- What each event does, from the contracts of its functions.
 use Rattle.std.proofs.Common.{◌≡◌, ℕ, ◌+◌, ◌-◌, ◌<◌, ◌≤◌, List, [], ◌∷◌, ◌++◌, length, map, refl, sym, ◌∙◌, ap, subst, arith, length-append}
 use Rattle.std.specs.Prelude.{All, slice_set}
 use Rattle.std.proofs.lemmas.List.{get_or-set_same, length-set}
@@ -53,7 +53,7 @@ routes_below h some kept w_id =
     by_warehouse h w_id (λ there. (kept_placement h w_id kept there).there)
     (λ no. subst (λ (x : Placement). comes_to x.place < h.executors) (sym no) (omega (arith, some)))
 
--- what stands behind in a list of which all is so
+-- the rest of a list all of whose elements satisfy this
 front : {X : Type 0} (P : X → Type 0) (xs ys : List X) → All P (xs ++ ys) → All P xs
 front P [] ys all = All-nil P
 front P (x ∷ xs) ys all = All-cons P x xs (All-head P x (xs ++ ys) all) (front P xs ys (All-tail P x (xs ++ ys) all))
@@ -159,7 +159,7 @@ module _ {J : Type 0} where
       let hand = message_hand shared o.whole o.sound executor o.rest m o.first in
       (can_work shared hand.0.in_flight m hand.1, has_home shared hand.0.in_flight m hand.1)
 
-  -- what a message has put can be posted
+  -- what a message has put fits the outbox
   pub can_post_work : TransactionsClaimEachGroupOnce → (shared : SharedTables) (executor : ℕ) (m : Message J) (left : Core J) → EnvelopeInHand shared executor (Work m) left → (parts : Parts J) → TakesMessage m left.parts parts
       → All HasHomeIn parts.outbox × (length parts.outbox ≤ 1216)
   can_post_work once shared executor m left o parts said =
@@ -216,7 +216,7 @@ module _ {J : Type 0} where
       let items = (together from).outbox in
       subst (λ (v : Core J). CanSend opening i v.parts) (sym s.left_is) (can_framed opening messages items w.parts i (can_send opening (framed messages items w.parts) i taken.0 taken.1))
 
-  -- what an item has put can be posted
+  -- what an item has put fits the outbox
   pub can_post_item : (shared : SharedTables) (executor : ℕ) (i : Item J) (left : Core J) → OutgoingInHand shared executor (outgoing.Item i) left → (answer : EventAnswer) (parts : Parts J) → SendsItem i left.parts answer parts
       → All HasHomeIn parts.outbox × (length parts.outbox ≤ 1216)
   can_post_item shared executor i left s answer parts said =

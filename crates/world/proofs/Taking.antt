@@ -1,4 +1,4 @@
--- A message is taken and worked on, and then those who waited have their turns.
+-- A message is taken and processed, and then the waiting actions have their turns.
 use Rattle.world.proofs.OneSlot.{got_set}
 use Rattle.transactions.specs.declared.work.Work.{Work}
 use Rattle.std.proofs.Common.{◌≡◌, ℕ, ◌-◌, List, [], ◌∷◌, ◌++◌, Some, length, map, refl, sym, ap, subst, ◌∙◌, append_assoc, arith, ◌≤◌, ◌<◌, Option, append-nil}
@@ -52,7 +52,7 @@ use Rattle.world.proofs.ShardView.{holds, keeps_on, shares, stays_on}
 use Rattle.world.proofs.Works.{Works, acts, settles, starts, undoes, part_acts}
 use Rattle.tickets.proofs.Committed.{All-front}
 
--- what stands at a place, put there again
+-- the element at a place, set there again
 pub put_again : {X : Type 0} (xs : List X) (place : ℕ) (x : X) → slice_get xs place ≡ Some x → slice_set xs place x ≡ xs
 put_again xs place x is = ap (slice_set xs place) (sym (get_or_from_slice_get xs place x x is)) ∙ set-get_or xs place x
 
@@ -89,7 +89,7 @@ module _ {J : Type 0} where
   pub then_goes_on : (shared : SharedTables) (hand : InFlight) (first mid last : Parts J) → GoesOn shared hand first mid → GoesOn shared nothing mid last → GoesOn shared hand first last
   then_goes_on shared hand first mid last a b = record { sound = b.sound; fits = λ opening history f. b.fits opening history (a.fits opening history f) }
 
-  -- The world as one, while an event has these parts in hand: who waits stands in front of these messages, and what is in the
+  -- The world as one, while an event has these parts in hand: the waiting actions come before these messages, and what is in the
   -- outbox behind these items.
   abbrev pub seen : Parts J → List (Message J) → List (Item J) → Parts J
   seen w ms is = queued w (waiting_in w ++ ms) (is ++ w.outbox)
@@ -167,7 +167,7 @@ module _ {J : Type 0} where
     -- ---- at a shard
 
     module _ (old new : Parts J) (home : ℕ) (items : List (Item J)) (of : ShardView (Carried J) → ShardView (Carried J) → Type 0) (at : AtShard home items of old new) where
-      -- who waits at each shard
+      -- the actions that wait at each shard
       abbrev lists : List (List (Message J))
       lists = map waiting_at old.shards.items
 
@@ -183,7 +183,7 @@ module _ {J : Type 0} where
       below : place < length lists
       below = slice_get_within lists place (waiting_at at.was) list_was
 
-      -- who waited there comes first, or who waits there now
+      -- the actions that waited there come first, or those that wait there now
       was_first : Reordered part_message (waiting_in old) (waiting_at at.was ++ others place lists)
       was_first =
           subst (λ q. Reordered part_message (waiting_in old) (q ++ others place lists)) (get_or_from_slice_get lists place (waiting_at at.was) [] list_was)
@@ -303,7 +303,7 @@ module _ {J : Type 0} where
         let both = keeps_on old new h.slices home items Of at at.was.slice.waiters claims [] (at_home_of claims together) (All-nil (IsClaimAt home)) at.happened.0 in
         at_once old new home items Of at message at.happened.1 h fine both.0 (works (joined_in old) (joined old.catalog (slices_in new)) both.1) (λ opening history f. All-nil (IsClaimOf history))
 
-    -- ---- one who waited has its turn
+    -- ---- a waiting action has its turn
 
     pub turn_on : (old new : Parts J) (home : ℕ) (turned : Turned J (Carried J)) → IsSoundWith shared nothing (seen old ms is) → TakesTurn home turned old new → GoesOn shared nothing (seen old ms is) (seen new ms is)
     turn_on old new home turned h at =
@@ -395,7 +395,7 @@ module _ {J : Type 0} where
         and_turns (home_of_claims claims) (Undo slot claims) old takes.0 new
         (gives_on old takes.0 (Undo slot claims) slot claims fine.0.1 (λ was now kept. undoes shared slot claims was now kept) h fine takes.1.0) takes.1.1
 
-  -- ---- all who wait have to
+  -- ---- all waiting actions have to wait
 
   -- one shard has become another, and the others stay
   abbrev ChangesOne : ℕ → Parts J → Parts J → Type 0

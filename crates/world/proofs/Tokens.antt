@@ -1,4 +1,4 @@
--- What the tokens that are in flight tell of the active transactions.
+-- What follows about the active transactions from the tokens in flight.
 use Rattle.std.proofs.Common.{◌≡◌, ℕ, ◌+◌, ◌-◌, ◌≤◌, ◌==◌, zero, suc, Bool, true, false, List, [], ◌∷◌, Option, Some, None, replicate, refl, sym, ◌∙◌, ap, subst, cond, arith}
 use Rattle.std.specs.Prelude.{map}
 use Rattle.std.specs.List.{sum_by, slice_get}
@@ -12,7 +12,7 @@ use Rattle.world.specs.declared.flight.Report.{Report}
 use Rattle.world.specs.Flights.{Token, Acting, Committing, Ending}
 use Rattle.world.specs.Sound.{WeighAlike, awaited, awaited_by_all}
 
--- what the two answers of a test are told apart by
+-- the test is false
 abbrev pub IsFalse : Bool → Type 0
 IsFalse true = ⊥
 IsFalse false = Unit {0}
@@ -90,7 +90,7 @@ waiting_slot slot place n (Some u ∷ xs) some =
     (suc r.0, (omega (arith, r.1.0), r.1.1))
 
 module _ {J : Type 0} where
-  -- ---- of whom
+  -- ---- whose tokens they are
 
   -- Where only what the transaction in one slot awaits weighs anything, it is that one's.
   pub of_one : (weight : Token → ℕ) (slot n : ℕ) (slots : List (Option (Active J)))

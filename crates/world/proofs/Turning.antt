@@ -1,4 +1,4 @@
--- Those who wait at a shard have their turns, one after another.
+-- The actions that wait at a shard have their turns, one after another.
 use Rattle.transactions.specs.Works.{home_of, home_of_claims}
 use Rattle.transactions.specs.declared.shard.Parked.{Parked}
 use Rattle.transactions.specs.declared.shard.Acted.{Acted}
@@ -112,7 +112,7 @@ module _ {J : Type 0} where
 
   -- ---- the last one
 
-  -- where nobody has a turn any more, all have to wait
+  -- if no action has a turn any more, all have to wait
   module _ (home : ℕ) (old mid : Parts J) (turned : List (Turned J (Carried J))) (follow : TurnsFollow home turned old mid) (was now : ShardView (Carried J)) (there : slice_get mid.shards.items (home - 1) ≡ Some was)
       (same : now ≡ was) (wait : HaveToWait was) (below : home - 1 < length mid.shards.items) where
     pub set_again : slice_set mid.shards.items (home - 1) now ≡ mid.shards.items
@@ -131,7 +131,7 @@ module _ {J : Type 0} where
 module _ {J : Type 0} where
   -- ---- before the turns
 
-  -- there is room for the reports of all who wait, where at most one more waits or one item more was put
+  -- there is room for the reports of all waiting actions, if at most one more waits or one more item was put
   pub room_then : (home : ℕ) (items : List (Item J)) (of : ShardView (Carried J) → ShardView (Carried J) → Type 0) (old new : Parts J) (at : AtShard home items of old new) → length items + length at.now.parked ≤ length at.was.parked + 1
       → length old.outbox + MOST_ACTIONS + length (waiting_in old) < 4096 → HasRoomFor home new
   room_then home items of old new at few room = λ s is.

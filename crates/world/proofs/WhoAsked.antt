@@ -1,4 +1,4 @@
--- Who is answered had asked.
+-- Only what was asked is answered.
 use Rattle.std.proofs.Common.{◌≡◌, inl, inr, ℕ, ◌≤◌, ◌-◌, zero, suc, Bool, true, false, List, [], ◌∷◌, ◌++◌, Option, Some, None, length, refl, sym, ap, subst, ◌∙◌, arith, nat_lt}
 use Rattle.std.specs.Prelude.{Contains, Result, Ok, Err, slice_set}
 use Rattle.std.specs.List.{slice_get}
@@ -36,7 +36,7 @@ use Rattle.world.proofs.Replying.{is_answer_to}
 use Rattle.world.proofs.Shuffles.{has_queue}
 use Rattle.world.proofs.Holders.{in_parts}
 
--- of a transaction without an answer: it is answered so, and a death is of somebody older, on a group of what was asked
+-- the transaction without an answer gets this answer, and a death is of an older one, on a group of its request
 pub record IsRecordedSo (session number : ℕ) (recorded : Result ℕ Refusal) (u : UnansweredTransaction) : Type 0 where
   pub answered : IsAnsweredSo session number recorded u
   pub older : AnswersOlder (groups_of (footprint u.request)) u.age recorded

@@ -39,7 +39,7 @@ carried_later : (J : Type 0) (slot : ℕ) (u : ActiveTransaction) (number : ℕ)
 carried_later J slot u zero some = absurd (omega (arith, some))
 carried_later J slot u (suc number) some = tt
 
--- who dies for this work in the slice, and is of this age, dies of somebody older
+-- an action of this age that dies for this work in the slice dies of an older holder
 abbrev pub DiesOfOlder : SliceView → ℕ → Work → Type 0
 DiesOfOlder s age work = (group : Group) (holder : ℕ) → MustDie s.holdings age (wants_of work) group holder → holder < age
 

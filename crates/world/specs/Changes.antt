@@ -1,4 +1,4 @@
--- What one event may change: everything that is not named here stays as it was.
+-- What one event may change: everything that is not mentioned here stays as it was.
 use Rattle.std.specs.Prelude.{◌≡◌, ◌≢◌, ◌⊎◌, ℕ, ◌-◌, ◌≤◌, List, [], ◌∷◌, ◌++◌, length}
 use Rattle.std.specs.List.{slice_get}
 use Rattle.requests.specs.declared.request.Request.{Request}
@@ -26,22 +26,22 @@ use Rattle.world.specs.Queues.{queue_of}
 
 -- ---- queues
 
--- there are as many queues as before, and every queue but this executor's is as it was
+-- The number of queues and every queue but this executor's are unchanged.
 pub record OthersStay {X : Type 0} (executor : ℕ) (old new : List (List X)) : Type 0 where
   pub many : length new ≡ length old
   pub others : (other : ℕ) → other ≢ executor → queue_of other new ≡ queue_of other old
 
--- these stand more at the end of this executor's queue, and every other queue is as it was
+-- These items are appended to this executor's queue, and every other queue is unchanged.
 pub record HasMore {X : Type 0} (executor : ℕ) (more : List X) (old new : List (List X)) : Type 0 where
   pub here : queue_of executor new ≡ queue_of executor old ++ more
   pub rest : OthersStay executor old new
 
--- this one, which stood first in this executor's queue, is gone, and every other queue is as it was
+-- This item is removed from the front of this executor's queue, and every other queue is unchanged.
 pub record HasLost {X : Type 0} (executor : ℕ) (first : X) (old new : List (List X)) : Type 0 where
   pub here : queue_of executor old ≡ first ∷ queue_of executor new
   pub rest : OthersStay executor old new
 
--- this one, which stood first in this executor's queue, is gone, these stand more at its end, and every other queue is as it was
+-- This item is removed from the front of this executor's queue, these are appended, and every other queue is unchanged.
 pub record HasTurned {X : Type 0} (executor : ℕ) (first : X) (more : List X) (old new : List (List X)) : Type 0 where
   pub left : List X
   pub was : queue_of executor old ≡ first ∷ left
@@ -51,7 +51,7 @@ pub record HasTurned {X : Type 0} (executor : ℕ) (first : X) (more : List X) (
 module _ {J : Type 0} where
   -- ---- a submission
 
-  -- The desk changes; and one envelope more, or none, stands at the end of the inbox of the executor where the request begins.
+  -- The desk changes, and at most one envelope is appended to the inbox of the executor where the request begins.
   pub record SubmitChanges (asked : Request) (old new : Core J) : Type 0 where
     pub more : List (Envelope J)
     pub one : length more ≤ 1
@@ -60,32 +60,33 @@ module _ {J : Type 0} where
 
   -- ---- a move is ordered
 
-  -- How many reports are awaited changes; and the order stands at the end of the inbox of its destination.
+  -- The number of awaited reports changes, and the order is appended to the inbox of its destination.
   pub record OrderChanges (order : MoveOrder) (old new : Core J) : Type 0 where
     pub inbox : HasMore order.to (envelope order.to (Move (moving.Order order)) ∷ []) old.inboxes new.inboxes
     pub rest : new ≡ record old { placements = record old.placements { awaited = new.placements.awaited }; inboxes = new.inboxes }
 
   -- ---- an envelope is taken
 
-  -- The envelope is about this warehouse: its message is worked on there, its slice is fetched or brought, or its range has it.
+  -- The envelope is about this warehouse: the warehouse is the home of its message, the subject of its fetch or parcel, or in
+  -- the range of its order.
   abbrev pub IsAbout : Load J → ℕ → Type 0
   IsAbout (Work message) w_id = w_id ≡ home_of_message message
   IsAbout (Move (moving.Order order)) w_id = (order.lo ≤ w_id) × (w_id ≤ order.hi)
   IsAbout (Move (moving.Fetch moved to)) w_id = w_id ≡ moved
   IsAbout (Move (moving.Parcel moved)) w_id = w_id ≡ moved
 
-  -- the shard of this warehouse is as it was: its slice, with its rows, claims and those who wait, and the actions parked there
+  -- The shard of this warehouse is unchanged: its slice with rows, claims and waiters, and the actions parked there.
   abbrev pub IsShardAsBefore : ℕ → Core J → Core J → Type 0
   IsShardAsBefore w_id old new = slice_get new.parts.shards.items (w_id - 1) ≡ slice_get old.parts.shards.items (w_id - 1)
 
-  -- all that there is of this warehouse is as it was: its shard, where its slice is, and what is parked for it
+  -- Everything about this warehouse is unchanged: its shard, its placement, and the messages parked for it.
   pub record IsAsBefore (w_id : ℕ) (old new : Core J) : Type 0 where
     pub shard : IsShardAsBefore w_id old new
     pub placement : placement_of new.placements w_id ≡ placement_of old.placements w_id
     pub parked : parked_for w_id new.parked ≡ parked_for w_id old.parked
 
-  -- The first envelope of the executor's own inbox is gone, and its own outbox has more at its end. No shard changes of a warehouse
-  -- whose slice the executor has not got, and nothing of a warehouse that the envelope is not about.
+  -- The first envelope of the executor's own inbox is removed, and its own outbox may get more. The shard of a warehouse whose
+  -- slice the executor does not have is unchanged. So is everything about a warehouse that the envelope is not about.
   pub record TakeChanges (executor : ℕ) (old new : Core J) : Type 0 where
     pub taken : Envelope J
     pub more : List (Outgoing J)
@@ -103,14 +104,14 @@ module _ {J : Type 0} where
           outboxes = new.outboxes;
         }
 
-  -- ---- what stands in an outbox is sent
+  -- ---- an outbox entry is sent
 
-  -- An envelope comes to the end of the inbox of the executor to which it is, and nothing more is to be sent; or no inbox changes, and it
-  -- is to be sent again.
+  -- The envelope is appended to the inbox of its executor, and nothing more is to be sent; or no inbox changes, and the
+  -- envelope is to be sent again.
   abbrev pub Comes : Envelope J → List (Outgoing J) → Core J → Core J → Type 0
   Comes l more old new = (HasMore l.to (l ∷ []) old.inboxes new.inboxes × (more ≡ [])) ⊎ ((new.inboxes ≡ old.inboxes) × (more ≡ outgoing.Envelope l ∷ []))
 
-  -- only a commit puts an entry into the log: its own, at the end
+  -- Only a commit changes the log, if at all: it appends its own entry.
   abbrev pub MayLog : Item J → List Entry → List Entry → Type 0
   MayLog (item.Commit commit) old new = (new ≡ old) ⊎ (new ≡ old ++ entry_of commit ∷ [])
   MayLog (item.Push message) old new = new ≡ old
@@ -118,16 +119,16 @@ module _ {J : Type 0} where
   MayLog (item.Ended slot) old new = new ≡ old
   MayLog (item.Reply recorded) old new = new ≡ old
 
-  -- What changes beside the outbox: by an envelope an inbox alone, by an item the desk and the log, and by a report of a slice that has arrived
-  -- how many are awaited.
+  -- What changes besides the outbox: with an envelope only an inbox, with an item only the desk and the log, and with the
+  -- report of an arrived slice only the number of awaited reports.
   abbrev pub ChangesBySent : Outgoing J → List (Outgoing J) → Core J → Core J → Type 0
   ChangesBySent (outgoing.Envelope l) more old new = Comes l more old new × (new ≡ record old { inboxes = new.inboxes; outboxes = new.outboxes })
   ChangesBySent (outgoing.Item i) more old new =
       MayLog i old.parts.log new.parts.log × (new ≡ record old { parts = record old.parts { desk = new.parts.desk; log = new.parts.log }; outboxes = new.outboxes })
   ChangesBySent outgoing.Arrived more old new = (more ≡ []) × (new ≡ record old { placements = record old.placements { awaited = new.placements.awaited }; outboxes = new.outboxes })
 
-  -- The first of the executor's own outbox is gone, with more at its end, and no other outbox changes; beside it, what was sent
-  -- changes.
+  -- The first entry of the executor's own outbox is removed, and more may be appended to it; no other outbox changes. Besides,
+  -- only what the sent entry allows changes.
   pub record SendChanges (executor : ℕ) (old new : Core J) : Type 0 where
     pub sent : Outgoing J
     pub more : List (Outgoing J)
@@ -143,7 +144,7 @@ module _ {J : Type 0} where
   MayChange (Take executor) old new = TakeChanges executor old new
   MayChange (Send executor) old new = SendChanges executor old new
 
-  -- Where nothing could happen nothing changes, and else only what the event may change.
+  -- An event answered `Nothing` changes nothing. Any other changes only what it may change.
   pub record ChangesOnly (event : Event) (answer : EventAnswer) (old new : Core J) : Type 0 where
     pub nothing : answer ≡ Nothing → new ≡ old
     pub something : answer ≢ Nothing → MayChange event old new

@@ -1,4 +1,4 @@
--- What one event does.
+-- The effect of one event.
 use Rattle.std.specs.Prelude.{◌≡◌, ◌<◌, ◌≤◌, ℕ, ◌+◌, ◌-◌, Bool, true, false, List, [], ◌∷◌, ◌++◌, Option, Some, None, Result, Ok, Err, All, nat_lt, length, map, replicate, slice_set, ◌⊎◌}
 use Rattle.std.specs.List.{slice_get}
 use Rattle.partitions.specs.Parts.{SharedTables}
@@ -47,12 +47,12 @@ use Rattle.world.specs.declared.world.Parts.{Parts}
 use Rattle.world.specs.Shards.{HaveToWait}
 use Rattle.world.specs.Following.{CarriesFirst, acts_of, committing, ending, entry_of, found_in, held_in, holding, refusal_of, refused, release, releasing, putting, with_active}
 
--- a commit is answered by the place of its entry, or, where the log refused it, as any item that was sent
+-- The answer to a commit: `Logged` with the place of its entry, or `Sent`, as for any other item, if the log refused it.
 abbrev pub recorded_of : Result ℕ Refusal → EventAnswer
 recorded_of (Ok place) = Logged place
 recorded_of (Err why) = Sent
 
--- A request has come so far, and the actions of its phase have done their work, and found this.
+-- A request has reached this progress, and the actions of its phase have done their work and found this.
 abbrev pub HasMet : Progress → List Found → Type 0
 HasMet progress found =
     (shared : SharedTables) × (asked : Request) × (held : List (List ClaimView)) × (claims : List (List ClaimView))
@@ -61,8 +61,8 @@ HasMet progress found =
 module _ {J : Type 0} where
   -- ---- a message is worked on
 
-  -- At the shard of this warehouse this happens, and at no other; these items stand at the outbox's end; and nothing else
-  -- changes.
+  -- This relation holds between the old and the new shard of this warehouse. These items are appended to the outbox. Nothing
+  -- else changes.
   pub record AtShard (home : ℕ) (items : List (Item J)) (of : ShardView (Carried J) → ShardView (Carried J) → Type 0) (old new : Parts J) : Type 0 where
     pub was : ShardView (Carried J)
     pub now : ShardView (Carried J)
@@ -72,62 +72,65 @@ module _ {J : Type 0} where
     pub rest : new ≡ record old { shards = new.shards; outbox = old.outbox ++ items }
     pub happened : of was now
 
-  -- who an action is to the lock tables: its transaction, by its age, and its place in it
+  -- The holder of an action's claims in the lock tables: its transaction's age, and its place in the transaction.
   abbrev pub holder_of : AnyAct J → Holder
   holder_of act = record { age = act.age; place = act.place }
 
-  -- what an action keeps with it beside its work
+  -- What an action keeps beside its work.
   abbrev pub carried_by : AnyAct J → Carried J
   carried_by act = record { slot = act.slot; flow = act.flow }
 
-  -- the report of an action of this place, which carries this, with what came of it
+  -- The report of the action of this place that carries this, with its outcome.
   abbrev pub report_of : ℕ → Carried J → Ran J → Item J
   report_of place carried ran = item.Report (record { place = place; slot = carried.slot; flow = carried.flow; ran = ran })
 
-  -- what is put for an action that asked: its report, or nothing while it waits
+  -- What an action that asks puts: its report, or nothing if it waits.
   abbrev pub put_for : ℕ → Acted J (Carried J) → List (Item J)
   put_for place (acted.Ran ran carried) = report_of place carried ran ∷ []
   put_for place acted.Waits = []
 
-  -- An action asks at the shard of its warehouse. It reports that it has done its work, or that it died of somebody who is not
-  -- younger, or that there was no memory; or it waits there, since all who are in its way are younger (`ActsAs` of transactions).
+  -- An action asks at the shard of its warehouse. It reports that it has done its work, that it died of a holder that is not
+  -- younger, or that there was no memory; or it waits there, because all conflicting holders are younger (`ActsAs` of
+  -- transactions).
   abbrev pub Asks : AnyAct J → Parts J → Parts J → Type 0
   Asks act old new = (acted : Acted J (Carried J)) × AtShard (home_of act.work) (put_for act.place acted) (λ was now. ActsAs (holder_of act) act.work (carried_by act) was acted now) old new
 
-  -- The claims of an action are given back to the slice of their warehouse, which keeps what is committed; nobody's waiting changes.
+  -- The claims of an action are given back to the slice of their warehouse, which keeps what is committed. The waiting actions
+  -- are unchanged.
   abbrev pub GivesBack : ℕ → List ClaimView → Parts J → Parts J → Type 0
   GivesBack slot claims old new =
       AtShard (home_of_claims claims) (item.Ended slot ∷ []) (λ was now. SliceKeeps claims was.slice [] now.slice × (now.parked ≡ was.parked)) old new
 
-  -- One who waits at the shard of this warehouse has its turn, and reports (`OneTurn` of transactions).
+  -- An action that waits at the shard of this warehouse has its turn, and reports (`OneTurn` of transactions).
   abbrev pub TakesTurn : ℕ → Turned J (Carried J) → Parts J → Parts J → Type 0
   TakesTurn home turned old new = AtShard home (report_of turned.by.place turned.carried turned.ran ∷ []) (λ was now. OneTurn was turned now) old new
 
-  -- nothing changes: the same shards are there
+  -- Nothing changes; the list of shards has the same items.
   pub record Stays (old new : Parts J) : Type 0 where
     pub shards : new.shards.items ≡ old.shards.items
     pub rest : new ≡ record old { shards = new.shards }
 
-  -- these have their turns there, one after another
+  -- These actions have their turns at this warehouse, one after another.
   abbrev pub TurnsFollow : ℕ → List (Turned J (Carried J)) → Parts J → Parts J → Type 0
   TurnsFollow home [] old new = Stays old new
   TurnsFollow home (turned ∷ more) old new = (mid : Parts J) × (TakesTurn home turned old mid × TurnsFollow home more mid new)
 
-  -- Those who need not wait there any more have their turns, one after another, until all who wait there have to.
+  -- The actions at this warehouse that need not wait any more have their turns, one after another, until all that wait there
+  -- have to.
   pub record AllTurns (home : ℕ) (old new : Parts J) : Type 0 where
     pub turned : List (Turned J (Carried J))
     pub follow : TurnsFollow home turned old new
     pub over : (s : ShardView (Carried J)) → slice_get new.shards.items (home - 1) ≡ Some s → HaveToWait s
 
-  -- What a message does: the actions of a first phase are put, in the order of their places; an action asks, or claims are given
-  -- back, at the shard of their warehouse, and then come the turns of those who waited there.
+  -- The effect of a message. A start puts the actions of the first phase, by place. An act asks, a settle or an undo gives
+  -- claims back, at the shard of their warehouse; then the actions that wait there have their turns.
   abbrev pub TakesMessage : Message J → Parts J → Parts J → Type 0
   TakesMessage (Start flow works) old new = new ≡ record old { outbox = old.outbox ++ acts_of flow works.items }
   TakesMessage (Act act) old new = (mid : Parts J) × (Asks act old mid × AllTurns (home_of act.work) mid new)
   TakesMessage (Settle slot claims) old new = (mid : Parts J) × (GivesBack slot claims old mid × AllTurns (home_of_claims claims) mid new)
   TakesMessage (Undo slot claims) old new = (mid : Parts J) × (GivesBack slot claims old mid × AllTurns (home_of_claims claims) mid new)
 
-  -- what is asked of a message that is worked on
+  -- What processing a message requires.
   abbrev pub CanWork : SharedTables → Message J → Type 0
   CanWork shared (Start flow works) = (1 ≤ length works.items) × ((length flow.transaction.held + length works.items ≤ MOST_ACTIONS) × All (CanDo shared) works.items)
   CanWork shared (Act act) = CanDo shared act.work
@@ -136,62 +139,62 @@ module _ {J : Type 0} where
 
   -- ---- a message is pushed
 
-  -- A message goes to the end of the inbox, or, where that has its 1,024, back to the end of the outbox.
+  -- A message is appended to the inbox, or, if the inbox has 1,024, put back at the end of the outbox.
   abbrev pub Pushes : Bool → Message J → Parts J → EventAnswer → Parts J → Type 0
   Pushes true message old answer new = (answer ≡ Sent) × (new ≡ record old { inbox = old.inbox ++ message ∷ [] })
   Pushes false message old answer new = (answer ≡ Full) × (new ≡ record old { outbox = old.outbox ++ item.Push message ∷ [] })
 
   -- ---- a phase has met
 
-  -- The actions of the next phase are put, and nothing is reported yet; or the transaction is to be logged.
+  -- The actions of the next phase are put, and none has reported yet; or the transaction is to be logged.
   abbrev pub goes_on : Transaction J → Gathered → Parts J → Parts J
   goes_on t (Next progress) old =
       putting (acts_of (record { transaction = t; progress = progress }) (works_of progress)) t.slot (Some (Acting (length t.held) (replicate (length (works_of progress)) None))) old
   goes_on t (Finish shown) old = committing t shown old
 
-  -- What follows of what was found is done, unless there is no memory for it: then the transaction is refused.
+  -- What follows from the found values is done; or there is no memory for it, and the transaction is refused.
   abbrev pub GathersInto : Progress → List Found → Transaction J → Parts J → Parts J → Type 0
   GathersInto progress found t old new =
       (new ≡ releasing false (refused t refusal.NoMemory) old) ⊎ ((g : Gathered) × (FollowsFrom progress found g × (new ≡ goes_on t g old)))
 
-  -- One action has died or found no memory, and the transaction is refused; or all have done their work.
+  -- An action has died or found no memory, and the transaction is refused; or all actions have done their work, and it goes on.
   abbrev pub MeetsUnless : Option Refusal → List (Report J) → Flow J → Parts J → Parts J → Type 0
   MeetsUnless (Some why) reports flow old new = new ≡ releasing false (refused (holding flow.transaction (held_in reports)) why) old
   MeetsUnless None reports flow old new =
       GathersInto flow.progress (found_in reports) (holding flow.transaction (held_in reports)) old new
 
-  -- All actions of a phase have reported this, by place.
+  -- All actions of a phase have reported; these are the reports, by place.
   abbrev pub MeetsAs : List (Report J) → Parts J → Parts J → Type 0
   MeetsAs reports old new = CarriesFirst reports (λ flow. MeetsUnless (refusal_of None reports) reports flow old new)
 
-  -- what is asked of them
+  -- What the reports of a phase of this transaction require.
   pub record CanMeetFor (reports : List (Report J)) (flow : Flow J) : Type 0 where
     pub slot : flow.transaction.slot < 64
     pub room : length flow.transaction.held + length reports ≤ MOST_ACTIONS
     pub done : refusal_of None reports ≡ None → HasMet flow.progress (found_in reports)
 
-  -- what is asked of the reports of a phase, by the transaction that the first of them carries
+  -- What the reports of a phase require, with the transaction that the first of them carries.
   abbrev pub CanMeet : List (Report J) → Type 0
   CanMeet reports = CarriesFirst reports (CanMeetFor reports)
 
-  -- Another action is awaited, and the report is kept; or the phase has met.
+  -- Some action has not reported yet, and the report is kept; or the phase has met.
   abbrev pub ReportsInto : ℕ → ℕ → List (Option (Report J)) → Parts J → Parts J → Type 0
   ReportsInto slot first slots old new =
       ((1 ≤ length (awaited_from 0 slots)) × (new ≡ with_active slot (Some (Acting first slots)) old))
       ⊎ ((reports : List (Report J)) × ((map Some reports ≡ slots) × MeetsAs reports old new))
 
-  -- the phase that is in flight in this slot: the place of its first action, and what has been reported, from that place on
+  -- The phase in flight in this slot: the place of its first action, and the reports so far, from that place on.
   abbrev pub OfPhase : ℕ → Parts J → (ℕ → List (Option (Report J)) → Type 0) → Type 0
   OfPhase slot w P = (first : ℕ) × ((slots : List (Option (Report J))) × ((slice_get w.desk.active slot ≡ Some (Some (Acting first slots))) × P first slots))
 
-  -- A report comes to the phase of its own transaction.
+  -- A report reaches the phase of its own transaction.
   abbrev pub Reports : Report J → Parts J → Parts J → Type 0
   Reports r old new = OfPhase r.slot old (λ first slots. ReportsInto r.slot first (slice_set slots (r.place - first) (Some r)) old new)
 
   -- ---- a transaction is logged
 
-  -- The log has the transaction's entry more, or refuses it (`Logs` of transactions). Then the transaction is over, with the pass and the
-  -- answer that came of it, and its claims, as they are then, are given back.
+  -- The log appends the transaction's entry or refuses it (`Logs` of transactions). Then the transaction is over, with the
+  -- resulting pass and answer, and its claims, as they are then, are given back.
   pub record Commits (commit : Commit J) (old : Parts J) (answer : EventAnswer) (new : Parts J) : Type 0 where
     pub logged : AnyLogged J
     pub log : List Entry
@@ -200,7 +203,7 @@ module _ {J : Type 0} where
     pub answered : answer ≡ recorded_of logged.answer
     pub over : new ≡ releasing logged.is_settled (release commit.transaction logged.pass logged.answer held) (record old { log = log })
 
-  -- What is asked of a commit: the request was carried out under the transaction's claims with this reply.
+  -- What a commit requires: the request was carried out under the transaction's claims with this reply.
   pub record CanCommit (opening : Database) (commit : Commit J) : Type 0 where
     pub accepted : IsAccepted opening.scale commit.transaction.request
     pub number : commit.transaction.pass.asks.number ≡ commit.transaction.number
@@ -211,13 +214,13 @@ module _ {J : Type 0} where
 
   -- ---- the sessions
 
-  -- nothing but the sessions changes
+  -- Only the sessions change.
   abbrev pub with_sessions : Parts J → List (SessionDesk J) → Parts J → Type 0
   with_sessions old sessions new =
       (new.catalog ≡ old.catalog) × ((new.shards ≡ old.shards) × ((new.inbox ≡ old.inbox) × ((new.outbox ≡ old.outbox) × ((new.log ≡ old.log)
       × ((new.desk.admitted ≡ old.desk.admitted) × ((new.desk.active ≡ old.desk.active) × (new.desk.sessions.items ≡ sessions)))))))
 
-  -- the session's pass is at the desk again
+  -- The session is answered, and its pass is back at the desk.
   abbrev pub Replies : SessionAnswer J → Parts J → EventAnswer → Parts J → Type 0
   Replies recorded old answer new =
       (answer ≡ Answered recorded.pass.session recorded.number recorded.answer)
@@ -226,11 +229,11 @@ module _ {J : Type 0} where
 
   -- ---- all items
 
-  -- so many actions of the transaction in this slot have yet to give their claims back
+  -- This many actions of the transaction in this slot have yet to give their claims back.
   abbrev pub OfEnding : ℕ → Parts J → (ℕ → Type 0) → Type 0
   OfEnding slot w P = (left : ℕ) × ((slice_get w.desk.active slot ≡ Some (Some (Ending left))) × P left)
 
-  -- what is asked of an item that is sent
+  -- What sending an item requires.
   abbrev pub CanSend : Database → Item J → Parts J → Type 0
   CanSend opening (item.Push message) w = Unit {0}
   CanSend opening (item.Report r) w =
@@ -240,7 +243,7 @@ module _ {J : Type 0} where
   CanSend opening (item.Commit commit) w = CanCommit opening commit
   CanSend opening (item.Reply recorded) w = (desk : SessionDesk J) × (slice_get w.desk.sessions.items recorded.pass.session ≡ Some desk)
 
-  -- What an item does when it is sent, by its kind.
+  -- The effect of sending an item, by its kind.
   abbrev pub SendsItem : Item J → Parts J → EventAnswer → Parts J → Type 0
   SendsItem (item.Push message) old answer new = Pushes (nat_lt (length old.inbox) 1024) message old answer new
   SendsItem (item.Report r) old answer new = (answer ≡ Sent) × Reports r old new

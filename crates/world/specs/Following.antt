@@ -24,101 +24,102 @@ use Rattle.world.specs.declared.world.Parts.{Parts}
 module _ {J : Type 0} where
   -- ---- the actions of a phase
 
-  -- the actions from this place on; the first of them carries this
+  -- The actions from this place on. The first of them carries this.
   abbrev pub acts_from : ℕ → ℕ → ℕ → Option (Flow J) → List Work → List (Item J)
   acts_from place age slot carried [] = []
   acts_from place age slot carried (work ∷ works) =
       item.Push (Act (record { place = place; age = age; slot = slot; work = work; flow = carried })) ∷ acts_from (place + 1) age slot None works
 
-  -- all actions of a phase, whose places come after those of the phases before: the first carries the transaction
+  -- All actions of a phase. Places continue after those of the earlier phases; the first action carries the transaction.
   abbrev pub acts_of : Flow J → List Work → List (Item J)
   acts_of flow works = acts_from (length flow.transaction.held) flow.transaction.age flow.transaction.slot (Some flow) works
 
   -- ---- what they report
 
-  -- what came of them
+  -- The outcomes.
   abbrev pub rans_of : List (Report J) → List (Ran J)
   rans_of reports = map (λ r. r.ran) reports
 
-  -- the claims of those that have done their work, by place, those of each together
+  -- The claims of the actions that have done their work, by place, one list for each action.
   abbrev pub held_in : List (Report J) → List (List ClaimView)
   held_in reports = sorted.held_in (rans_of reports)
 
-  -- what they found, by place
+  -- What the actions found, by place.
   abbrev pub found_in : List (Report J) → List Found
   found_in reports = sorted.found_in (rans_of reports)
 
-  -- why the transaction is refused, if it is, where this was so before them
+  -- Why the transaction is refused, if it is; `why` is the reason from before these reports.
   abbrev pub refusal_of : Option Refusal → List (Report J) → Option Refusal
   refusal_of why reports = sorted.refusal_of why (rans_of reports)
 
-  -- what is carried is there, and this is so of it
+  -- A transaction is carried and satisfies this.
   abbrev pub IfCarried : Option (Flow J) → (Flow J → Type 0) → Type 0
   IfCarried None P = ⊥
   IfCarried (Some flow) P = P flow
 
-  -- the first of them carries a transaction, of which this is so
+  -- The first report carries a transaction that satisfies this.
   abbrev pub CarriesFirst : List (Report J) → (Flow J → Type 0) → Type 0
   CarriesFirst [] P = ⊥
   CarriesFirst (r ∷ reports) P = IfCarried r.flow P
 
-  -- the transaction with these claims more
+  -- The transaction with these claims added.
   abbrev pub holding : Transaction J → List (List ClaimView) → Transaction J
   holding t more = record t { held = t.held ++ more }
 
   -- ---- the active transactions
 
-  -- the world with the transaction in this slot so far, and nothing else changed
+  -- The world with this state of the transaction in this slot. Nothing else changes.
   abbrev pub with_active : ℕ → Option (Active J) → Parts J → Parts J
   with_active slot active w = record w { desk = record w.desk { active = slice_set w.desk.active slot active } }
 
-  -- these items stand at the end of the outbox, and the transaction in this slot has come so far
+  -- These items are appended to the outbox, and the transaction in this slot has this state.
   abbrev pub putting : List (Item J) → ℕ → Option (Active J) → Parts J → Parts J
   putting items slot active w = record w { outbox = w.outbox ++ items; desk = record w.desk { active = slice_set w.desk.active slot active } }
 
-  -- a phase is in flight
+  -- A phase is in flight.
   abbrev pub IsActing : Active J → Type 0
   IsActing (Acting first meeting) = Unit {0}
   IsActing Committing = ⊥
   IsActing (Ending left) = ⊥
 
-  -- While so many actions have yet to give their claims back. With none, the transaction isn't active any more.
+  -- The state of a transaction while this many actions have yet to give their claims back. With none left it is not active.
   abbrev pub ending : ℕ → Option (Active J)
   ending zero = None
   ending (suc n) = Some (Ending (suc n))
 
-  -- it was carried out with this reply, and is to be logged
+  -- The transaction was carried out with this reply and is to be logged.
   abbrev pub committing : Transaction J → Reply → Parts J → Parts J
   committing t shown w = putting (item.Commit (record { transaction = t; reply = shown }) ∷ []) t.slot (Some Committing) w
 
   -- ---- a transaction that is over
 
-  -- what a transaction that is over gives back: its pass, with this answer, which is the place of its entry or why it was refused, and what its actions hold
+  -- What a transaction that is over gives back: its pass, its answer, which is the place of its entry or why it was refused,
+  -- and the claims of its actions.
   abbrev pub release : Transaction J → PassView → Result ℕ Refusal → List (List ClaimView) → Release J
   release t pass answer held = record { age = t.age; slot = t.slot; number = t.number; pass = pass; answer = answer; held = held }
 
-  -- so where it is refused
+  -- The same for a refused transaction.
   abbrev pub refused : Transaction J → Refusal → Release J
   refused t why = release t t.pass (Err why) t.held
 
-  -- its claims are settled, or what was done under them is taken back
+  -- The message that settles these claims, or undoes what was done under them.
   abbrev pub push_of : Bool → ℕ → List ClaimView → Item J
   push_of true slot claims = item.Push (Settle slot claims)
   push_of false slot claims = item.Push (Undo slot claims)
 
-  -- the answer to its session, as an item
+  -- The answer to its session, as an item.
   abbrev pub reply_of : Release J → Item J
   reply_of r = item.Reply (record { age = r.age; number = r.number; pass = r.pass; answer = r.answer })
 
-  -- the answer, and then a push for each action that holds claims, by place
+  -- The answer, and then a push for each action that holds claims, by place.
   abbrev pub items_released : Bool → Release J → List (Item J)
   items_released settle r = reply_of r ∷ map (push_of settle r.slot) r.held
 
-  -- The items of a transaction that is over are put, and as many actions have yet to end as hold claims.
+  -- The items of a transaction that is over are put. The number of actions that have yet to end is the number that hold claims.
   abbrev pub releasing : Bool → Release J → Parts J → Parts J
   releasing settle r w = putting (items_released settle r) r.slot (ending (length r.held)) w
 
-  -- the entry of a commit
+  -- The entry of a commit.
   abbrev pub entry_of : Commit J → Entry
   entry_of commit = record {
     session = commit.transaction.pass.session;

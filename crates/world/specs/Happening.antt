@@ -1,4 +1,4 @@
--- What each event is answered, and what it changes.
+-- The answer and the changes of each event.
 use Rattle.std.specs.Prelude.{IsTrue, is_some, ◌≡◌, ◌⊎◌, ℕ, zero, suc, ◌+◌, ◌-◌, ◌<◌, ◌&&◌, Bool, true, false, nat_lt, nat_le, List, [], ◌∷◌, ◌++◌, Option, Some, None, Result, Ok, Err, Vec, length, map, replicate, slice_set}
 use Rattle.std.specs.List.{slice_get}
 use Rattle.std.specs.declared.alloc.Global.{Global}
@@ -43,26 +43,26 @@ use Rattle.world.specs.Sound.{IsSessionOf}
 
 -- ---- submissions
 
--- Why the desk refuses a request at once: its session has a transaction without an answer, its check refuses it, or as many
--- transactions are active as can be.
+-- Why the desk refuses a request at once: its session has a transaction without an answer, its check refuses it, or 64
+-- transactions are active. The first that applies is the reason.
 abbrev pub refuses : Option PassView → Result (Unit {0}) Refusal → Bool → Option Refusal
 refuses None checked full = Some refusal.SessionBusy
 refuses (Some pass) (Err why) full = Some why
 refuses (Some pass) (Ok accepted) true = Some refusal.Busy
 refuses (Some pass) (Ok accepted) false = None
 
--- 64 transactions are active
+-- 64 transactions are active.
 abbrev pub is_full : {X : Type 0} → List (Option X) → Bool
 is_full slots = nat_le 64 (count_active slots)
 
 -- ---- moves
 
--- so many warehouses, from this one on, begin to move to an executor
+-- This many warehouses, from this one on, begin to move to an executor.
 abbrev pub placements_begun : ℕ → ℕ → ℕ → PlacementsView → PlacementsView
 placements_begun zero w_id to h = h
 placements_begun (suc more) w_id to h = placements_begun more (w_id + 1) to (with_placement h w_id (placement_moved (placement_of h w_id) to))
 
--- what is answered of a slice that has arrived, where so many more are awaited then
+-- The answer to the arrival of a slice, by the number of arrivals awaited after it.
 abbrev pub answer_arrived : ℕ → EventAnswer
 answer_arrived zero = Moved
 answer_arrived (suc more) = Sent
@@ -70,16 +70,16 @@ answer_arrived (suc more) = Sent
 module _ {J : Type 0} where
   -- ---- submissions
 
-  -- why this session's request is refused at once, if it is
+  -- Why this session's request is refused at once, if it is.
   abbrev pub refusal_at : SessionDesk J → Request → Parts J → Option Refusal
   refusal_at desk request w = refuses desk.pass (check_of w.catalog.scale request) (is_full w.desk.active)
 
-  -- the inbox where it would begin has room, and there is an age left
+  -- The inbox where the request would begin has room, and there is an age left.
   abbrev pub can_admit : Bool → Parts J → Bool
   can_admit has_room w = has_room && nat_lt w.desk.admitted 18446744073709551615
 
-  -- A transaction more is admitted, and active, in a slot that was free: the actions of its first phase stand at the inbox's
-  -- end, and the session's pass goes with them.
+  -- One more transaction is admitted and active, in a slot that was free. A message with the actions of its first phase is
+  -- appended to the inbox, and the session's pass goes with it.
   pub record Admits (session number : ℕ) (asked : Request) (desk : SessionDesk J) (old new : Parts J) : Type 0 where
     pub flow : Flow J
     pub works : Vec AnyWork Global
@@ -103,113 +103,115 @@ module _ {J : Type 0} where
     pub sessions : new.desk.sessions.items
         ≡ slice_set old.desk.sessions.items session (record { seat = session_seat_view desk.seat.session flow.transaction.pass.asks; pass = None })
 
-  -- what is asked of a world to which a request is submitted: each session stands at its place
+  -- What a submission requires of a world: each session is at its index.
   abbrev pub CanSubmit : Parts J → Type 0
   CanSubmit w = (number : ℕ) (desk : SessionDesk J) → slice_get w.desk.sessions.items number ≡ Some desk → IsSessionOf number desk
 
-  -- there is such a session, and its pass is at the desk
+  -- The session exists, and its pass is at the desk.
   abbrev pub CanAsk : Option (SessionDesk J) → Type 0
   CanAsk None = ⊥
   CanAsk (Some desk) = IsTrue (is_some desk.pass)
 
-  -- the event is answered so, and nothing changes
+  -- This is the answer, and nothing changes.
   abbrev pub StaysAt : EventAnswer → Parts J → EventAnswer → Parts J → Type 0
   StaysAt recorded old answer new = (answer ≡ recorded) × (new ≡ old)
 
-  -- It can't be admitted, or it is refused for lack of memory, or it is admitted.
+  -- The request can't be admitted; or it is refused for lack of memory; or it is admitted.
   abbrev pub SubmitsInto : Bool → ℕ → ℕ → Request → SessionDesk J → Parts J → EventAnswer → Parts J → Type 0
   SubmitsInto false session number asked desk old answer new = StaysAt Nothing old answer new
   SubmitsInto true session number asked desk old answer new =
       StaysAt (Answered session number (Err refusal.NoMemory)) old answer new
       ⊎ ((answer ≡ Accepted old.desk.admitted) × Admits session number asked desk old new)
 
-  -- It is refused for this reason, or else it may be admitted.
+  -- The request is refused for this reason; without a reason it may be admitted.
   abbrev pub SubmitsUnless : Bool → Option Refusal → ℕ → ℕ → Request → SessionDesk J → Parts J → EventAnswer → Parts J → Type 0
   SubmitsUnless has_room (Some why) session number asked desk old answer new = StaysAt (Answered session number (Err why)) old answer new
   SubmitsUnless has_room None session number asked desk old answer new = SubmitsInto (can_admit has_room old) session number asked desk old answer new
 
-  -- A submission, while the inbox has room where the request would begin, or has none: nothing happens where there is no such session.
+  -- A submission; `has_room` is whether the inbox where the request would begin has room. If there is no such session, nothing
+  -- happens.
   abbrev pub SubmitsAt : Bool → Option (SessionDesk J) → ℕ → ℕ → Request → Parts J → EventAnswer → Parts J → Type 0
   SubmitsAt has_room None session number asked old answer new = StaysAt Nothing old answer new
   SubmitsAt has_room (Some desk) session number asked old answer new = SubmitsUnless has_room (refusal_at desk asked old) session number asked desk old answer new
 
-  -- there is no such session; or it is not refused, and can't be admitted
+  -- There is no such session; or the request is not refused and can't be admitted.
   abbrev pub CannotSubmit : Bool → Option (SessionDesk J) → Request → Parts J → Type 0
   CannotSubmit has_room None asked w = Unit {0}
   CannotSubmit has_room (Some desk) asked w = (refusal_at desk asked w ≡ None) × (can_admit has_room w ≡ false)
 
   -- ---- the queues
 
-  -- there is room in the inbox of an executor
+  -- The inbox of an executor has room.
   abbrev pub has_room : ℕ → Core J → Bool
   has_room executor w = nat_lt (length (queue_of executor w.inboxes)) 1024
 
-  -- these stand at the end of an executor's outbox
+  -- These are appended to an executor's outbox.
   abbrev pub posting : ℕ → List (Outgoing J) → Core J → Core J
   posting executor more w = record w { outboxes = put_into executor more w.outboxes }
 
-  -- An event has brought the parts so far: the items that it put stand at the end of the executor's outbox.
+  -- The parts after an event at an executor: the items that it put are moved to the end of the executor's outbox.
   abbrev pub bringing : ℕ → Parts J → Core J → Core J
   bringing executor parts w = posting executor (map (outgoing_by w.placements) parts.outbox) (record w { parts = record parts { outbox = [] } })
 
   -- ---- one event
 
-  -- the event is answered so, and nothing changes
+  -- This is the answer, and nothing changes.
   abbrev pub StaysAs : EventAnswer → Core J → EventAnswer → Core J → Type 0
   StaysAs recorded old answer new = (answer ≡ recorded) × (new ≡ old)
 
-  -- the executor to which messages go for the warehouse whose terminal asks
+  -- The executor to which messages for the warehouse of the asking terminal are routed.
   abbrev pub begins_at : Request → Core J → ℕ
   begins_at asked w = route_of w.placements (home_of_request asked)
 
-  -- what a submission has put goes into an executor's inbox
+  -- The message that a submission put is appended to an executor's inbox.
   abbrev pub beginning_at : ℕ → Parts J → Core J → Core J
   beginning_at to parts w = record w {
     parts = record parts { inbox = [] };
     inboxes = put_into to (map (λ (m : Message J). envelope to (Work m)) parts.inbox) w.inboxes;
   }
 
-  -- A submission: the request begins in the inbox of the executor to which messages for its warehouse go.
+  -- A submission: the request begins in the inbox of the executor to which messages for its warehouse are routed.
   abbrev pub Submits : ℕ → ℕ → Request → Core J → EventAnswer → Core J → Type 0
   Submits session number asked old answer new =
       let to = begins_at asked old in
       (parts : Parts J) × (SubmitsAt (has_room to old) (slice_get old.parts.desk.sessions.items session) session number asked old.parts answer parts × (new ≡ beginning_at to parts old))
 
-  -- there can be this move, no other is outstanding, and there is room in the inbox of its destination
+  -- The move is possible, no other is outstanding, and the inbox of its destination has room.
   pub record CanOrder (order : MoveOrder) (w : Core J) : Type 0 where
     pub none : w.placements.awaited ≡ 0
     pub within : IsWithin (length w.placements.placements) w.placements.executors order
     pub room : length (queue_of order.to w.inboxes) < 1024
 
-  -- the move is outstanding, and its order stands in the inbox of its destination
+  -- The move is outstanding, and its order is appended to the inbox of its destination.
   abbrev pub ordering : MoveOrder → Core J → Core J
   ordering order w = record w {
     placements = record w.placements { awaited = size_of order };
     inboxes = put_into order.to (envelope order.to (Move (moving.Order order)) ∷ []) w.inboxes;
   }
 
-  -- A move is ordered, exactly where it can be.
+  -- A move is ordered exactly if it can be; otherwise nothing changes.
   abbrev pub Orders : MoveOrder → Core J → EventAnswer → Core J → Type 0
   Orders order old answer new = (CanOrder order old × ((answer ≡ Ordered) × (new ≡ ordering order old))) ⊎ ((¬ CanOrder order old) × StaysAs Nothing old answer new)
 
   -- ---- an envelope is opened
 
-  -- A message is worked on.
+  -- A message is processed.
   abbrev pub WorksOn : ℕ → Message J → Core J → Core J → Type 0
   WorksOn executor message old new = (parts : Parts J) × (TakesMessage message old.parts parts × (new ≡ bringing executor parts old))
 
-  -- A message for a slice is worked on where the slice is; it is sent on where it went; and else it is parked.
+  -- A message for a slice is processed if the slice is here, forwarded if it went elsewhere, and otherwise parked.
   abbrev pub FindsSlice : Found → ℕ → Message J → Core J → Core J → Type 0
   FindsSlice Here executor message old new = WorksOn executor message old new
   FindsSlice (Went to) executor message old new = new ≡ posting executor (outgoing.Envelope (envelope to (Work message)) ∷ []) old
   FindsSlice Unknown executor message old new = new ≡ record old { parked = old.parked ++ message ∷ [] }
 
-  -- the start of a transaction needs no slice
+  -- The start of a transaction needs no slice.
   abbrev pub WorksIfHere : Bool → ℕ → Message J → Core J → Core J → Type 0
   WorksIfHere false executor message old new = WorksOn executor message old new
   WorksIfHere true executor message old new = FindsSlice (found_by old.placements executor (home_of_message message)) executor message old new
 
-  -- what a move puts for a warehouse, as it begins: a fetch to the executor that has the slice, or, if that is itself, that it has arrived
+  -- What the beginning of a move puts for a warehouse: a fetch to the executor that has the slice, or the arrival if the
+  -- destination has it already.
   abbrev pub outgoing_for : Option ℕ → ℕ → ℕ → Outgoing J
   outgoing_for None w_id to = outgoing.Arrived
   outgoing_for (Some from) w_id to = outgoing.Envelope (envelope from (Move (moving.Fetch w_id to)))
@@ -219,8 +221,8 @@ module _ {J : Type 0} where
   posts_begun (suc more) w_id to h =
       outgoing_for (fetched_from (place_of h w_id) to) w_id to ∷ posts_begun more (w_id + 1) to (with_placement h w_id (placement_moved (placement_of h w_id) to))
 
-  -- A move begins: each slice of its range is fetched, or is there. A slice is taken out, and goes as a parcel. A slice is installed:
-  -- it has arrived, and what was parked for it is sent to its executor again.
+  -- An order begins a move: each slice of its range is fetched or is here already. A fetch takes a slice out and sends it as a
+  -- parcel. A parcel installs a slice and reports its arrival; the messages parked for it are sent to its executor again.
   abbrev pub moves : ℕ → Moving → Core J → Core J
   moves executor (moving.Order order) w =
       posting executor (posts_begun (size_of order) order.lo order.to w.placements) (record w { placements = placements_begun (size_of order) order.lo order.to w.placements })
@@ -230,38 +232,38 @@ module _ {J : Type 0} where
       posting executor (outgoing.Arrived ∷ to_itself executor (parked_for w_id w.parked))
       (record w { placements = with_placement w.placements w_id (placement_installed (placement_of w.placements w_id) executor); parked = parked_else w_id w.parked })
 
-  -- What an executor does with what an envelope brings.
+  -- What an executor does with the load of an envelope.
   abbrev pub Opens : ℕ → Load J → Core J → Core J → Type 0
   Opens executor (Work message) old new = WorksIfHere (is_for_slice message) executor message old new
   Opens executor (Move m) old new = new ≡ moves executor m old
 
-  -- The first envelope of an executor's inbox is opened, where there is one.
+  -- The first envelope of an executor's inbox is opened, if there is one.
   abbrev pub TakesFirst : ℕ → List (Envelope J) → Core J → EventAnswer → Core J → Type 0
   TakesFirst executor [] old answer new = StaysAs Nothing old answer new
   TakesFirst executor (l ∷ rest) old answer new = (answer ≡ Took) × Opens executor l.load (record old { inboxes = slice_set old.inboxes executor rest }) new
 
-  -- ---- what stands in an outbox is sent
+  -- ---- an outbox entry is sent
 
-  -- An envelope goes to the end of its executor's inbox, or, where that has its 1,024, back to the end of the outbox.
+  -- An envelope is appended to its executor's inbox, or, if that has 1,024, put back at the end of the outbox.
   abbrev pub Delivers : Bool → ℕ → Envelope J → Core J → EventAnswer → Core J → Type 0
   Delivers true executor l old answer new = (answer ≡ Sent) × (new ≡ record old { inboxes = put_into l.to (l ∷ []) old.inboxes })
   Delivers false executor l old answer new = (answer ≡ Full) × (new ≡ posting executor (outgoing.Envelope l ∷ []) old)
 
-  -- What comes of it, by its kind.
+  -- The effect of sending an outbox entry, by its kind.
   abbrev pub SendsOutgoing : ℕ → Outgoing J → Core J → EventAnswer → Core J → Type 0
   SendsOutgoing executor (outgoing.Envelope l) old answer new = Delivers (has_room l.to old) executor l old answer new
   SendsOutgoing executor (outgoing.Item i) old answer new = (parts : Parts J) × (SendsItem i old.parts answer parts × (new ≡ bringing executor parts old))
   SendsOutgoing executor outgoing.Arrived old answer new =
       let left = old.placements.awaited - 1 in (answer ≡ answer_arrived left) × (new ≡ record old { placements = record old.placements { awaited = left } })
 
-  -- The first of an executor's outbox is sent, where there is one.
+  -- The first entry of an executor's outbox is sent, if there is one.
   abbrev pub SendsFirst : ℕ → List (Outgoing J) → Core J → EventAnswer → Core J → Type 0
   SendsFirst executor [] old answer new = StaysAs Nothing old answer new
   SendsFirst executor (p ∷ rest) old answer new = SendsOutgoing executor p (record old { outboxes = slice_set old.outboxes executor rest }) answer new
 
   -- ---- events
 
-  -- What an event is answered, and all that it changes. An executor that there isn't has no envelope, and nothing to send.
+  -- The answer to an event and all that it changes. An executor that does not exist has no envelopes and nothing to send.
   abbrev pub Happens : Event → Core J → EventAnswer → Core J → Type 0
   Happens (Submit session number asked) old answer new = Submits session number asked old answer new
   Happens (Order order) old answer new = Orders order old answer new

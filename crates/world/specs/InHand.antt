@@ -1,4 +1,4 @@
--- What holds of a world while an executor has an envelope in hand that it opens, or what it sends.
+-- What holds of a world while an executor has taken an envelope or an outbox entry and not processed it yet.
 use Rattle.std.specs.Prelude.{◌≡◌, ℕ, List, ◌∷◌, slice_set}
 use Rattle.partitions.specs.Parts.{SharedTables}
 use Rattle.range_moves.specs.Placements.{AreKept}
@@ -11,7 +11,8 @@ use Rattle.world.specs.Queues.{queue_of}
 use Rattle.world.specs.Together.{IsSound}
 
 module _ {J : Type 0} where
-  -- It was sound, its placements are as they are kept, and this envelope stood first in the executor's inbox.
+  -- `whole` was sound, its placements satisfied `AreKept`, and this envelope was first in the executor's inbox. `left` is
+  -- `whole` without it.
   pub record EnvelopeInHand (shared : SharedTables) (executor : ℕ) (load : Load J) (left : Core J) : Type 0 where
     pub whole : Core J
     pub sound : IsSound shared whole
@@ -20,7 +21,8 @@ module _ {J : Type 0} where
     pub first : queue_of executor whole.inboxes ≡ envelope executor load ∷ rest
     pub left_is : left ≡ record whole { inboxes = slice_set whole.inboxes executor rest }
 
-  -- It was sound, its placements are as they are kept, and this stood first in the executor's outbox.
+  -- `whole` was sound, its placements satisfied `AreKept`, and this entry was first in the executor's outbox. `left` is `whole`
+  -- without it.
   pub record OutgoingInHand (shared : SharedTables) (executor : ℕ) (p : Outgoing J) (left : Core J) : Type 0 where
     pub whole : Core J
     pub sound : IsSound shared whole

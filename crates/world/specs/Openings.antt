@@ -1,4 +1,4 @@
--- For what a world is opened, why none was, what its sessions are then, and what a simulation tells.
+-- What opening a world requires and gives, why it fails, and the result of a simulation.
 use Rattle.std.specs.Prelude.{◌≡◌, ◌⊎◌, ◌<◌, ℕ, zero, suc, List, [], Some, None, Result, Ok, Err, map, replicate, slice_get, length, ◌≤◌}
 use Rattle.schema.specs.Database.{Database}
 use Rattle.partitions.specs.Parts.{parts_of, shared_of}
@@ -27,8 +27,8 @@ use Rattle.world.specs.Shards.{slices_in, shard_of, waiting_in}
 use Rattle.world.specs.Together.{together}
 use Rattle.world.specs.Worlds.{Fits, HappenInTurn, IsNeverStuck, count_busy, tables_now}
 
--- A world's names were picked for these tables and this opening: there are agreements for each group of the tables, with what
--- the group has; and the names of the groups' agreements and of the log's are those that were opened.
+-- The names of a world were picked for these tables and this opening. There is an agreement for each group of the tables, with
+-- the group's content, and the names are of the agreements opened for the groups and for the log.
 pub record IsNamedFor {J : Type 0} (log : LogNames J) (groups : GroupNames J) (tables : Database) (opening : Opening) : Type 0 where
   pub opened : AreOpenedFor tables opening.groups.items
   pub tables_are : log.opening ≡ tables
@@ -38,33 +38,33 @@ pub record IsNamedFor {J : Type 0} (log : LogNames J) (groups : GroupNames J) (t
   pub mine : (session : ℕ) → session < 64 → log.mine session ≡ table_of opening.log.mine session
   pub asks : (session : ℕ) → session < 64 → log.asks session ≡ table_of opening.log.asks session
 
--- NotConsistent names the least condition that these tables break
+-- NotConsistent names the least condition that these tables break.
 abbrev pub IsFaultOf : Database → OpenFault → Type 0
 IsFaultOf t NoMemory = Unit {0}
 IsFaultOf t BadExecutors = Unit {0}
 IsFaultOf t (NotConsistent n) = BreaksFirst t n
 
--- What is gathered of a world in which so many transactions are active and so many reports of a move awaited: these tables where none
--- is, unless there is no memory for them, and else nothing.
+-- The result of gathering while this many transactions are active and reports of a move awaited: if none is, these tables or
+-- NoMemory; otherwise NotIdle.
 abbrev pub IsGathered : ℕ → Database → Result Database GatherFault → Type 0
 IsGathered zero tables gathered = (gathered ≡ Ok tables) ⊎ (gathered ≡ Err gather.NoMemory)
 IsGathered (suc busy) tables gathered = gathered ≡ Err gather.NotIdle
 
--- the passes and the seats of 64 sessions that have asked, seen and logged nothing, by the sessions' numbers
+-- The passes and seats of 64 sessions, by session number. They have asked, seen and logged nothing.
 pub record AreNewLanes (lanes : List (PassView × SessionSeatView)) : Type 0 where
   pub many : length lanes ≡ 64
   pub each : (session : ℕ) → session < 64 → slice_get lanes session ≡ Some (new_pass session, new_seat session)
 
 module _ {J : Type 0} where
-  -- the session as the desk knows it, whose pass is here
+  -- The session at the desk, with its pass there.
   abbrev pub session_with : PassView × SessionSeatView → SessionDesk J
   session_with lane = record { seat = lane.1; pass = Some lane.0 }
 
-  -- A world of so many executors on these tables in which nothing has happened: its shards have the rows of the tables, those of
-  -- each warehouse in a slice of its own, no claim is out, and nobody waits, at a shard or in a lock table; the slices of the
-  -- warehouses are where they are dealt out to, no move is outstanding and nothing parked; the queues of each executor and the log are
-  -- empty, and nothing is in hand, neither a message nor a reply nor any other item; no transaction was admitted or is active, and each
-  -- of 64 sessions has its pass at the desk and has asked nothing.
+  -- A world with this many executors over these tables in which nothing has happened. Its shards have the rows of the tables,
+  -- those of each warehouse in a slice of its own; no claim is held, and no action waits, at a shard or in a lock table. The
+  -- slices are where the opening deals them out, no move is outstanding and nothing is parked. The queues of the executors and
+  -- the log are empty, and so are the inbox and outbox of the parts. No transaction was admitted or is active, and each of 64
+  -- sessions has its pass at the desk and has asked nothing.
   pub record IsNew (tables : Database) (executors : ℕ) (w : Core J) : Type 0 where
     pub catalog : w.parts.catalog ≡ shared_of tables
     pub shards : w.parts.shards.items ≡ map shard_of (map at_rest (parts_of tables))
@@ -82,14 +82,14 @@ module _ {J : Type 0} where
     pub many : length w.parts.desk.sessions.items ≡ 64
     pub each : (session : ℕ) → session < 64 → slice_get w.parts.desk.sessions.items session ≡ Some (session_with (new_pass session, new_seat session))
 
--- there are so many executors as a world can have
+-- A world can have this many executors.
 abbrev pub CanHave : ℕ → Type 0
 CanHave executors = (1 ≤ executors) × (executors ≤ 16)
 
--- A schedule was simulated on tables with so many executors: in a new world on them, which a history without events fits, its events
--- happened in turn; this is what is printed of them; with their answers they are a history that fits the last world, which is not stuck;
--- the log is that world's; and so are the tables, the machine's last, unless a transaction is active, a move is outstanding, or there is
--- no memory for them.
+-- A schedule was simulated over tables with this many executors. A history without events fits the first world, which is new.
+-- The events of the schedule happened in turn; the outputs are what is printed for them. The events with their answers are a
+-- history that fits the last world, which is not stuck. The log is that of the last world. The tables are the final tables of
+-- the machine, unless a transaction is active, a move is outstanding or there is no memory for them.
 pub record Simulates (J : Type 0) (opening : Database) (executors : ℕ) (schedule : List Scheduled) (s : Simulation) : Type 0 where
   pub first : Core J
   pub last : Core J

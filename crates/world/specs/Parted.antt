@@ -3,6 +3,6 @@ use Rattle.slices.specs.SliceView.{JoinedSlices, joined}
 use Rattle.world.specs.declared.world.Parts.{Parts}
 use Rattle.world.specs.Shards.{slices_in}
 
--- what all slices have together
+-- All slices joined.
 abbrev pub joined_in : {J : Type 0} → Parts J → JoinedSlices
 joined_in w = joined w.catalog (slices_in w)

@@ -1,4 +1,4 @@
--- What is known of each thing that is in flight, and what a world keeps.
+-- The invariant of everything in flight, and of a world.
 use Rattle.std.specs.Prelude.{◌≡◌, ℕ, ◌+◌, ◌<◌, ◌≤◌, Bool, zero, suc, List, [], ◌∷◌, ◌++◌, Option, Some, None, Result, Ok, Err, All, Contains, map, length, replicate, count_by, is_some, if◌then◌else◌}
 use Rattle.std.specs.List.{slice_get, sum_by}
 use Rattle.partitions.specs.Parts.{SharedTables, shared_of}
@@ -42,55 +42,55 @@ use Rattle.world.specs.Flights.{Token, Acting, Committing, Ending, InFlight, joi
 use Rattle.world.specs.Parted.{joined_in}
 use Rattle.world.specs.Shards.{slices_in}
 
--- A refusal that tells of a death names one of these groups, and an age that is less than this one.
+-- A refusal for a death names one of these groups and an age less than this one.
 abbrev pub NamesOlder : List Group → ℕ → Refusal → Type 0
 NamesOlder groups age (refusal.Died group holder) = Contains groups group × (holder < age)
 NamesOlder groups age _ = Unit {0}
 
--- so does an answer that is such a refusal
+-- The same for an answer that is such a refusal.
 abbrev pub AnswersOlder : List Group → ℕ → Result ℕ Refusal → Type 0
 AnswersOlder groups age (Ok place) = Unit {0}
 AnswersOlder groups age (Err why) = NamesOlder groups age why
 
--- a pass that is there is of this session
+-- If there is a pass, it is of this session.
 abbrev pub IsPassOf : ℕ → Option PassView → Type 0
 IsPassOf number None = Unit {0}
 IsPassOf number (Some pass) = pass.session ≡ number
 
--- the same tokens, in any order: by whatever weights
+-- The lists have the same tokens, in any order: their weights are equal, whatever each token weighs.
 abbrev pub WeighAlike : List Token → List Token → Type 0
 WeighAlike some others = (weight : Token → ℕ) → sum_by weight some ≡ sum_by weight others
 
--- A transaction that is in flight: what was asked, how far it has come, what its earlier phases hold, and its age.
+-- A transaction in flight: its request, its progress, the claims of its earlier phases, and its age.
 pub record ActiveTransaction : Type 0 where
   pub request : Request
   pub progress : Progress
   pub held : List (List ClaimView)
   pub age : ℕ
 
--- how far the transaction in each slot has come
+-- The transaction in each slot.
 abbrev pub ActiveTransactions : Type 0
 ActiveTransactions = ℕ → ActiveTransaction
 
--- the action of this number of its phase, from 0, does this
+-- The action of this number in its phase, from 0, has this work.
 abbrev pub IsWorkAt : ActiveTransaction → ℕ → Work → Type 0
 IsWorkAt u number work = slice_get (works_of u.progress) number ≡ Some work
 
--- and has this place, after the actions of the phases before
+-- The action's place: its number counted on from the actions of the earlier phases.
 abbrev pub IsPlaceOf : ActiveTransaction → ℕ → ℕ → Type 0
 IsPlaceOf u number place = place ≡ length u.held + number
 
 module _ {J : Type 0} where
   -- ---- transactions
 
-  -- its session is one of the 64, and asks what the transaction is to do; and its slot is one of the 64
+  -- The transaction's session is one of the 64 and asks for its request; its slot is one of the 64.
   pub record IsAskedBy (t : Transaction J) : Type 0 where
     pub session : t.pass.session < 64
     pub slot : t.slot < 64
     pub number : t.pass.asks.number ≡ t.number
     pub request : t.pass.asks.request ≡ t.request
 
-  -- the transaction is the one in this slot, and has come so far
+  -- The transaction is the one in this slot, and has its progress.
   pub record IsSoundFlow (slot : ℕ) (u : ActiveTransaction) (flow : Flow J) : Type 0 where
     pub asked : IsAskedBy flow.transaction
     pub slot_is : flow.transaction.slot ≡ slot
@@ -99,7 +99,7 @@ module _ {J : Type 0} where
     pub progress : flow.progress ≡ u.progress
     pub age : flow.transaction.age ≡ u.age
 
-  -- the transaction goes with the first action of its phase, and with no other
+  -- The first action of a phase carries the transaction, and no other does.
   abbrev pub IsCarriedAt : ℕ → ActiveTransaction → ℕ → Option (Flow J) → Type 0
   IsCarriedAt slot u zero None = ⊥
   IsCarriedAt slot u zero (Some flow) = IsSoundFlow slot u flow
@@ -108,14 +108,14 @@ module _ {J : Type 0} where
 
   -- ---- one thing that is in flight
 
-  -- a beginning has the works of the first phase, which are few and can all be done
+  -- A start has the works of the first phase: few enough, and each can be done.
   pub record IsSoundStart (shared : SharedTables) (u : ActiveTransaction) (flow : Flow J) (works : List Work) : Type 0 where
     pub flow_is : IsSoundFlow flow.transaction.slot u flow
     pub works_are : works ≡ works_of u.progress
     pub can : All (CanDo shared) works
     pub few : length flow.transaction.held + length works ≤ MOST_ACTIONS
 
-  -- an action does the work of its place, which can be done, and is of its transaction's age
+  -- An action has the work of its place, which can be done, and the age of its transaction.
   pub record IsSoundAct (shared : SharedTables) (u : ActiveTransaction) (act : Act J) : Type 0 where
     pub number : ℕ
     pub place : IsPlaceOf u number act.place
@@ -124,29 +124,29 @@ module _ {J : Type 0} where
     pub can : CanDo shared act.work
     pub age : act.age ≡ u.age
 
-  -- a message is sound, by its kind, with how far its transaction has come
+  -- A message is sound, by its kind, given the transaction in its slot.
   abbrev pub IsSoundMessage : SharedTables → ActiveTransactions → Message J → Type 0
   IsSoundMessage shared at (message.Start flow works) = IsSoundStart shared (at flow.transaction.slot) flow works.items
   IsSoundMessage shared at (message.Act act) = IsSoundAct shared (at act.slot) act
   IsSoundMessage shared at (message.Settle slot claims) = AreSettledBy (at slot).age claims
   IsSoundMessage shared at (message.Undo slot claims) = AreUndoneBy (at slot).age claims
 
-  -- An action that ran did the work of its number under claims of its transaction, and all of it can be taken back; one that died
-  -- names a group that it claims for its work, and an age that is less than its transaction's.
+  -- An action that ran did the work of its number under claims of its transaction, and all of it can be undone. An action that
+  -- died names a group that its work claims and an age less than its transaction's.
   abbrev pub IsSoundRan : SharedTables → ActiveTransaction → ℕ → Ran J → Type 0
   IsSoundRan shared u number (ran.Done claims found) = (work : Work) × (IsWorkAt u number work × (HasDone shared work found claims × AreUndoneBy u.age claims))
   IsSoundRan shared u number (ran.Died group holder) = (work : Work) × (IsWorkAt u number work × (Contains (groups_of (group_wants_of work)) group × (holder < u.age)))
   IsSoundRan shared u number ran.NoMemory = Unit {0}
 
-  -- a report is of its place, and what it tells of was done as the phase has it
+  -- A report is of its place, and its outcome is sound for the action of that place.
   pub record IsSoundReport (shared : SharedTables) (u : ActiveTransaction) (r : Report J) : Type 0 where
     pub number : ℕ
     pub place : IsPlaceOf u number r.place
     pub flow : IsCarriedAt r.slot u number r.flow
     pub ran : IsSoundRan shared u number r.ran
 
-  -- A commit is of a request that its check accepts, and that was carried out under the transaction's claims with this
-  -- reply, from any opening; and all can be undone.
+  -- A commit is of a request that its check accepts and that was carried out under the transaction's claims with this reply,
+  -- from any opening with these shared tables. All of it can be undone.
   pub record IsSoundCommit (shared : SharedTables) (u : ActiveTransaction) (commit : Commit J) : Type 0 where
     pub asked : IsAskedBy commit.transaction
     pub accepted : IsAccepted shared.scale commit.transaction.request
@@ -154,11 +154,12 @@ module _ {J : Type 0} where
     pub undo : All (AreUndoneBy u.age) commit.transaction.held
     pub few : length commit.transaction.held ≤ MOST_ACTIONS
 
-  -- An answer is for one of 64 sessions, which asks its number; and a death is of somebody older, on a group of what was asked.
+  -- An answer goes to one of 64 sessions, which asked with its number. A death names a group of the request's footprint and an
+  -- older transaction.
   abbrev pub IsSoundReply : SessionAnswer J → Type 0
   IsSoundReply recorded = (recorded.pass.session < 64) × ((recorded.pass.asks.number ≡ recorded.number) × AnswersOlder (groups_of (footprint recorded.pass.asks.request)) recorded.age recorded.answer)
 
-  -- an item is sound, by its kind
+  -- An item is sound, by its kind.
   abbrev pub IsSoundItem : SharedTables → ActiveTransactions → Item J → Type 0
   IsSoundItem shared at (item.Push message) = IsSoundMessage shared at message
   IsSoundItem shared at (item.Report r) = IsSoundReport shared (at r.slot) r
@@ -168,33 +169,33 @@ module _ {J : Type 0} where
 
   -- ---- the active transactions
 
-  -- the reports of the phase of the transaction in a slot, as far as they have met
+  -- The reports so far of the phase of the transaction in a slot.
   abbrev pub reported_to : Option (Active J) → List (Report J)
   reported_to None = []
   reported_to (Some (active.Acting first slots)) = reported slots
   reported_to (Some active.Committing) = []
   reported_to (Some (active.Ending left)) = []
 
-  -- and those of all
+  -- Those of all slots.
   abbrev pub reported_to_all : List (Option (Active J)) → List (Report J)
   reported_to_all [] = []
   reported_to_all (a ∷ active) = reported_to a ++ reported_to_all active
 
-  -- what has to come back before the transaction in this slot goes on
+  -- The tokens that have to come back before the transaction in this slot goes on.
   abbrev pub awaited : ℕ → Option (Active J) → List Token
   awaited slot None = []
   awaited slot (Some (active.Acting first places)) = map (Acting slot) (awaited_from first places)
   awaited slot (Some active.Committing) = Committing slot ∷ []
   awaited slot (Some (active.Ending left)) = replicate left (Ending slot)
 
-  -- and for all, from this slot on
+  -- Those of all slots, from this one on.
   abbrev pub awaited_by_all : ℕ → List (Option (Active J)) → List Token
   awaited_by_all slot [] = []
   awaited_by_all slot (a ∷ active) = awaited slot a ++ awaited_by_all (suc slot) active
 
-  -- A phase that is in flight, of the transaction in this slot: its first place comes after those of the phases before; the request has come so far under what
-  -- these hold, all of which can be taken back; each of its actions has its place; what was reported is sound; and some action
-  -- has not reported.
+  -- A phase in flight of the transaction in this slot. Its first place is that after the earlier phases. The request has
+  -- reached this progress under their claims, all of which can be undone. Each of its actions has a slot for its report; each
+  -- report so far is sound; and some action has not reported.
   pub record IsSoundPhase (shared : SharedTables) (slot : ℕ) (u : ActiveTransaction) (first : ℕ) (slots : List (Option (Report J))) : Type 0 where
     pub first_is : first ≡ length u.held
     pub reached : IsReached shared u.request u.progress u.held
@@ -203,54 +204,54 @@ module _ {J : Type 0} where
     pub reports : (number : ℕ) (r : Report J) → slice_get slots number ≡ Some (Some r) → (r.place ≡ first + number) × ((r.slot ≡ slot) × IsSoundReport shared u r)
     pub awaits : 1 ≤ length (awaited_from 0 slots)
 
-  -- the transaction in a slot is sound, by how far it has come
+  -- The transaction in a slot is sound, by its state.
   abbrev pub IsSoundActive : SharedTables → ℕ → ActiveTransaction → Option (Active J) → Type 0
   IsSoundActive shared slot u None = Unit {0}
   IsSoundActive shared slot u (Some (active.Acting first places)) = IsSoundPhase shared slot u first places
   IsSoundActive shared slot u (Some active.Committing) = Unit {0}
   IsSoundActive shared slot u (Some (active.Ending left)) = (1 ≤ left) × (left ≤ MOST_ACTIONS)
 
-  -- and each, from this slot on
+  -- Each transaction is sound, from this slot on.
   abbrev pub AreSoundActive : SharedTables → ActiveTransactions → ℕ → List (Option (Active J)) → Type 0
   AreSoundActive shared at slot [] = Unit {0}
   AreSoundActive shared at slot (a ∷ active) = IsSoundActive shared slot (at slot) a × AreSoundActive shared at (suc slot) active
 
-  -- the transaction in some slot is active, and of this age
+  -- Some active transaction has this age.
   abbrev pub IsActiveAt : ActiveTransactions → List (Option (Active J)) → ℕ → Type 0
   IsActiveAt at slots age = (slot : ℕ) × ((a : Active J) × ((slice_get slots slot ≡ Some (Some a)) × (age ≡ (at slot).age)))
 
-  -- each active transaction has an age that was admitted, and no two have the same
+  -- Each active transaction has an age below the number admitted, and no two have the same age.
   pub record HaveTheirAges (at : ActiveTransactions) (admitted : ℕ) (slots : List (Option (Active J))) : Type 0 where
     pub before : (slot : ℕ) (a : Active J) → slice_get slots slot ≡ Some (Some a) → (at slot).age < admitted
     pub apart : (slot other : ℕ) (a b : Active J) → slice_get slots slot ≡ Some (Some a) → slice_get slots other ≡ Some (Some b) → (at slot).age ≡ (at other).age → slot ≡ other
 
   -- ---- the sessions
 
-  -- the session's pass is at the desk
+  -- The session's pass is at the desk.
   abbrev pub is_here : SessionDesk J → Bool
   is_here desk = is_some desk.pass
 
-  -- the session of this number stands at its place
+  -- The session of this number is at its index.
   abbrev pub IsSessionOf : ℕ → SessionDesk J → Type 0
   IsSessionOf number desk = (desk.seat.session ≡ number) × IsPassOf number desk.pass
 
   -- ---- the world
 
-  -- all that is in flight: messages, items, and reports that have met
+  -- All that is in flight: messages, items, and reports that have reached their rendezvous.
   abbrev pub flight : Parts J → InFlight
   flight w = join (parts part_message w.inbox) (join (parts part_item w.outbox) (parts part_met (reported_to_all w.desk.active)))
 
-  -- Of the active transactions there is just what has to come back, whatever the tokens weigh; a session's pass is at the desk
-  -- exactly while the session has no transaction without an answer; and there are 64 sessions.
+  -- The tokens in flight are exactly those awaited for the active transactions. A session's pass is at the desk exactly while
+  -- the session has no transaction without an answer. There are 64 sessions.
   pub record IsBalanced (desk : Desk J) (in_flight : InFlight) : Type 0 where
     pub tokens : WeighAlike in_flight.tokens (awaited_by_all 0 desk.active)
     pub alone : (number : ℕ) (session : SessionDesk J) → slice_get desk.sessions.items number ≡ Some session
         → count_by (is_of number) in_flight.pending + (if is_here session then 1 else 0) ≡ 1
     pub many : length in_flight.pending + count_by is_here desk.sessions.items ≡ 64
 
-  -- What the world keeps, with this in hand: there is a slice for each warehouse of this scale, in order, which share these items; and each thing under
-  -- way is sound, by how far its transaction has come; there are 64 slots, and those who are active have their ages; and the claims
-  -- that the lock tables have out are those in flight.
+  -- The invariant of a world, with this in hand. There is a slice for each warehouse of the scale, in order, and they share the
+  -- items. Everything in flight is sound for the transaction in its slot. There are 64 slots, and the active transactions have
+  -- distinct ages. The claims held in the lock tables are those in flight.
   pub record IsSoundWith (shared : SharedTables) (hand : InFlight) (w : Parts J) : Type 0 where
     pub shared_is : w.catalog ≡ shared
     pub slices : AreSlicesOf w.catalog (slices_in w)

@@ -1,4 +1,4 @@
--- The world with all executors' queues as one; and what a world keeps.
+-- The world with the queues of all executors as one, and the invariant of a world.
 use Rattle.std.specs.Prelude.{◌≡◌, ℕ, All, List, [], ◌++◌, length, map}
 use Rattle.std.specs.List.{sum_by}
 use Rattle.partitions.specs.Parts.{SharedTables}
@@ -13,32 +13,32 @@ use Rattle.world.specs.Sound.{IsSoundWith}
 use Rattle.world.specs.Shards.{HaveToWait, IsShardOf, waiting_in}
 
 module _ {J : Type 0} where
-  -- The world with all executors' queues as one. Who waits stands in front of all messages, as the one that it was, and what is
-  -- parked behind them: it is in flight as they are.
+  -- The world with the queues of all executors as one. The messages of waiting actions come before all others and the parked
+  -- messages after them: they are in flight too.
   abbrev pub together : Core J → Parts J
   together w = record w.parts {
     inbox = waiting_in w.parts ++ (messages_in (all_of w.inboxes) ++ w.parked);
     outbox = items_in (all_of w.outboxes);
   }
 
-  -- all envelopes, those that have come and those that are to be sent
+  -- All envelopes, in inboxes and in outboxes.
   abbrev pub envelopes_of_all : Core J → List (Envelope J)
   envelopes_of_all w = all_of w.inboxes ++ envelopes_out (all_of w.outboxes)
 
-  -- how many reports of moves are to be sent
+  -- The number of arrivals that are to be sent.
   abbrev pub arrived_in : Core J → ℕ
   arrived_in w = sum_by arrived_of (all_of w.outboxes)
 
-  -- Messages for slices go to executors that have them, or get them, or noted where they went; those that are parked wait for a
-  -- slice that is on its way; and what a move has sent is as it should be.
+  -- Messages for slices go to executors that have the slice, are to get it, or recorded where it went. Parked messages wait for
+  -- a slice that is on its way. The messages of moves satisfy `IsLocatedWith`.
   abbrev pub IsLocated : Core J → Type 0
   IsLocated w = IsLocatedWith 0 w.placements (going_in (envelopes_of_all w)) (sent_in (envelopes_of_all w)) (arrived_in w) (map home_of_message w.parked)
 
-  -- ---- what a world keeps
+  -- ---- a world's invariant
 
-  -- All that is in flight is sound, with the queues as one; each shard's lock table has just those who wait there, and all of
-  -- them have to; each executor has its inbox, with envelopes to it alone, and its outbox; the slices and what goes to them are where
-  -- they should be; and nothing is in hand.
+  -- With the queues as one, everything in flight is sound. The lock table of each shard has exactly the actions that wait
+  -- there, and each of them has to wait. Each executor has an inbox, with envelopes to it alone, and an outbox. Slices and the
+  -- messages to them are located as they should be. Nothing is in hand.
   pub record IsSound (shared : SharedTables) (w : Core J) : Type 0 where
     pub all : IsSoundWith shared nothing (together w)
     pub shards : All (IsShardOf shared.scale.warehouses) w.parts.shards.items

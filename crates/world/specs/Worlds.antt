@@ -48,25 +48,26 @@ use Rattle.world.specs.Together.{envelopes_of_all, together}
 
 -- ---- the history
 
--- the tables that the machine leaves which carries out the log's requests one at a time, in log order
+-- The tables that a machine leaves that carries out the log's requests one at a time, in log order.
 abbrev pub tables_now : Database → List Entry → Database
 tables_now opening log = tables_after opening (requests_of log)
 
--- the history tells that this request was accepted with this age
+-- By the history, this request was accepted with this age.
 abbrev pub WasAccepted : List Step → ℕ → Request → Type 0
 WasAccepted history age request = (session : ℕ) × ((number : ℕ) × Contains history (step (Submit session number request) (Accepted age)))
 
--- so it tells of a transaction without an answer
+-- By the history, the request of this transaction without an answer was accepted with its age.
 abbrev pub IsAcceptedIn : List Step → UnansweredTransaction → Type 0
 IsAcceptedIn history u = WasAccepted history u.age u.request
 
--- the claim is on a group of the footprint of the request that was accepted with its age
+-- The claim is on a group of the footprint of the request that was accepted with the claim's age.
 abbrev pub IsClaimOf : List Step → ClaimView → Type 0
 IsClaimOf history claim = (asked : Request) × (WasAccepted history claim.by.age asked × Contains (groups_of (footprint asked)) claim.group)
 
--- A history fits an opening, a log and what is in flight: so it does by the log alone; the tables that the machine leaves are
--- the committed ones while these claims are out; these are all that are out, as the lock tables have it; each transaction without an
--- answer was accepted; and each claim is on a group of the footprint of the request that was accepted with its age.
+-- A history fits an opening, a log, slices and what is in flight. It fits the log (`Fits` of history). The tables that the
+-- machine leaves are the committed ones, given the claims in flight. These claims are all that are held in the lock tables.
+-- Each transaction without an answer was accepted. Each claim is on a group of the footprint of the request accepted with its
+-- age.
 pub record FitsPart (opening : Database) (history : List Step) (log : List Entry) (slices : JoinedSlices) (admitted : ℕ) (in_flight : InFlight) : Type 0 where
   pub recorded : HistoryFits opening history log (tables_now opening log) admitted in_flight.pending
   pub committed : AreCommitted everywhere (content (tables_now opening log)) (all_standing slices) in_flight.claims
@@ -76,24 +77,24 @@ pub record FitsPart (opening : Database) (history : List Step) (log : List Entry
   pub scale : slices.tables.scale ≡ opening.scale
   pub items : slices.tables.items ≡ opening.items
 
--- events with their answers
+-- Events with their answers.
 abbrev pub steps_of : List Event → List EventAnswer → List Step
 steps_of [] answers = []
 steps_of (event ∷ events) [] = []
 steps_of (event ∷ events) (answer ∷ answers) = step event answer ∷ steps_of events answers
 
--- so it is told whether nothing could happen in a round
+-- The flag is whether nothing could happen in the round.
 abbrev pub IsIdleExactly : Bool → Round → Type 0
 IsIdleExactly recorded r = IsTrue recorded ↔ IsIdle r
 
--- Of a transaction without an answer: it is the session's, with this number; and what is told is the place of its entry, or, where
--- it has none, why it is refused.
+-- The transaction without an answer is the session's, with this number. The answer is the place of its entry, or, if it has
+-- none, why it is refused.
 pub record IsAnsweredSo (session number : ℕ) (recorded : Result ℕ Refusal) (u : UnansweredTransaction) : Type 0 where
   pub session_is : u.session ≡ session
   pub number_is : u.number ≡ number
   pub answer_is : IsAnswerTo u recorded
 
--- of a transaction without an answer: it is the session's, with this number; the group is one of its footprint, and the holder is older
+-- The transaction without an answer is the session's, with this number. The group is in its footprint, and the holder is older.
 pub record IsRefusedFor (session number : ℕ) (group : Group) (holder : ℕ) (u : UnansweredTransaction) : Type 0 where
   pub session_is : u.session ≡ session
   pub number_is : u.number ≡ number
@@ -101,37 +102,38 @@ pub record IsRefusedFor (session number : ℕ) (group : Group) (holder : ℕ) (u
   pub older : holder < u.age
 
 module _ {J : Type 0} where
-  -- a history fits what a world consists of, with all executors' queues as one, from an opening
+  -- A history fits the state of a world, with the queues of all executors as one, from an opening.
   abbrev pub Fits : Database → List Step → Parts J → Type 0
   Fits opening history w = FitsPart opening history w.log (joined_in w) w.desk.admitted (flight w)
 
-  -- a history that fits before these events fits after them, with the events and their answers at its end
+  -- A history that fits before these steps fits after them, with the steps appended.
   abbrev pub Advances : Parts J → List Step → Parts J → Type 0
   Advances old steps new = (opening : Database) (history : List Step) → Fits opening history old → Fits opening (history ++ steps) new
 
   -- ---- answers
 
-  -- This was asked. A submission is told at once, by its own number, why it is refused; and who is told anything later has a
-  -- transaction without an answer, with this number, and is told of that one.
+  -- Only what was asked is answered. A submission may be refused at once, by its own number. Any other answer goes to a session
+  -- with a transaction without an answer: it has that transaction's number and is its answer.
   abbrev pub WasAsked : Event → Core J → ℕ → ℕ → Result ℕ Refusal → Type 0
   WasAsked (Submit asking mine asked) w session number recorded = (session ≡ asking) × ((number ≡ mine) × ((why : Refusal) × (recorded ≡ Err why)))
   WasAsked event w session number recorded = (u : UnansweredTransaction) × (Contains (flight (together w)).pending u × IsAnsweredSo session number recorded u)
 
-  -- whoever is answered had asked
+  -- Every answer was asked for.
   abbrev pub AnswersWhoAsked : Event → Core J → EventAnswer → Type 0
   AnswersWhoAsked event w answer = (session number : ℕ) (recorded : Result ℕ Refusal) → answer ≡ Answered session number recorded → WasAsked event w session number recorded
 
   -- ---- deaths
 
-  -- A session that is told of a death had a transaction without an answer, with the number that it is told: a group of that one's
-  -- footprint is named, and the age of an older one.
+  -- A session that gets a death as the answer had a transaction without an answer, with this number. The answer names a group
+  -- of that transaction's footprint and the age of an older transaction.
   abbrev pub RecordsOfOlder : Core J → EventAnswer → Type 0
   RecordsOfOlder w answer =
       (session number : ℕ) (group : Group) (holder : ℕ) → answer ≡ Answered session number (Err (refusal.Died group holder))
       → (u : UnansweredTransaction) × (Contains (flight (together w)).pending u × IsRefusedFor session number group holder u)
 
-  -- The transaction in this slot dies on this group of one of this age, who is older, is active, and has a claim on the group, as a
-  -- lock table has it. The group is of the footprints of both, by the requests that the history tells were accepted with their ages.
+  -- The transaction in this slot dies on this group because of the transaction of this age, which is older, is active, and has
+  -- a claim on the group in a lock table. By the requests accepted with their ages in the history, the group is in both
+  -- footprints.
   pub record DiesOf (history : List Step) (w : Parts J) (at : ActiveTransactions) (slot : ℕ) (group : Group) (holder : ℕ) : Type 0 where
     pub accepted : WasAccepted history (at slot).age (at slot).request
     pub of_footprint : Contains (groups_of (footprint (at slot).request)) group
@@ -146,20 +148,20 @@ module _ {J : Type 0} where
     pub on : holding.group ≡ group
     pub by : holding.by.age ≡ holder
 
-  -- an action of the transaction in this slot, if it has died, died of such a one
+  -- If an action of the transaction in this slot died, it died of such a transaction.
   abbrev pub DiedOfOlder : List Step → Parts J → ActiveTransactions → ℕ → Ran J → Type 0
   DiedOfOlder history w at slot (ran.Done claims found) = Unit {0}
   DiedOfOlder history w at slot (ran.Died group holder) = DiesOf history w at slot group holder
   DiedOfOlder history w at slot ran.NoMemory = Unit {0}
 
-  -- the item, if it is a report of a death, tells of such a one
+  -- If the item is the report of a death, the death is of such a transaction.
   abbrev pub RecordsWhom : List Step → Parts J → ActiveTransactions → Item J → Type 0
   RecordsWhom history w at (item.Report report) = DiedOfOlder history w at report.slot report.ran
   RecordsWhom history w at item = Unit {0}
 
-  -- Who dies as an executor works on a message, dies of somebody older who is active: each report that is put tells so. What slot has
-  -- which transaction is known by the courses by which all that is in flight is sound: there are such, and it is so by whichever
-  -- they are.
+  -- An action that dies while an executor processes a message dies of an older active transaction: each report put satisfies
+  -- this. The transaction in each slot is given by the invariant of what is in flight. The invariant holds, and the claim is
+  -- true for every proof of it.
   abbrev pub DieOfOlder : List Step → Event → Core J → Core J → Type 0
   DieOfOlder history (Take executor) old new =
       IsSoundWith new.parts.catalog nothing (together new)
@@ -167,50 +169,51 @@ module _ {J : Type 0} where
       → All (RecordsWhom history (together new) known.in_flight) (items_in posts))
   DieOfOlder history event old new = Unit {0}
 
-  -- so it is by every history that fits the world after the event
+  -- This holds for every history that fits the world after the event.
   abbrev pub AllDieOfOlder : Event → Core J → Core J → Type 0
   AllDieOfOlder event old new = (opening : Database) (history : List Step) → Fits opening history (together new) → DieOfOlder history event old new
 
   -- ---- at rest
 
-  -- How many transactions are active, and how many reports the move lacks that is outstanding: nothing is where neither is.
+  -- The number of active transactions plus the number of arrivals that the outstanding move awaits. 0 if there is neither.
   abbrev pub count_busy : Core J → ℕ
   count_busy w = count_active w.parts.desk.active + w.placements.awaited
 
-  -- no executor can take anything, or send anything
+  -- All inboxes and outboxes are empty: nothing can be taken and nothing can be sent.
   abbrev pub IsAtRest : Core J → Type 0
   IsAtRest w = (all_of w.inboxes ≡ []) × (all_of w.outboxes ≡ [])
 
   -- ---- what can't happen
 
-  -- A submission by a session of 64 or above, or one that isn't refused while the inbox is full of the executor where it would begin,
-  -- or no age is left; a move that there can't be, or while one is outstanding, or while the inbox of its destination is full; and a
-  -- Take or a Send where there is nothing to take or to send, or no such executor.
+  -- A submission can't happen from a session number of 64 or above; nor, unless it is refused, if the inbox of the executor
+  -- where it would begin is full or no age is left. A move can't happen if it is impossible, if another is outstanding, or if
+  -- the inbox of its destination is full. A Take or a Send can't happen if there is nothing to take or to send, or no such
+  -- executor.
   abbrev pub CannotHappen : Event → Core J → Type 0
   CannotHappen (Submit session number asked) w = CannotSubmit (has_room (begins_at asked w) w) (slice_get w.parts.desk.sessions.items session) asked w.parts
   CannotHappen (Order order) w = ¬ CanOrder order w
   CannotHappen (Take executor) w = queue_of executor w.inboxes ≡ []
   CannotHappen (Send executor) w = queue_of executor w.outboxes ≡ []
 
-  -- A submission by one of the 64 sessions is refused with SessionBusy exactly where the session has a transaction without an
+  -- A submission by one of the 64 sessions is refused with SessionBusy exactly if the session has a transaction without an
   -- answer.
   abbrev pub IsBusyExactly : Event → Core J → EventAnswer → Type 0
   IsBusyExactly (Submit session number asked) w answer =
       session < 64 → (answer ≡ Answered session number (Err refusal.SessionBusy)) ↔ (1 ≤ count_by (is_of session) (flight (together w)).pending)
   IsBusyExactly event w answer = Unit {0}
 
-  -- the action has not died: it has done its work, or there was no memory for it
+  -- The action has not died: it has done its work, or there was no memory for it.
   abbrev pub HasNotDied : Ran J → Type 0
   HasNotDied (ran.Done claims found) = Unit {0}
   HasNotDied (ran.Died group holder) = ⊥
   HasNotDied ran.NoMemory = Unit {0}
 
-  -- the item, if it is a report, tells of no death
+  -- If the item is a report, it is not one of a death.
   abbrev pub RecordsNoDeath : Item J → Type 0
   RecordsNoDeath (item.Report report) = HasNotDied report.ran
   RecordsNoDeath item = Unit {0}
 
-  -- No action dies as an executor works on a message: no report that is put tells of a death.
+  -- No action dies while an executor processes a message: no report put is one of a death.
   abbrev pub NoneDies : Event → Core J → Core J → Type 0
   NoneDies (Take executor) old new =
       (posts : List (Outgoing J)) → queue_of executor new.outboxes ≡ queue_of executor old.outboxes ++ posts → All RecordsNoDeath (items_in posts)
@@ -218,13 +221,13 @@ module _ {J : Type 0} where
 
   -- ---- where slices are
 
-  -- The slice of each warehouse is at one executor, and no parcel of it is on its way; or it is in just one parcel.
+  -- The slice of each warehouse is at one executor and in no parcel, or in exactly one parcel.
   abbrev pub IsOwned : Core J → Type 0
   IsOwned w = AreOwned w.placements (sent_in (envelopes_of_all w))
 
   -- ---- never stuck
 
-  -- one of age t waits, at some shard, for a group on which one of age u has a claim that is in its way
+  -- At some shard an action of age t waits for a group on which a holder of age u has a conflicting claim.
   pub record WaitsFor (w : Parts J) (t u : ℕ) : Type 0 where
     pub shard : ShardView (Carried J)
     pub there : Contains w.shards.items shard
@@ -235,8 +238,8 @@ module _ {J : Type 0} where
     pub blocks : Blocks shard.slice.holdings waiting.wants holding
     pub holder : holding.by.age ≡ u
 
-  -- No transaction is active, nothing is in flight, nobody waits, no lock table has a claim out, no move is outstanding, and nothing is
-  -- parked.
+  -- No transaction is active, no claim is in flight, no action waits, no lock table has a claim, no move is outstanding, and
+  -- nothing is parked.
   pub record IsIdleAt (w : Core J) : Type 0 where
     pub active : count_active w.parts.desk.active ≡ 0
     pub claims : (flight (together w)).claims ≡ []
@@ -245,8 +248,8 @@ module _ {J : Type 0} where
     pub awaited : w.placements.awaited ≡ 0
     pub parked : w.parked ≡ []
 
-  -- No world is stuck. Who waits is older than each that it waits for, and so none waits for itself, through any others; and where
-  -- nothing can be taken and nothing be sent, the world is idle.
+  -- No world is stuck. Each waiting transaction is older than those it waits for, so there is no cycle of waiting. If nothing
+  -- can be taken and nothing can be sent, the world is idle.
   pub record IsNeverStuck (w : Core J) : Type 0 where
     pub rises : (t u : ℕ) → WaitsFor w.parts t u → t < u
     pub no_circle : (t : ℕ) (ages : List ℕ) → Path (WaitsFor w.parts) t ages t → ⊥
@@ -254,11 +257,11 @@ module _ {J : Type 0} where
 
   -- ---- several events
 
-  -- One event happens, with its answer, and this is so of it. Whatever history fitted before fits after, with this event at its end
-  -- (`advances`). What it is answered and what it changes is told (`happens`), and what it may change at most (`changes`); when nothing
-  -- can happen, and when a session is busy. Whoever is answered had asked; who is told of a death, is told of somebody older; and who
-  -- dies, dies of somebody older, and none does while its transaction is the only one active. There are as many executors as before, each
-  -- slice is at one of them or in one parcel, and the world is not stuck.
+  -- One event happens, with this answer. A history that fits before fits after with this step appended (`advances`). The answer
+  -- and the changes are specified (`happens`), and bounded (`changes`). An event is answered `Nothing` exactly if it can't
+  -- happen, and a session is busy exactly if it has a transaction without an answer. Every answer was asked for. A death is of
+  -- an older transaction, in an answer and in a report, and no action dies while its transaction is the only active one. The
+  -- number of executors is unchanged, each slice is at one executor or in one parcel, and the world is not stuck.
   pub record EventHappens (s : Step) (old new : Core J) : Type 0 where
     pub advances : Advances (together old) (s ∷ []) (together new)
     pub happens : Happens s.event old s.answer new
@@ -273,11 +276,11 @@ module _ {J : Type 0} where
     pub never_stuck : IsNeverStuck new
     pub alone : (opening : Database) (history : List Step) → Fits opening history (together old) → count_active old.parts.desk.active ≡ 1 → NoneDies s.event old new
 
-  -- events happen one after another, each with its answer
+  -- Events happen one after another, each with its answer.
   abbrev pub HappenInTurn : List Step → Core J → Core J → Type 0
   HappenInTurn [] old new = new ≡ old
   HappenInTurn (s ∷ steps) old new = (mid : Core J) × (EventHappens s old mid × HappenInTurn steps mid new)
 
-  -- these events came about: they happened in turn, and a history that fits goes on with them
+  -- These events happened in turn, and a history that fits before them fits after them with the steps appended.
   abbrev pub ComeAbout : List Step → Core J → Core J → Type 0
   ComeAbout steps old new = HappenInTurn steps old new × Advances (together old) steps (together new)

@@ -17,7 +17,7 @@ use std::alloc::Global;
 use transactions::{HeldClaims, Progress};
 
 impl<J: Names> Parts<J> {
-    // A session submits a request. Whether there is room in the inbox where it would begin, its caller tells.
+    // A session submits a request. `has_room`: whether the inbox of the executor where the request begins has room.
     pub(crate) fn submit(
         &mut self,
         alloc: Global,
@@ -51,7 +51,7 @@ impl<J: Names> Parts<J> {
         }
     }
 
-    // Admits a request in a free slot, and puts its first actions. An error changes nothing.
+    // Admits a request to a free slot and puts its first actions. An error changes nothing.
     fn admit(
         &mut self,
         alloc: Global,
@@ -106,7 +106,7 @@ fn refused(session: u32, number: u32, refusal: Refusal) -> EventAnswer
     }
 }
 
-// The session asks with its pass, which goes with the request from then on.
+// The session asks with its pass. The desk gives up the pass until the request is answered.
 fn ask<J: Names>(desk: &mut SessionDesk<J>, number: u32, request: &Request) -> Pass<J>
     requires here { IsTrue (is_some desk.old.pass) }
     requires session { IfSome desk.old.pass (λ pass. pass.session ≡ desk.old.seat.session) }

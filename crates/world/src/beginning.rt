@@ -1,4 +1,4 @@
-//! A phase begins.
+//! The start of a phase.
 ghost use Rattle.std.specs.Prelude.{◌≡◌, ◌≤◌, ◌+◌, ◌++◌, length, replicate, IfOk, None, Some};
 ghost use Rattle.transactions.specs.Progresses.{works_of};
 ghost use Rattle.world.specs.Following.{acts_of};
@@ -11,7 +11,7 @@ use schema::NoMemory;
 use std::alloc::Global;
 use transactions::{MOST_ACTIONS, Progress, Work, phases_have_actions};
 
-/// The actions of a phase that begins: what they do, by place, and where they meet.
+/// The actions of a phase that begins: their works, by place, and the rendezvous of their reports.
 #[derive(Drop)]
 pub(crate) struct Phase<J: Names> {
     pub(crate) works: Vec<Work>,
@@ -19,7 +19,7 @@ pub(crate) struct Phase<J: Names> {
 }
 
 impl<J: Names> Phase<J> {
-    /// The phase of a transaction that has come so far. Want of memory leaves nothing behind.
+    /// Makes the next phase of a transaction with this progress. Returns NoMemory if an allocation fails; nothing is left then.
     pub(crate) fn begin(alloc: Global, progress: &Progress) -> Result<Phase<J>, NoMemory>
         ensures works { IfOk result (λ phase. phase.works.items ≡ works_of progress.now) }
         ensures meeting { IfOk result (λ phase. phase.meeting ≡ replicate (length phase.works.items) None) }
@@ -32,8 +32,8 @@ impl<J: Names> Phase<J> {
 }
 
 impl<J: Names> Parts<J> {
-    // Puts the actions of a phase at the end of the outbox, by place, after those of the phases before. The
-    // first carries the transaction.
+    // Puts the actions of a phase at the end of the outbox, by place. Places continue after those of the earlier phases. The
+    // first action carries the transaction.
     pub(crate) fn put_acts(&mut self, flow: Flow<J>, works: Vec<Work>)
         requires room { length self.old.outbox + length works.items ≤ 4096 }
         requires held { length flow.transaction.held ≤ MOST_ACTIONS }

@@ -1,4 +1,4 @@
-//! A transaction is logged.
+//! The commit of a transaction.
 ghost use Rattle.std.specs.Prelude.{◌≡◌, ◌≤◌, ◌+◌, length};
 ghost use Rattle.world.specs.Events as spec;
 ghost use Rattle.world.specs.Events.{CanCommit, Commits};
@@ -12,7 +12,7 @@ use requests::Refusal;
 use transactions::{Logged, MOST_ACTIONS};
 
 impl<J: Names> Parts<J> {
-    // The transaction is logged, or refused where there is no memory for an entry, or the log is full.
+    // Logs the transaction. Refuses it if there is no memory for the entry or the log is full.
     pub(crate) fn commit(&mut self, commit: Commit<J>) -> EventAnswer
         requires room { length self.old.outbox + (MOST_ACTIONS + 1) ≤ 4096 }
         requires can { CanCommit J.opening commit }
@@ -51,7 +51,7 @@ impl<J: Names> Parts<J> {
     }
 }
 
-// A commit is answered by the place of its entry, or, where the log refused it, as any item that was sent.
+// The answer to a commit: `Logged` with the place of the entry, or `Sent`, as for any other item, if the log refused it.
 fn recorded_of(answer: Result<u32, Refusal>) -> EventAnswer
     ensures { result ≡ spec.recorded_of answer }
 {

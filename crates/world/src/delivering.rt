@@ -1,4 +1,4 @@
-//! What executors have in their inboxes and outboxes: envelopes are opened, and what stands in an outbox is sent.
+//! The executors' inboxes and outboxes: envelopes are opened, outgoing items are sent.
 ghost use Rattle.std.specs.Prelude.{◌≡◌, ◌≤◌, ◌<◌, ◌+◌, All, length};
 ghost use Rattle.partitions.specs.Parts.{shared_of};
 ghost use Rattle.world.specs.declared.flight.Load.TheVariants.{Work};
@@ -20,7 +20,7 @@ use std::alloc::Global;
 impl<J: Names> Core<J> {
     // ---- an envelope is opened
 
-    // An executor does what an envelope brings.
+    // An executor processes the load of an envelope.
     pub(crate) fn open_envelope(&mut self, alloc: Global, executor: u32, load: Load<J>)
         requires warehouses { J.warehouses ≡ J.opening.scale.warehouses }
         requires once { TransactionsClaimEachGroupOnce }
@@ -36,8 +36,8 @@ impl<J: Names> Core<J> {
         }
     }
 
-    // A message for a slice is worked on where the slice is. It is sent on where it went, if that was noted, and else it is parked
-    // until it comes.
+    // Processes a message. A message for a slice is processed if this executor has the slice. It is forwarded if this executor
+    // recorded where the slice went; otherwise it is parked until the slice arrives.
     fn work(&mut self, alloc: Global, executor: u32, message: Message<J>)
         requires warehouses { J.warehouses ≡ J.opening.scale.warehouses }
         requires once { TransactionsClaimEachGroupOnce }
@@ -63,7 +63,7 @@ impl<J: Names> Core<J> {
         }
     }
 
-    // A message is worked on, and what is put stands in the executor's outbox.
+    // Processes a message. What that puts goes to the executor's outbox.
     fn work_on(&mut self, alloc: Global, executor: u32, message: Message<J>)
         requires warehouses { J.warehouses ≡ J.opening.scale.warehouses }
         requires once { TransactionsClaimEachGroupOnce }
@@ -75,9 +75,9 @@ impl<J: Names> Core<J> {
         self.post_all(executor);
     }
 
-    // ---- what stands in an outbox is sent
+    // ---- an outbox entry is sent
 
-    // What stood first in an executor's outbox is sent.
+    // Sends what was first in an executor's outbox.
     pub(crate) fn send_outgoing(
         &mut self,
         alloc: Global,
@@ -94,7 +94,7 @@ impl<J: Names> Core<J> {
         }
     }
 
-    // An envelope goes to its executor's inbox, if there is room.
+    // Puts an envelope into its executor's inbox if there is room; otherwise back at the end of the sender's outbox.
     fn deliver(&mut self, executor: u32, envelope: Envelope<J>) -> EventAnswer
         requires there { executor < length self.old.outboxes }
         requires to { envelope.to < length self.old.inboxes }
@@ -112,7 +112,7 @@ impl<J: Names> Core<J> {
         }
     }
 
-    // An item is sent, and what it brings stands in the executor's outbox.
+    // Sends an item. What that puts goes to the executor's outbox.
     fn send_item(&mut self, alloc: Global, executor: u32, item: Item<J>) -> EventAnswer
         requires sending { OutgoingInHand (shared_of J.opening) executor (Outgoing.Item item) self.old }
         ensures { SendsOutgoing executor (Outgoing.Item item) self.old result self.new }
@@ -122,9 +122,9 @@ impl<J: Names> Core<J> {
         answer
     }
 
-    // ---- what is put
+    // ---- items are put into an outbox
 
-    // What stands in hand goes to the end of an executor's outbox.
+    // Moves the items that the event put to the end of an executor's outbox.
     fn post_all(&mut self, executor: u32)
         requires there { executor < length self.old.outboxes }
         requires homes { All HasHomeIn self.old.parts.outbox }
@@ -137,7 +137,7 @@ impl<J: Names> Core<J> {
         }
     }
 
-    // An item as it stands in an outbox: where a push goes is read from the routing now.
+    // An item as it is stored in an outbox. The destination of a push is read from the routing now.
     fn outgoing_by(&self, item: Item<J>) -> Outgoing<J>
         requires { HasHomeIn item }
         ensures { result ≡ outgoing_by_spec self.now.placements item }
@@ -156,7 +156,7 @@ impl<J: Names> Core<J> {
         }
     }
 
-    // What a submission has put, if it has, goes to the end of an executor's inbox.
+    // Moves the message that a submission put, if there is one, to the end of an executor's inbox.
     pub(crate) fn hand_out(&mut self, to: u32)
         requires there { to < length self.old.inboxes }
         requires one { length self.old.parts.inbox ≤ 1 }

@@ -1,38 +1,39 @@
-//! The admission desk: who has a transaction in flight.
+//! The admission desk: which sessions have a transaction in flight, and the active transactions.
 use crate::Report;
 use crate::slots::Slots;
 use commit_log::{Names, Pass, SessionSeat};
 use rendezvous::Meeting;
 
-/// A session, as the desk knows it.
+/// A session at the desk.
 #[derive(Drop)]
 pub struct SessionDesk<J: Names> {
     pub seat: SessionSeat<J>,
-    /// Away while the session's request has no answer.
+    /// `None` while the session has a request without an answer.
     pub pass: Option<Pass<J>>,
 }
 
-/// How far a transaction has come that is active.
+/// The state of an active transaction.
 #[derive(Drop)]
 pub enum Active<J: Names> {
-    /// The actions of a phase are in flight, and meet here: each by its place, less that of the first.
+    /// The actions of a phase are in flight. Their reports meet here; an action's index is its place less `first`, the place of
+    /// the phase's first action.
     Acting {
         first: usize,
         meeting: Meeting<Report<J>>,
     },
-    /// It is to be logged.
+    /// The transaction is about to be logged.
     Committing,
-    /// So many actions have yet to give their claims back.
+    /// The number of actions that have yet to give their claims back.
     Ending(usize),
 }
 
-/// The desk: the sessions, how many transactions were admitted, and those that are active.
+/// The desk: the sessions, the number of transactions admitted, and the active transactions.
 #[derive(Drop)]
 pub struct Desk<J: Names> {
-    /// The number of the next transaction's age.
+    /// The number of transactions admitted so far, which is the age of the next one.
     pub admitted: u64,
-    /// By their numbers, 0 to 63.
+    /// By session number, 0 to 63.
     pub sessions: Vec<SessionDesk<J>>,
-    /// The transactions that are active, each in its slot, 0 to 63, until all its claims are back.
+    /// The active transactions, each in its slot, 0 to 63. A transaction is active until all its claims are back.
     pub active: Slots<Active<J>>,
 }

@@ -1,4 +1,4 @@
-//! All actions of a phase have reported: what they found is gathered, and what follows is done.
+//! The end of a phase: all its actions have reported.
 ghost use Rattle.std.specs.Prelude.{◌≡◌, ◌⊎◌, false, ◌≤◌, ◌<◌, ◌+◌, [], length, vec_capacity, None};
 ghost use Rattle.world.specs.Following as spec;
 ghost use Rattle.world.specs.Following.{CarriesFirst, found_in, held_in, holding, refusal_of, refused, releasing};
@@ -17,8 +17,9 @@ use std::alloc::Global;
 use transactions::{Gathered, MOST_ACTIONS, Ran, Sorted};
 
 impl<J: Names> Parts<J> {
-    // All actions of a phase have reported. The first death by place is answered, and else lack of memory;
-    // where there is none, what they found is gathered: the next phase begins, or the transaction is to be logged.
+    // All actions of a phase have reported. If an action died, the transaction is refused for the first death by place;
+    // otherwise, if an action found no memory, for that. Otherwise what the actions found is gathered, and the next phase
+    // begins or the transaction is to be logged. It is refused if there is no memory for this.
     pub(crate) fn follow(&mut self, alloc: Global, results: Results<Report<J>>)
         requires room { length self.old.outbox + (MOST_ACTIONS + 1) ≤ 4096 }
         requires can { CanMeet results }
@@ -43,7 +44,7 @@ impl<J: Names> Parts<J> {
         }
     }
 
-    // The transaction's next phase begins, unless there is no memory for it.
+    // Starts the transaction's next phase. Refuses the transaction if there is no memory for it.
     fn begin_next_phase(&mut self, alloc: Global, flow: Flow<J>)
         requires room { length self.old.outbox + (MOST_ACTIONS + 1) ≤ 4096 }
         requires held { length flow.transaction.held ≤ MOST_ACTIONS }
@@ -63,7 +64,7 @@ impl<J: Names> Parts<J> {
         }
     }
 
-    // The transaction was carried out, and is to be logged.
+    // The transaction was carried out and is to be logged.
     fn put_commit(&mut self, transaction: Transaction<J>, reply: Reply)
         requires room { length self.old.outbox + 1 ≤ 4096 }
         requires slot { transaction.slot < 64 }
@@ -76,8 +77,8 @@ impl<J: Names> Parts<J> {
     }
 }
 
-// The transaction, which came with the first report, holds what its actions hold, and what they found stands in
-// order, unless it is refused.
+// Adds the claims of the actions to the transaction, which the first report carries, and collects what they found, in order,
+// unless the transaction is refused.
 fn sort_out<J: Names>(mut results: Results<Report<J>>, mut sorted: Sorted) -> (Flow<J>, Sorted)
     requires can { CanMeet results }
     requires found { sorted.refusal ≡ None → (sorted.found.items ≡ []) × (length results ≤ vec_capacity sorted.found) }
@@ -102,7 +103,7 @@ fn sort_out<J: Names>(mut results: Results<Report<J>>, mut sorted: Sorted) -> (F
     (flow, sorted)
 }
 
-// What came of an action whose report is not the first of its phase: no transaction goes with it.
+// The outcome of an action whose report is not the first of its phase. Such a report carries no transaction.
 fn ran_of<J: Names>(report: Report<J>) -> Ran<J>
     ensures { result ≡ report.ran }
 {

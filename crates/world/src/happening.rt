@@ -14,7 +14,7 @@ use std::alloc::Global;
 use transactions::{claims_are_of_the_footprint, home_of_request};
 
 impl<J: Names> Core<J> {
-    /// What an event brings.
+    /// One event happens.
     pub(crate) fn happen(&mut self, alloc: Global, event: &Event) -> EventAnswer
         requires warehouses { J.warehouses ≡ J.opening.scale.warehouses }
         requires sound { IsSound (shared_of J.opening) self.old }
@@ -34,7 +34,8 @@ impl<J: Names> Core<J> {
         }
     }
 
-    // A session submits a request, which begins at the executor to which messages for the warehouse go whose terminal asks.
+    // A session submits a request. The request begins at the executor to which messages for its terminal's warehouse are
+    // routed.
     fn submit(&mut self, alloc: Global, session: u32, number: u32, request: &Request) -> EventAnswer
         requires sound { IsSound (shared_of J.opening) self.old }
         ensures sound { IsSound (shared_of J.opening) self.new }
@@ -60,13 +61,13 @@ impl<J: Names> Core<J> {
         let Some(envelope) = self.inboxes.take(executor as usize) else {
             return EventAnswer::Nothing;
         };
-        // Actions of one transaction never meet, and so none dies of its own.
+        // Actions of one transaction never conflict, so no action dies of its own transaction.
         claims_are_of_the_footprint();
         self.open_envelope(alloc, executor, envelope.load);
         EventAnswer::Took
     }
 
-    // The first of an executor's outbox is sent.
+    // Sends the first entry of an executor's outbox.
     fn send(&mut self, alloc: Global, executor: u32) -> EventAnswer
         requires sound { IsSound (shared_of J.opening) self.old }
         ensures sound { IsSound (shared_of J.opening) self.new }

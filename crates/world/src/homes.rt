@@ -1,4 +1,4 @@
-//! The warehouse by which a message finds its executor.
+//! The home of a message: the warehouse by which it finds its executor.
 ghost use Rattle.std.specs.Prelude.{◌≡◌};
 ghost use Rattle.world.specs.Envelopes as spec;
 ghost use Rattle.world.specs.Envelopes.{HasHome};
@@ -7,7 +7,8 @@ use crate::flight::Message;
 use commit_log::Names;
 use transactions::home_of_request;
 
-// The warehouse by which a message finds its executor: at whose slice it is worked on; a transaction starts at its request's.
+// The warehouse by which a message finds its executor: the one whose slice processes it. The start of a transaction goes to its
+// request's warehouse.
 pub(crate) fn home_of_message<J: Names>(message: &Message<J>) -> u32
     requires { HasHome message.now }
     ensures { result ≡ spec.home_of_message message.now }
@@ -20,7 +21,7 @@ pub(crate) fn home_of_message<J: Names>(message: &Message<J>) -> u32
     }
 }
 
-// Whether a message is worked on in the slice of its warehouse, as all are but the start of a transaction.
+// Whether a message is processed in the slice of its warehouse. All are, but the start of a transaction.
 pub(crate) fn is_for_slice<J: Names>(message: &Message<J>) -> bool
     ensures { result ≡ spec.is_for_slice message.now }
 {

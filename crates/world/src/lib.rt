@@ -1,11 +1,10 @@
-//! The engine as a world of events: one thing happens at a time, and what comes of it is told exactly.
-//! However events follow one another, all logged replies and the tables are those of a machine that
-//! carries out the log's requests one at a time, in log order.
+//! The engine as a world of events. One event happens at a time, and its effect is specified exactly. However events are
+//! interleaved, all logged replies and the tables are those of a machine that carries out the log's requests one at a time, in
+//! log order.
 //!
-//! No thread owns a transaction. It is a flow graph: the actions of each phase go as messages to the
-//! executor that has the rows; what one reports meets the others of its phase; the last report brings the
-//! next phase, or the commit. The rows of each warehouse are a slice of their own, and a message is worked on
-//! at the slice of its warehouse, by the executor to which the warehouse belongs.
+//! No thread owns a transaction. A transaction is a flow graph: the actions of each phase go as messages to the executor that
+//! has the rows, and their reports meet. The last report of a phase starts the next phase or the commit. Each warehouse's rows
+//! are a slice of their own. A message is processed in the slice of its warehouse, by the executor that has the slice.
 #![tactic(auto)]
 
 mod admitting;

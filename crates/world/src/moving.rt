@@ -1,4 +1,4 @@
-//! Ranges of warehouses go from executor to executor.
+//! Moves of ranges of warehouses between executors.
 ghost use Rattle.std.specs.Prelude.{◌≡◌, ℕ};
 ghost use Rattle.partitions.specs.Parts.{shared_of};
 ghost use Rattle.history.specs.declared.event.Event.TheVariants as event;
@@ -20,7 +20,7 @@ use history::EventAnswer;
 use range_moves::{MoveOrder, Moving};
 
 impl<J: Names> Core<J> {
-    // A move is ordered, if there can be such a move, none is outstanding, and the inbox of its destination has room.
+    // Orders a move, if it is a possible one, no other is outstanding, and its destination's inbox has room.
     pub(crate) fn order(&mut self, order: &MoveOrder) -> EventAnswer
         requires sound { IsSound (shared_of J.opening) self.old }
         ensures sound { IsSound (shared_of J.opening) self.new }
@@ -40,7 +40,8 @@ impl<J: Names> Core<J> {
         EventAnswer::Ordered
     }
 
-    // A move begins at its destination: each slice of its range is fetched from the executor that has it, unless it is there.
+    // Begins a move at its destination: fetches each slice of the range from the executor that has it, unless it is here
+    // already.
     pub(crate) fn begin_move(&mut self, executor: u32, order: &MoveOrder)
         requires { EnvelopeInHand (shared_of J.opening) executor (Move (moving.Order order.now)) self.old }
         ensures { self.new ≡ moves executor (moving.Order order.now) self.old }
@@ -59,7 +60,8 @@ impl<J: Names> Core<J> {
         }
     }
 
-    // The slice of a warehouse is taken out, with all who wait there, and goes to an executor as a parcel; it is noted where it went.
+    // Takes out the slice of a warehouse, with all actions that wait there, sends it to an executor as a parcel, and records
+    // where it went.
     pub(crate) fn take_out(&mut self, executor: u32, w_id: u32, to: u32)
         requires { EnvelopeInHand (shared_of J.opening) executor (Move (moving.Fetch w_id to)) self.old }
         ensures { self.new ≡ moves executor (moving.Fetch w_id to) self.old }
@@ -73,15 +75,15 @@ impl<J: Names> Core<J> {
             .put(executor as usize, Outgoing::Envelope(envelope));
     }
 
-    // The slice of a warehouse is installed. It has arrived; and each message that was parked for it is sent to its executor, in the
-    // order in which they were.
+    // Installs the slice of a warehouse and reports its arrival. Each message that was parked for it is sent to this executor,
+    // in the order of parking.
     pub(crate) fn install(&mut self, executor: u32, w_id: u32)
         requires { EnvelopeInHand (shared_of J.opening) executor (Move (moving.Parcel w_id)) self.old }
         ensures { self.new ≡ moves executor (moving.Parcel w_id) self.old }
     {
         self.placements.install(w_id, executor);
         self.outboxes.put(executor as usize, Outgoing::Arrived);
-        // The queue of those that are parked is gone round once.
+        // One pass over all parked messages; those for other slices keep their order.
         for _ in 0..self.parked.len() {
             let Some(message) = self.parked.take() else {
                 unreachable!()
@@ -99,7 +101,7 @@ impl<J: Names> Core<J> {
         }
     }
 
-    // The slice of a warehouse has arrived. With the last of its range the move is over.
+    // Records that the slice of a warehouse has arrived. The last arrival of the range ends the move.
     pub(crate) fn arrive(&mut self) -> EventAnswer
         requires { (executor : ℕ) × OutgoingInHand (shared_of J.opening) executor outgoing.Arrived self.old }
         ensures { (executor : ℕ) → SendsOutgoing executor outgoing.Arrived self.old result self.new }

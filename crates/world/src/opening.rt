@@ -1,4 +1,4 @@
-//! A world is opened over tables that meet the consistency conditions.
+//! Opening a world over tables that meet the consistency conditions.
 ghost use Rattle.std.specs.Prelude.{◌≡◌, ◌↔◌, ◌≤◌, [], map, IfOk, IfErr, OnOk, IsErrAnd};
 ghost use Rattle.schema.specs.Consistency.{Consistent};
 ghost use Rattle.slices.specs.Openings.{AreOpenedFor};
@@ -21,16 +21,17 @@ use slices::{cut, open_groups};
 use std::alloc::{AllocError, Global};
 use tickets::{GroupSeats, named_all};
 
-/// The agreements of a world's groups and of its log, before they have a name: what a name is picked from.
+/// The agreements of a world's groups and of its log, before they are named. The names of a world are picked from them.
 #[derive(Drop)]
 pub struct Opening {
-    /// The seats of all groups, by their places.
+    /// The seats of all groups, by place.
     pub groups: Vec<GroupSeats>,
     pub log: UnnamedLog,
 }
 
 impl Opening {
-    /// The agreements of the tables' groups and of a log without entries. Nothing is left after an error.
+    /// Makes the agreements for the groups of these tables and for an empty log. Returns NoMemory if an allocation fails;
+    /// nothing is left then.
     pub fn open(alloc: Global, tables: &Tables) -> Result<Opening, NoMemory>
         ensures { IfOk result (λ opening. AreOpenedFor tables.now opening.groups.items) }
     {
@@ -43,12 +44,12 @@ impl Opening {
 /// Why no world was opened.
 #[derive(Clone, Copy, Debug, PartialEq, Eq)]
 pub enum OpenFault {
-    /// There was no memory to check the tables, or for the world.
+    /// There was no memory to check the tables or to build the world.
     NoMemory,
-    /// A world has 1 to 16 executors, and another number was asked for.
+    /// The number of executors is not 1 to 16.
     BadExecutors,
-    /// The tables break the consistency condition of this number, and none of a lower one: 1 to 10, or 12
-    /// (TPC-C 5.11, clause 3.3.2).
+    /// The tables break the consistency condition of this number, and none of a lower one: 1 to 10, or 12 (TPC-C 5.11, clause
+    /// 3.3.2).
     NotConsistent(u8),
 }
 
@@ -64,8 +65,11 @@ impl From<AllocError> for OpenFault {
 }
 
 impl<J: Names> World<J> {
-    /// A world of so many executors over these tables, with an empty log, in which nothing is in flight. The
-    /// number of executors, 1 to 16, is looked at before the conditions. Nothing is left after an error.
+    /// Opens a world with this number of executors over these tables. Its log is empty and nothing is in flight.
+    ///
+    /// Returns BadExecutors exactly if `executors` is not 1 to 16, checked before the consistency conditions. Returns
+    /// NotConsistent with the least condition that the tables break, or NoMemory if an allocation fails. Nothing is left after
+    /// an error.
     pub fn open(
         alloc: Global,
         tables: Tables,
@@ -89,7 +93,7 @@ impl<J: Names> World<J> {
         Ok(world)
     }
 
-    // A world over tables that are consistent.
+    // A world over consistent tables.
     fn over(
         alloc: Global,
         tables: Tables,
@@ -141,7 +145,7 @@ impl<J: Names> World<J> {
     }
 }
 
-// The sessions of these passes and seats, whose passes are at the desk.
+// The sessions with these passes and seats. Each pass is at the desk.
 fn open_sessions<J: Names>(
     alloc: Global,
     lanes: Vec<(Pass<J>, SessionSeat<J>)>,

@@ -1,4 +1,4 @@
-//! Schedules are played.
+//! Schedules.
 ghost use Rattle.std.specs.Prelude.{◌≡◌, ◌↔◌, ◌≤◌, ◌<◌, ◌+◌, ◌*◌, ◌++◌, [], ◌∷◌, List, IfOk, IsTrue, OnErr, OnOk, length, vec_capacity};
 ghost use Rattle.history.specs.History.{Step};
 ghost use Rattle.history.specs.Schedules.{Begins, EndsQuiet, Follows, IsRoundOf, Plays, Round, outputs_in_round, outputs_of_round, steps_of_round};
@@ -13,11 +13,10 @@ use schema::NoMemory;
 use std::alloc::Global;
 
 impl<J: Names> World<J> {
-    /// Plays a schedule, item by item, and gives what is printed of it.
+    /// Plays a schedule, item by item, and returns what is printed for it.
     ///
-    /// Where the last output is that rounds ended quiet, no message can be taken and no item be sent.
-    /// After an error, which says that there was no memory for what is printed, the first of the schedule's
-    /// events have come about, and nothing else.
+    /// If the last output is `Quiet`, no message can be taken and no item can be sent. Returns NoMemory if an allocation for
+    /// the outputs fails: then the first of the schedule's events have happened, and nothing else.
     pub fn play(&mut self, alloc: Global, schedule: &[Scheduled]) -> Result<Vec<Output>, NoMemory>
         ensures plays { IfOk result (λ outputs. (steps : List Step) × (Plays self.old.placements.executors schedule.now outputs.items steps × ComeAbout steps self.old self.new)) }
         ensures rest { IfOk result (λ outputs. EndsQuiet outputs.items → IsAtRest self.new) }
@@ -30,7 +29,7 @@ impl<J: Names> World<J> {
         Ok(outputs)
     }
 
-    // One item of a schedule; what is printed of it comes at the end.
+    // Plays one item of a schedule and appends what is printed for it.
     fn play_item(
         &mut self,
         alloc: Global,
@@ -53,8 +52,8 @@ impl<J: Names> World<J> {
         }
     }
 
-    // Rounds, each a Take and a Send of each executor in turn, up to the first in which nothing can happen,
-    // or the last that there may be.
+    // Plays rounds until one in which nothing can happen, or `MOST_ROUNDS` of them. A round is a Take and a Send of each
+    // executor in turn.
     fn run_rounds(&mut self, alloc: Global, outputs: &mut Vec<Output>) -> Result<(), NoMemory>
         ensures follows { OnOk result ((more : List Output) × ((steps : List Step)
             × ((outputs.new.items ≡ outputs.old.items ++ more) × (Follows self.old.placements.executors Rounds more steps × ComeAbout steps self.old self.new)))) }
@@ -74,7 +73,7 @@ impl<J: Names> World<J> {
         Ok(())
     }
 
-    // A round: whether nothing could happen in it. There is room for what is printed.
+    // Plays one round. Returns whether nothing could happen in it. There must be room for its outputs.
     fn run_round(&mut self, alloc: Global, outputs: &mut Vec<Output>) -> bool
         requires room { length outputs.old.items + 2 * self.old.placements.executors ≤ vec_capacity outputs.old }
         ensures round { (r : Round) × (IsRoundOf self.old.placements.executors r
@@ -95,7 +94,7 @@ impl<J: Names> World<J> {
     }
 }
 
-// Whether nothing could happen so far, and in this turn.
+// Whether nothing could happen so far, nor in this turn.
 fn stays_idle(is_idle: bool, took: &EventAnswer, sent: &EventAnswer) -> bool
     ensures { IsTrue result ↔ (IsTrue is_idle × ((took.now ≡ EventAnswer.Nothing) × (sent.now ≡ EventAnswer.Nothing))) }
 {
@@ -112,7 +111,7 @@ fn is_nothing(answer: &EventAnswer) -> bool
     }
 }
 
-// Adds what is printed of an event in a round.
+// Appends what is printed for an event of a round.
 fn add_output(outputs: &mut Vec<Output>, answer: EventAnswer)
     requires room { length outputs.old.items < vec_capacity outputs.old }
     ensures added { outputs.new.items ≡ outputs.old.items ++ outputs_in_round answer }

@@ -1,4 +1,4 @@
-//! A queue that takes memory only when it is opened.
+//! A bounded queue. It allocates only when it is opened.
 ghost use Rattle.std.specs.Prelude.{◌≡◌, ◌<◌, [], ◌∷◌, ◌++◌, length, IfOk, IfSome, IfNone};
 
 use schema::NoMemory;
@@ -6,7 +6,7 @@ use std::alloc::Global;
 use std::collections::VecDeque;
 use std::marker::Model;
 
-/// A queue with room for N, first in, first out. Only its opening takes memory.
+/// A first-in, first-out queue with room for N items. Only `open` allocates.
 #[derive(Drop)]
 pub struct Queue<T: Drop, const N: usize> {
     items: VecDeque<T>,
@@ -32,14 +32,14 @@ impl<T: Drop, const N: usize> Queue<T, N> {
         Ok(Queue { items })
     }
 
-    /// How many it has.
+    /// The number of items.
     pub fn len(&self) -> usize
         ensures { result ≡ length self.now }
     {
         self.items.len()
     }
 
-    /// Puts one at the end.
+    /// Appends an item.
     pub fn put(&mut self, item: T)
         requires { length self.old < N }
         ensures { self.new ≡ self.old ++ item ∷ [] }
@@ -47,7 +47,7 @@ impl<T: Drop, const N: usize> Queue<T, N> {
         self.items.push_back_reserved(item);
     }
 
-    /// Takes the first.
+    /// Takes the first item, or returns `None` if the queue is empty.
     pub fn take(&mut self) -> Option<T>
         ensures first { IfSome result (λ item. self.old ≡ item ∷ self.new) }
         ensures none { IfNone result ((self.old ≡ []) × (self.new ≡ [])) }

@@ -7,9 +7,9 @@ use schema::NoMemory;
 use std::alloc::Global;
 use std::marker::Model;
 
-/// A queue for each executor, with room for N.
+/// A queue for each executor, each with room for N items.
 ///
-/// Contracts see what each has, by the executors' numbers.
+/// Contracts see the items of each queue, by executor number.
 #[derive(Drop)]
 pub struct Queues<T: Drop, const N: usize> {
     queues: Vec<Queue<T, N>>,
@@ -24,7 +24,7 @@ impl<T: Drop, const N: usize> Model for Queues<T, N> {
 }
 
 impl<T: Drop, const N: usize> Queues<T, N> {
-    /// An empty queue for each of so many executors.
+    /// An empty queue for each of `executors` executors.
     pub fn open(alloc: Global, executors: usize) -> Result<Queues<T, N>, NoMemory>
         ensures { IfOk result (λ queues. queues ≡ replicate executors []) }
     {
@@ -35,7 +35,7 @@ impl<T: Drop, const N: usize> Queues<T, N> {
         Ok(Queues { queues })
     }
 
-    /// How many wait in the queue of an executor: none where there is no such executor.
+    /// The number of items in an executor's queue; 0 if there is no such executor.
     pub fn waiting(&self, executor: usize) -> usize
         ensures { result ≡ length (slice_index_or self.now executor []) }
     {
@@ -45,7 +45,7 @@ impl<T: Drop, const N: usize> Queues<T, N> {
         }
     }
 
-    /// Puts one at the end of the queue of an executor.
+    /// Appends an item to an executor's queue.
     pub fn put(&mut self, executor: usize, item: T)
         requires there { executor < length self.old }
         requires room { length (slice_index_or self.old executor []) < N }
@@ -54,7 +54,7 @@ impl<T: Drop, const N: usize> Queues<T, N> {
         self.queues[executor].put(item);
     }
 
-    /// Takes the first from the queue of an executor: `None` where there is none, or no such executor.
+    /// Takes the first item of an executor's queue. Returns `None` if the queue is empty or there is no such executor.
     pub fn take(&mut self, executor: usize) -> Option<T>
         ensures first { IfSome result (λ item. TakesFrom executor item self.old self.new) }
         ensures none { IfNone result ((slice_index_or self.old executor [] ≡ []) × (self.new ≡ self.old)) }
@@ -62,7 +62,7 @@ impl<T: Drop, const N: usize> Queues<T, N> {
         self.queues.get_mut(executor)?.take()
     }
 
-    /// Whether nothing waits anywhere.
+    /// Whether all queues are empty.
     pub fn are_empty(&self) -> bool
         ensures { IsTrue result ↔ (all_of self.now ≡ []) }
     {

@@ -1,4 +1,4 @@
-//! What becomes of an item of the outbox.
+//! What sending an item does.
 ghost use Rattle.std.specs.Prelude.{◌≡◌, ◌≤◌, ◌<◌, ◌+◌, length};
 ghost use Rattle.world.specs.Events.{CanSend, Reports, SendsItem};
 ghost use Rattle.world.specs.Following as spec;
@@ -15,8 +15,8 @@ use requests::Refusal;
 use std::alloc::Global;
 use transactions::{HeldClaims, MOST_ACTIONS};
 
-/// A transaction that is over: its answer, which is the place of its entry in the log or why it was refused, and what its
-/// actions hold.
+/// A transaction that is over: its answer, which is the place of its entry in the log or why it was refused, and the claims of
+/// its actions.
 #[derive(Drop)]
 pub struct Release<J: Names> {
     pub age: u64,
@@ -29,7 +29,7 @@ pub struct Release<J: Names> {
 }
 
 impl<J: Names> Release<J> {
-    // A transaction that is refused.
+    // A refused transaction.
     pub(crate) fn refused(transaction: Transaction<J>, why: Refusal) -> Release<J>
         ensures { result ≡ spec.refused transaction why }
     {
@@ -53,7 +53,7 @@ impl<J: Names> Release<J> {
 }
 
 impl<J: Names> Parts<J> {
-    // Sends an item that is no push.
+    // Sends an item other than a push.
     pub(crate) fn send_item(&mut self, alloc: Global, item: Item<J>) -> EventAnswer
         requires room { length self.old.outbox + (MOST_ACTIONS + 1) ≤ 4096 }
         requires no_push { IsNoPush item }
@@ -75,7 +75,7 @@ impl<J: Names> Parts<J> {
         }
     }
 
-    // A report comes to where its phase meets.
+    // Brings a report to the rendezvous of its phase.
     fn meet(&mut self, alloc: Global, report: Report<J>)
         requires room { length self.old.outbox + (MOST_ACTIONS + 1) ≤ 4096 }
         requires awaited { CanSend J.opening (Item.Report report) self.old }
@@ -96,7 +96,7 @@ impl<J: Names> Parts<J> {
         }
     }
 
-    // A transaction is over: it is answered, and what its actions hold is settled or taken back.
+    // Ends a transaction: puts its answer, and for each action that holds claims a message that settles or undoes them.
     pub(crate) fn release(&mut self, over: Release<J>, settle: bool)
         requires room { length self.old.outbox + (length over.held + 1) ≤ 4096 }
         requires slot { over.slot < 64 }
@@ -128,7 +128,7 @@ impl<J: Names> Parts<J> {
         }
     }
 
-    // The session is answered, and has its pass again.
+    // Answers the session and returns its pass to the desk.
     fn reply(&mut self, recorded: SessionAnswer<J>) -> EventAnswer
         requires { CanSend J.opening (Item.Reply recorded) self.old }
         ensures { SendsItem (Item.Reply recorded) self.old result self.new }
@@ -161,7 +161,7 @@ impl<J: Names> Parts<J> {
     }
 }
 
-// While so many actions have yet to give their claims back. With none, the transaction isn't active any more.
+// The state of a transaction whose last `left` actions have yet to give their claims back. With none left it is not active.
 fn ending<J: Names>(left: usize) -> Option<Active<J>>
     ensures { result ≡ spec.ending left }
 {
@@ -172,7 +172,7 @@ fn ending<J: Names>(left: usize) -> Option<Active<J>>
     }
 }
 
-// The place of the first action of the phase that is in flight, and where they meet.
+// The place of the first action of the phase in flight, and the rendezvous of the phase.
 fn meeting_of<J: Names>(active: Active<J>) -> (usize, Meeting<Report<J>>)
     requires { spec.IsActing active }
     ensures { active ≡ Active.Acting result.0 result.1 }

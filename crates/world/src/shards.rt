@@ -1,4 +1,4 @@
-//! The shards of all warehouses: their slices come in, and go out again.
+//! The shards of all warehouses: built from slices, and taken apart into slices again.
 ghost use Rattle.std.specs.Prelude.{◌≡◌, [], All, IfOk, map};
 ghost use Rattle.slices.specs.SliceView.{AreSlicesOf, joined};
 ghost use Rattle.world.specs.Shards.{IsShardOf, NobodyWaitsIn, slice_of, shard_of};
@@ -11,7 +11,7 @@ use slices::Slice;
 use std::alloc::Global;
 use transactions::Shard;
 
-// The shards of these slices, for which nobody waits.
+// The shards of these slices, in which no action waits.
 pub(crate) fn open_shards<J: Names>(
     alloc: Global,
     slices: Vec<Slice<J>>,
@@ -29,7 +29,7 @@ pub(crate) fn open_shards<J: Names>(
     Ok(shards)
 }
 
-// The slices of these shards. Rows are moved, and none is copied.
+// The slices of these shards. Rows are moved, not copied.
 pub(crate) fn into_slices<J: Names>(
     shards: Vec<Shard<J, Carried<J>>>,
 ) -> Result<Vec<Slice<J>>, NoMemory>
@@ -42,7 +42,7 @@ pub(crate) fn into_slices<J: Names>(
     Ok(slices)
 }
 
-// Tables equal to those that the slices make. The shards stay, and nothing more is left after an error.
+// Tables equal to those that the slices make together. The shards are unchanged. After an error nothing new is left.
 pub(crate) fn copy_whole<J: Names>(
     alloc: Global,
     catalog: &Catalog,

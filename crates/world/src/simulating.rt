@@ -1,4 +1,4 @@
-//! Schedules are simulated, event by event.
+//! Simulation of a schedule, event by event.
 ghost use Rattle.std.specs.Prelude.{◌≡◌, ◌≢◌, ◌↔◌, ℕ, [], IfOk, IfErr, IsErrAnd};
 ghost use Rattle.schema.specs.Database.{Database};
 ghost use Rattle.history.specs.Schedules.{EndsQuiet};
@@ -16,24 +16,25 @@ use schema::{NoMemory, Tables};
 use std::alloc::Global;
 use std::marker::Brand;
 
-/// What came of a schedule.
+/// The result of a simulation.
 #[derive(Drop)]
 pub struct Simulation {
-    /// What is printed of each item, in order.
+    /// What is printed for each item of the schedule, in order.
     pub outputs: Vec<Output>,
     pub log: Vec<Entry>,
-    /// The tables as the transactions of the log left them; `NotIdle` where a transaction was active at the
-    /// end, or a move outstanding.
+    /// The tables as the transactions of the log left them. `NotIdle` if a transaction was active or a move outstanding at the
+    /// end.
     pub tables: Result<Tables, GatherFault>,
 }
 
-/// Plays a schedule from these tables, event by event, in a world of so many executors, 1 to 16.
+/// Plays a schedule from these tables, event by event, in a world with 1 to 16 executors.
 ///
-/// However its events follow one another, the replies of the log and the tables at the end are those of a
-/// machine that carries out the log's requests one at a time, in log order. Each event is answered as
-/// `World::step` tells, from a new world on; where the last output is that rounds ended quiet, the
-/// tables are given, unless there is no memory for them. An error says that nothing was played, or that
-/// there was no memory for what is printed.
+/// However the events are interleaved, the replies of the log and the tables at the end are those of a machine that carries out
+/// the log's requests one at a time, in log order. Each event is answered as `World::step` specifies, starting from a new
+/// world. If the last output is `Quiet`, the tables are returned unless there is no memory for them.
+///
+/// Returns BadExecutors exactly if `executors` is not 1 to 16, NotConsistent with the least condition that the tables break,
+/// and NoMemory if there is no memory to check the tables, to open the world or for the outputs.
 pub fn simulate(
     alloc: Global,
     tables: Tables,
@@ -52,7 +53,7 @@ pub fn simulate(
     simulate_from::<Brand>(alloc, tables, executors, opening, schedule)
 }
 
-// Plays a schedule in a world whose agreements have the name `J`.
+// Plays a schedule in a world whose agreements have the names `J`.
 fn simulate_from<J: Names>(
     alloc: Global,
     tables: Tables,
@@ -71,7 +72,7 @@ fn simulate_from<J: Names>(
     Ok(simulation)
 }
 
-// Plays a schedule in a world in which nothing has happened.
+// Plays a schedule in a new world.
 fn simulate_in<J: Names>(
     alloc: Global,
     mut world: World<J>,

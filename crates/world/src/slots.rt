@@ -7,12 +7,12 @@ use schema::NoMemory;
 use std::alloc::Global;
 use std::marker::Model;
 
-/// How many transactions can be active at a time.
+/// The greatest number of transactions that can be active at a time.
 pub const MOST_ACTIVE: usize = 64;
 
-/// What each slot has, 0 to 63. Only its opening takes memory.
+/// 64 slots, 0 to 63. Only `open` allocates.
 ///
-/// Contracts see a list of 64: what is in each slot, and `None` where it is free.
+/// Contracts see a list of 64: the content of each slot, `None` if it is free.
 #[derive(Drop)]
 pub struct Slots<T: Drop> {
     slots: Vec<Option<T>>,
@@ -29,7 +29,7 @@ impl<T: Drop> Model for Slots<T> {
 }
 
 impl<T: Drop> Slots<T> {
-    /// All slots free.
+    /// 64 free slots.
     pub fn open(alloc: Global) -> Result<Slots<T>, NoMemory>
         ensures { IfOk result (λ slots. slots ≡ replicate 64 None) }
     {
@@ -40,7 +40,7 @@ impl<T: Drop> Slots<T> {
         Ok(Slots { slots })
     }
 
-    /// The first slot that is free: none exactly where all 64 are taken.
+    /// The first free slot. Returns `None` exactly if all 64 are taken.
     pub fn first_free(&self) -> Option<usize>
         ensures first { result ≡ spec.first_free self.now }
         ensures free { IfSome result (λ slot. slice_get self.now slot ≡ Some None) }
@@ -50,14 +50,14 @@ impl<T: Drop> Slots<T> {
         first_free_of(&self.slots)
     }
 
-    /// How many slots are taken.
+    /// The number of taken slots.
     pub fn count(&self) -> usize
         ensures { result ≡ count_active self.now }
     {
         self.slots.iter().filter(|slot| slot.is_some()).count()
     }
 
-    /// Takes what is in a slot, which is free then.
+    /// Takes the content of a slot and frees the slot.
     pub fn take(&mut self, slot: usize) -> Option<T>
         requires { slot < 64 }
         ensures out { slice_get self.old slot ≡ Some result }
@@ -66,7 +66,7 @@ impl<T: Drop> Slots<T> {
         self.slots[slot].take()
     }
 
-    /// Puts something into a slot, or nothing, in place of what was there.
+    /// Replaces the content of a slot; `None` frees it.
     pub fn put(&mut self, slot: usize, now: Option<T>)
         requires { slot < 64 }
         ensures { self.new ≡ slice_set self.old slot now }

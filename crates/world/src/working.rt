@@ -1,4 +1,4 @@
-//! A message of the inbox is worked on.
+//! Processing a message.
 ghost use Rattle.std.specs.Prelude.{◌≡◌, ◌≤◌, ◌<◌, ◌+◌, ◌++◌, [], ◌∷◌, All, length};
 ghost use Rattle.slices.specs.SliceView.{AreSlicesOf};
 ghost use Rattle.transactions.specs.Works.{CanDo};
@@ -13,7 +13,8 @@ use transactions::{Acted, MOST_ACTIONS, Ran, Turned};
 use wait_die::Holder;
 
 impl<J: Names> Parts<J> {
-    // Works on a message, at the shard of its warehouse. Then those who wait there have their turns.
+    // Processes a message at the shard of its warehouse. Then the actions that wait there and need not any more have their
+    // turns.
     pub(crate) fn work(&mut self, alloc: Global, message: Message<J>)
         requires warehouses { J.warehouses ≡ self.old.catalog.scale.warehouses }
         requires slices { AreSlicesOf self.old.catalog (slices_in self.old) }
@@ -47,7 +48,7 @@ impl<J: Names> Parts<J> {
         }
     }
 
-    // An action asks for what its work needs, at the shard of its warehouse. It reports, unless it waits there.
+    // Asks for the locks of an action at the shard of its warehouse. The action reports, unless it waits there.
     fn ask(&mut self, alloc: Global, act: Act<J>)
         requires warehouses { J.warehouses ≡ self.old.catalog.scale.warehouses }
         requires slices { AreSlicesOf self.old.catalog (slices_in self.old) }
@@ -75,7 +76,7 @@ impl<J: Names> Parts<J> {
         }
     }
 
-    // Those who wait at a warehouse and need not any more have their turns, one after another: each reports.
+    // Gives turns to the actions at a warehouse that need not wait any more, one after another. Each of them reports.
     fn take_turns(&mut self, alloc: Global, home: usize)
         requires home { 1 ≤ home }
         requires warehouses { home ≤ self.old.catalog.scale.warehouses }

@@ -24,42 +24,41 @@ use std::alloc::Global;
 use std::marker::Model;
 use transactions::{Shard, claims_are_of_the_footprint};
 
-/// How many messages an inbox takes.
+/// The number of messages an inbox has room for.
 pub const INBOX: usize = 1024;
 
-/// What an event works with.
+/// The state that an event works on.
 #[derive(Drop)]
 pub struct Parts<J: Names> {
-    /// What the slices share.
+    /// What all slices share.
     pub catalog: Catalog,
-    /// One for each warehouse, in order: its slice, and the actions that wait there.
+    /// One for each warehouse, in order: its slice and the actions that wait there.
     pub shards: Vec<Shard<J, Carried<J>>>,
-    /// What a submission puts, until it is handed out; else it has nothing.
+    /// The message that a submission puts, until it is handed out. Empty between events.
     pub inbox: Queue<Message<J>, 1024>,
-    /// What an event puts, until it is posted; else it has nothing.
+    /// The items that an event puts, until they are moved to an outbox. Empty between events.
     pub outbox: Queue<Item<J>, 4096>,
     pub desk: Desk<J>,
     pub log: Log<J>,
 }
 
-/// What a world consists of.
+/// The whole state of a world.
 #[derive(Drop)]
 pub struct Core<J: Names> {
     pub parts: Parts<J>,
-    /// Which executor has the slice of which warehouse, or gets it.
+    /// For each warehouse, which executor has its slice or is to get it.
     pub placements: Placements,
-    /// Messages that wait for a slice that is on its way: at the executor to which it comes, in the order in which they came there.
+    /// Messages parked for a slice that is on its way, at the executor that gets the slice, in the order of parking.
     pub parked: Queue<Message<J>, 4096>,
-    /// The inbox of each executor, by its number.
+    /// The inbox of each executor, by executor number.
     pub inboxes: Queues<Envelope<J>, 1024>,
-    /// The outbox of each executor, by its number.
+    /// The outbox of each executor, by executor number.
     pub outboxes: Queues<Outgoing<J>, 4096>,
 }
 
 /// An engine of one to sixteen executors, in which one event happens at a time.
 ///
-/// Contracts see what it consists of. A world is always sound: whoever has one has nothing to show for a
-/// call.
+/// Contracts see its whole state, `Core`. The invariant makes every world sound, so the methods require nothing of it.
 #[derive(Drop)]
 pub struct World<J: Names> {
     pub(crate) core: Core<J>,
@@ -103,7 +102,7 @@ impl<J: Names> Parts<J> {
 }
 
 impl<J: Names> Core<J> {
-    // Whether no transaction is active, and no move outstanding.
+    // Whether no transaction is active and no move is outstanding.
     fn is_idle(&self) -> bool
         ensures { IsTrue result ↔ (count_busy self.now ≡ 0) }
     {
@@ -114,30 +113,35 @@ impl<J: Names> Core<J> {
 /// Why no tables can be gathered.
 #[derive(Clone, Copy, Debug, PartialEq, Eq)]
 pub enum GatherFault {
-    /// A transaction is active, or a move outstanding.
+    /// A transaction is active, or a move is outstanding.
     NotIdle,
-    /// There was no memory for them.
+    /// An allocation failed.
     NoMemory,
 }
 
 impl<J: Names> World<J> {
-    /// One event happens. It has no error: lack of memory is an answer.
+    /// One event happens. There is no error: lack of memory is an answer.
     ///
-    /// A history that fitted before fits with the event and its answer at its end: the log's replies are
-    /// those of a machine that carries out its requests one at a time, in log order, and the tables that
-    /// it leaves are the committed ones; each transaction is whole, and stands behind those that were
-    /// answered before it was submitted. What the event changes is told exactly, and what can't happen
-    /// is answered `Nothing` and changes nothing. An event changes no other executor's queues than by an envelope that it puts into an
-    /// inbox; only a Take changes a slice, and of one warehouse alone, that its executor has; and only a commit that is sent changes the
-    /// log, by its own entry at the end. An executor works on messages for a slice where it has the slice: that is
-    /// at one executor, or in one parcel on its way.
-    /// Whoever is answered had asked: a submission is refused at once by its own number, or else a session is told of its transaction that
-    /// has no answer, by that one's number, and with the place of its entry or, where it has none, why it is refused.
-    /// Up to 64 transactions are active at a time: `Busy` exactly where they are. Who is in another's way is waited for where it is
-    /// younger, and else the other dies: so nobody waits in a circle, and while anything is active something can be taken or sent.
-    /// While a transaction is the only one that is active, no action of it dies. Who dies, dies of somebody older, who is active then and
-    /// has a claim on the group that is named; both have the group in their footprints. A session that is told of a death is told
-    /// a group of its own request's, and the age of an older transaction.
+    /// Serial order: if a history fits before, it fits with this event and its answer appended. So the log's replies are those
+    /// of a machine that carries out its requests one at a time, in log order, and the tables that this machine leaves are the
+    /// committed ones. Transactions are atomic. Each is logged after those that were answered before it was submitted.
+    ///
+    /// Effects: the answer and the changes are specified exactly. An event that can't happen is answered `Nothing` and changes
+    /// nothing. An event changes another executor's queues only by putting an envelope into an inbox. Only a Take changes a
+    /// slice, that of one warehouse, which its executor has. Only sending a commit changes the log: it appends its own entry.
+    /// An executor processes a message for a slice only while it has the slice. A slice is at one executor or in one parcel.
+    ///
+    /// Answers: only what was asked is answered. A submission may be refused at once, by its own number. Any other answer goes
+    /// to a session whose transaction has no answer yet, with that transaction's number and the place of its entry in the log
+    /// or the reason of its refusal.
+    ///
+    /// Limits: up to 64 transactions are active at a time. A submission is refused as `Busy` exactly if 64 are active and no
+    /// earlier refusal applies.
+    ///
+    /// Waiting: an action in conflict waits if every conflicting holder is younger; otherwise it dies. So there is no deadlock:
+    /// while a transaction is active, something can be taken or sent. If only one transaction is active, none of its actions
+    /// dies. An action dies of an older active transaction that has a claim on the group named; the group is in both
+    /// footprints. A session whose request died gets a group of that request's footprint and the age of an older transaction.
     pub fn step(&mut self, alloc: Global, event: &Event) -> EventAnswer
         ensures advances { Advances (together self.old) (one_step event.now result ∷ []) (together self.new) }
         ensures happens { Happens event.now self.old result self.new }
@@ -157,7 +161,8 @@ impl<J: Names> World<J> {
         self.core.happen(alloc, event)
     }
 
-    /// Events happen in order. The room for their answers is made first: an error changes nothing.
+    /// Plays events in order and returns their answers. The room for the answers is allocated first: after NoMemory nothing has
+    /// happened.
     pub fn run(&mut self, alloc: Global, events: &[Event]) -> Result<Vec<EventAnswer>, NoMemory>
         ensures advances { IfOk result (λ answers. Advances (together self.old) (steps_of events.now answers.items) (together self.new)) }
         ensures happen { IfOk result (λ answers. HappenInTurn (steps_of events.now answers.items) self.old self.new) }
@@ -170,13 +175,14 @@ impl<J: Names> World<J> {
             let answer = self.step(alloc, event);
             answers.push_reserved(answer);
         }
-        // It is never stuck, whatever has happened: that is so of every world, and looking at one tells it.
+        // Brings `IsNeverStuck` of the last world into the proof: it holds of every world.
         let _ = self.is_quiet();
         Ok(answers)
     }
 
-    /// The tables as the transactions of the log left them. They can be gathered exactly while no transaction is active and no move
-    /// outstanding, unless there is no memory; where no message can be taken and no item be sent, none is.
+    /// Copies the tables as the transactions of the log left them. Returns NotIdle exactly if a transaction is active or a move
+    /// is outstanding, which can't be if no message can be taken and no item can be sent. Returns NoMemory if an allocation
+    /// fails.
     pub fn gather(&self, alloc: Global) -> Result<Tables, GatherFault>
         ensures tables { IfOk result (λ tables. (opening : Database) (history : List Step) → Fits opening history (together self.now) → tables ≡ tables_now opening self.now.parts.log) }
         ensures idle { IsErrAnd result (λ fault. fault ≡ GatherFault.NotIdle) ↔ (1 ≤ count_busy self.now) }
@@ -192,9 +198,9 @@ impl<J: Names> World<J> {
         }
     }
 
-    /// Ends the world, and gives its log, and the tables as the transactions of the log left them: `NotIdle`
-    /// exactly where a transaction is active or a move outstanding. Entries and rows are moved, and none is copied; where there is
-    /// no memory for the tables, the log is given all the same.
+    /// Ends the world. Returns its log, and the tables as the transactions of the log left them. Entries and rows are moved,
+    /// not copied. Instead of the tables it returns NotIdle exactly if a transaction is active or a move is outstanding, and
+    /// NoMemory if an allocation fails. The log is returned in each case.
     pub fn close(self) -> (Vec<Entry>, Result<Tables, GatherFault>)
         ensures log { result.0.items ≡ self.parts.log }
         ensures tables { (opening : Database) (history : List Step) → Fits opening history (together self) → IsGathered (count_busy self) (tables_now opening self.parts.log) result.1 }
@@ -218,8 +224,8 @@ impl<J: Names> World<J> {
         }
     }
 
-    /// Whether no message can be taken and no item be sent. Then no transaction is active, no claim is out, nobody waits, no move is
-    /// outstanding, and nothing is parked.
+    /// Whether no message can be taken and no item can be sent. If so, no transaction is active, no claim is held, no action
+    /// waits, no move is outstanding, and nothing is parked.
     pub fn is_quiet(&self) -> bool
         ensures quiet { IsTrue result ↔ IsAtRest self.now }
         ensures never_stuck { IsNeverStuck self.now }

@@ -149,7 +149,7 @@ returns-in_err-draw_all-2-clause-begun g c =
     (legend_text (bottom + 24))
     c.in_ok-draw.ensures.written (subst Plain c.ground.ensures c.in_ok-draw-2.ensures.written) (subst Striped c.ground-2.ensures c.in_ok-draw-3.ensures.written) (c.in_ok-draw_all.ensures.written aside_text (λ one. refl)) (c.in_err-draw_all-2.ensures.begun mark_text (λ one. refl)))
 
--- it comes to the legend
+-- it reaches the legend
 pub returns-clause-written : goal.returns-clause-written
 returns-clause-written g c =
     let s0 = g.W.Write.contents c.args.sink.now in

@@ -13,7 +13,7 @@ use Rattle.terminals.specs.Outputs.{IsOutput, AreOutputs}
 use Rattle.terminals.proofs.Listings.{listed-more}
 use Rattle.terminals.proofs.outputs.write_outputs.Goals as goal
 
--- what the code reads where nothing is told
+-- what the code reads if there is no output
 abbrev none_reported : Output
 none_reported = Event (Accepted 0)
 

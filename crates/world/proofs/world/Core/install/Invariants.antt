@@ -3,7 +3,7 @@ use Rattle.world.specs.Queues.{queue_of}
 use Rattle.world.proofs.Rounds.{Round}
 use Rattle.world.proofs.world.Core.install.Given as goal
 
--- Some have been looked at, and the others stand in front of those of them that stay; there is room for all.
+-- Some messages have been looked at. The others come before those of them that stay. There is room for all.
 abbrev pub invariant-loop : goal.invariant-loop
 invariant-loop g l = record {
   there : l.executor < length l.self.outboxes;
