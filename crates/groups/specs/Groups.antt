@@ -69,7 +69,7 @@ number_of (Orders w_id d_id) = d_id
 number_of (History w_id d_id) = d_id
 number_of (Stock w_id residue) = residue
 
--- by kind, then by warehouse, and then by number
+-- groups are compared by kind, then by warehouse, and then by number
 abbrev pub group_cmp : Group → Group → Ordering
 group_cmp a b =
     ordering_then (nat_cmp (kind_of a) (kind_of b))

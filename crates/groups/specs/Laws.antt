@@ -93,7 +93,7 @@ pub record RowsStandInOneGroup (t : Database) : Type 0 where
   pub histories : StandInOne t t.histories group_of_history history_in
   pub stocks : StandInOne t t.stocks group_of_stock stock_in
 
--- the same for all tables
+-- in all tables, each row is in its own group, and no other group has a row at its key
 abbrev pub EachRowStandsInOneGroup : Type 0
 EachRowStandsInOneGroup = (t : Database) → RowsStandInOneGroup t
 
@@ -182,6 +182,6 @@ pub record PutsChangeOneGroup (t : Database) : Type 0 where
   pub stocks : (key : StockKey) (row : Stock)
       → ChangesOneGroup (group_of_stock key) (with_stock key row) t (record t { stocks = map.insert t.stocks key row })
 
--- the same for all tables
+-- in all tables, inserting a row or deleting one of NEW-ORDER changes the content of its own group only
 abbrev pub EachPutChangesOneGroup : Type 0
 EachPutChangesOneGroup = (t : Database) → PutsChangeOneGroup t

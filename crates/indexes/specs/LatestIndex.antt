@@ -12,7 +12,7 @@ use Rattle.indexes.specs.LatestOrder.{order_numbers}
 abbrev pub FitsLatestBy : Slots → List ℕ → Database → Type 0
 FitsLatestBy slot index t = (customer : CustomerKey) (place : ℕ) → customer_slot_by slot t.scale.customers customer ≡ Some place → slice_get index place ≡ Some (greatest (order_numbers t.orders customer))
 
--- the same for each customer of the scale
+-- the place of each customer of the scale contains the number of the customer's latest order, or 0 if there is none
 abbrev pub FitsLatest : List ℕ → Database → Type 0
 FitsLatest index t = FitsLatestBy (district_slot t.scale) index t
 

@@ -66,6 +66,6 @@ numbered home first (row ∷ rows) = (customer_key home first, row) ∷ numbered
 abbrev pub namesakes_among : List Customer → DistrictKey → List ℕ → List Keyed
 namesakes_among rows home last = filter (is_namesake home last) (numbered home 1 rows)
 
--- the number of the middle one of these
+-- the number of the middle one of the rows with that C_LAST
 abbrev pub IsMiddleAmong : List Customer → DistrictKey → List ℕ → ℕ → Type 0
 IsMiddleAmong rows home last number = (row : Customer) × IsMiddle (namesakes_among rows home last) (customer_key home number, row)

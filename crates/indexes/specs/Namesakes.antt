@@ -39,7 +39,7 @@ Customers = map.FinMap customer_cmp Customer
 abbrev pub namesakes : Customers → DistrictKey → List ℕ → List Keyed
 namesakes customers home last = filter (is_namesake home last) (map.entries customers)
 
--- by C_FIRST, and by C_ID if that is equal
+-- customers are compared by C_FIRST, and by C_ID if that is equal
 abbrev pub first_cmp : Keyed → Keyed → Ordering
 first_cmp a b = ordering_then (text_cmp a.1.first b.1.first) (nat_cmp a.0.c_id b.0.c_id)
 

@@ -17,7 +17,7 @@ mark_view entries = record { is_log = false; reached = entries; noted = 0 }
 abbrev pub noting : View → View → View
 noting v w = record { is_log = v.is_log; reached = v.reached; noted = w.reached }
 
--- the rule for the view at a place: the log's own place is `log`, and `word` is the length
+-- the view's numbers are at most the length, `word`; if it is the view of the log's own place, it is at the place `log` and records the length
 pub record IsWithin (log word place : ℕ) (v : View) : Type 0 where
   pub log_knows : v.is_log ≡ true → (place ≡ log) × (v.reached ≡ word)
   pub reached : v.reached ≤ word

@@ -30,7 +30,7 @@ held_at by stands spot = holding (stand_at stands spot.number).group spot.mode b
 abbrev pub AreElsewhere : Spot → Spot → Type 0
 AreElsewhere a b = a.number ≢ b.number
 
--- it is not at this place
+-- the spot is not at this place
 abbrev pub IsNotAt : ℕ → Spot → Type 0
 IsNotAt number spot = spot.number ≢ number
 

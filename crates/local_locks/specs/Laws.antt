@@ -28,7 +28,7 @@ IsNotAlone group holding = holding.group ≡ group → holding.mode ≡ Shared
 abbrev pub IsUntouched : List HeldClaim → Stand → Type 0
 IsUntouched holdings stand = All (IsNotAlone stand.group) holdings → stand.back ≡ stand.left
 
--- the same for each group
+-- in no group without an exclusive claim out is anything left to undo
 abbrev pub AreUntouched : List HeldClaim → List Stand → Type 0
 AreUntouched holdings stands = All (IsUntouched holdings) stands
 

@@ -10,11 +10,11 @@ use Rattle.local_locks.specs.Locks.{LockView, WaiterView}
 use Rattle.local_locks.specs.Rulings.{IsRuling, spots_of}
 use Rattle.local_locks.specs.GroupWants.{IsWanted}
 
--- the groups that it waits for exist
+-- the groups for which the action waits exist
 abbrev pub IsParkedThere : ℕ → WaiterView → Type 0
 IsParkedThere warehouses p = All (IsWanted warehouses) p.wants
 
--- it still has to wait
+-- the ruling on the waiting action is that it still has to wait
 abbrev pub StaysParked : List LockView → WaiterView → Type 0
 StaysParked locks p = IsRuling p.by.age locks (flat_map spots_of p.wants) Waits
 
@@ -22,8 +22,8 @@ StaysParked locks p = IsRuling p.by.age locks (flat_map spots_of p.wants) Waits
 abbrev pub StaysIfBefore : List LockView → Holder → WaiterView → Type 0
 StaysIfBefore locks by p = IsBefore p.by by → StaysParked locks p
 
--- It is at this index among the waiting actions, the ruling on it is this one, which is not to wait, and all before
--- it have to wait.
+-- `next` is the waiting action at this index with the ruling on it, which is not to wait, and all actions before it
+-- have to wait.
 pub record IsNext (locks : List LockView) (waiters : List WaiterView) (next : Next) : Type 0 where
   pub inside : next.index < length waiters
   pub by : (d : WaiterView) → (slice_index_or waiters next.index d).by ≡ next.by

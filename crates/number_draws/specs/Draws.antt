@@ -12,8 +12,8 @@ abbrev pub nu_rand_of : ℕ → ℕ → ℕ → ℕ → Lcg → ℕ
 nu_rand_of bits constant low high generator =
     low + (bit_or (random_of 0 bits generator) (random_of low high (beyond 1 generator)) + constant) % (high - low + 1)
 
--- the items after, for each place from this one down to 1, the item there was exchanged with the one at an evenly
--- drawn place up to there
+-- the items after these exchanges: for each place from this one down to 1, the item there and the one at an evenly drawn
+-- place up to there
 unfoldable pub shuffled : {T : Type 0} → ℕ → List T → Lcg → List T
 shuffled zero items generator = items
 shuffled (suc place) items generator = shuffled place (swap items (suc place) (random_of 0 (suc place) generator)) (beyond 1 generator)

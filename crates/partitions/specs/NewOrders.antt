@@ -13,7 +13,7 @@ abbrev pub with_returned : Returned → table.FinMap order_cmp NewOrder → tabl
 with_returned Nothing rows = rows
 with_returned (Row' key p rest) rows = table.insert (with_returned rest rows) key (record {})
 
--- all of them with their keys, in order
+-- the rows of the map and the restored ones, with their keys, in order
 abbrev pub entries_with : Returned → BTreeMap OrderKey NewOrder → List (OrderKey × NewOrder)
 entries_with returned rows = table.entries (with_returned returned (table_of order_cmp rows))
 

@@ -25,8 +25,9 @@ customer_slot_by slot customers key =
 abbrev pub AreApart : Slots → Type 0
 AreApart slot = (one other : DistrictKey) (place : ℕ) → slot one ≡ Some place → slot other ≡ Some place → one ≡ other
 
--- Each place is below the number of districts, and no two districts share one. Each of the districts has all its
--- customers, each order's customer is here, and orders have order numbers.
+-- Each place is below the number of districts, and no two districts share one. The customers that are here are
+-- exactly those of the districts that have a place, each order's customer is one of them, and each order's number is
+-- one that orders can have.
 pub record AreRows (slot : Slots) (districts : ℕ) (t : Database) : Type 0 where
   pub few : districts ≤ 640
   pub within : (home : DistrictKey) (place : ℕ) → slot home ≡ Some place → place < districts

@@ -23,7 +23,7 @@ applies scale (OrderStatus o) refusal = order_status_applies scale o refusal
 applies scale (Delivery d) refusal = delivery_applies scale d refusal
 applies scale (StockLevel s) refusal = stock_level_applies scale s refusal
 
--- the refusal, if there is one
+-- `Err` of the refusal, `Ok` if there is none
 abbrev pub refused_by : Option Refusal → Result (Unit {0}) Refusal
 refused_by None = Ok tt
 refused_by (Some refusal) = Err refusal

@@ -1,7 +1,7 @@
 -- Last names by which customers can be selected.
 use Rattle.std.specs.Prelude.{ℕ, ◌==◌, Bool, false, List, [], ◌∷◌, Option, Some, None, if◌then◌else◌}
 
--- its first byte is `#`
+-- the first byte is `#`
 abbrev pub begins_with_hash : List ℕ → Bool
 begins_with_hash [] = false
 begins_with_hash (byte ∷ bytes) = byte == 35

@@ -43,7 +43,8 @@ settled c = record { by = c.by; group = c.group; mode = c.mode; recorded = commi
 abbrev pub leaving : ClaimView → Content → ClaimView
 leaving c content = record { by = c.by; group = c.group; mode = c.mode; recorded = c.recorded; left = content; back = c.back }
 
--- under a shared claim nothing is done: the work is the recorded content; an exclusive claim's work has that mode
+-- under a shared claim nothing is done, and the work is the recorded content; under an exclusive claim the work's
+-- mode is exclusive
 abbrev pub IsUntouched : Mode → Content → Work → Type 0
 IsUntouched Shared recorded work = work ≡ untouched Shared recorded
 IsUntouched Exclusive recorded work = work.mode ≡ Exclusive

@@ -9,7 +9,7 @@ use Rattle.tickets.specs.LogSeats.{CommittedGroup}
 abbrev pub IsBetween : ℕ → ℕ → ℕ → Type 0
 IsBetween low high number = (low ≤ number) × (number ≤ high)
 
--- The group is one of this number of warehouses. A warehouse has ten districts, and its stock has 64 parts.
+-- The group belongs to one of this number of warehouses. A warehouse has ten districts, and its stock has 64 parts.
 abbrev pub IsGroupOf : ℕ → Group → Type 0
 IsGroupOf warehouses (Warehouse w_id) = IsBetween 1 warehouses w_id
 IsGroupOf warehouses (District w_id d_id) = IsBetween 1 warehouses w_id × IsBetween 1 10 d_id
