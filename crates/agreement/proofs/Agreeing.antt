@@ -33,16 +33,16 @@ module _ {V : Type 0} where
   two_shares (x ∷ xs) (suc i) zero v u apart e d = let s = ap (λ (y : View V). y.share) (some-injective x u d) in let t = one_share xs i v e in omega arith
   two_shares (x ∷ xs) (suc i) (suc j) v u apart e d = let s = two_shares xs i j v u (λ h. apart (ap suc h)) e d in omega arith
 
-  -- all views with a share tell this value
+  -- all views with a share have this value
   abbrev AllRecord : ℕ → V → List (View V) → Type 0
   AllRecord count value vs = (place : ℕ) (v : View V) → get_elem? vs place ≡ some v → Records count value v
 
-  -- the others tell the value, and so does the view that is written
+  -- the others have the value, and so does the view that is written
   all_record_set : (count : ℕ) (value : V) (vs : List (View V)) (i : ℕ) (w : View V) → ((j : ℕ) (u : View V) → j ≢ i → get_elem? vs j ≡ some u → Records count value u) → Records count value w → AllRecord count value (set vs i w)
   all_record_set count value vs i w others mine j u e =
       ⊎_elim (λ (t : (j ≡ i) × (w ≡ u)). subst (Records count value) t.1 mine) (λ (t : (j ≢ i) × (get_elem? vs j ≡ some u)). others j u t.0 t.1) (at_set vs i j w u e)
 
-  -- the view that is added tells the value too
+  -- the view that is added has the value too
   all_record_snoc : (count : ℕ) (value : V) (vs : List (View V)) (w : View V) → AllRecord count value vs → Records count value w → AllRecord count value (vs ++ w ∷ [])
   all_record_snoc count value vs w all mine j u e = ⊎_elim (all j u) (λ (t : w ≡ u). subst (Records count value) t mine) (at_snoc vs w u j e)
 
@@ -74,7 +74,7 @@ module _ {V : Type 0} where
   other_was : (vs : List (View V)) (id other : ℕ) (x w : View V) → ¬ (other ≡ id) → get_elem? (set vs id x) other ≡ some w → get_elem? vs other ≡ some w
   other_was vs id other x w apart e = sym (set_else vs id other x apart) ∙ e
 
-  -- a view that tells the value, with the shares of another, keeps the rule once that other is spent
+  -- a view with the value and the shares of another keeps the rule after that other is spent
   joins : (count id : ℕ) (v : View V) (other : ℕ) (w both : View V) (none : V) → both.share ≡ v.share + w.share → ((value : V) → Records count value v → Records count value w → Records count value both) → Joins (IsAgreed count) id v other w both (spent none)
   joins count id v other w both none sum records s holds at apart there =
       let was = other_was s.views id other both w apart there in
@@ -94,7 +94,7 @@ module _ {V : Type 0} where
   pub takes_in : (count id : ℕ) (v : View V) (other : ℕ) (w : View V) (none : V) → 0 < v.share → 0 < w.share → Joins (IsAgreed count) id v other w (taking_in v w) (spent none)
   takes_in count id v other w none some_mine some_theirs = joins count id v other w (taking_in v w) none refl (λ value mine theirs _. ((mine some_mine).0, (theirs some_theirs).0, (mine some_mine).2))
 
-  -- any place may take in another with a share, and tell what that one told
+  -- any place may take in another with a share, and take over its value
   pub refills : (count id : ℕ) (v : View V) (other : ℕ) (w : View V) (none : V) → 0 < w.share → Joins (IsAgreed count) id v other w (refilled v w) (spent none)
   refills count id v other w none some_theirs = joins count id v other w (refilled v w) none refl (λ value mine theirs _. let recorded = theirs some_theirs in (recorded.0, recorded.0, recorded.2))
 

@@ -1,4 +1,4 @@
--- What a seat keeps of its place at the table.
+-- A seat's place at the table, and the view of the seat.
 use Rattle.std.specs.Prelude.{◌≡◌, ◌<◌, []}
 use Rattle.atomic_table.specs.Seated.{TableId}
 use Rattle.atomic_table.specs.declared.shared.Seat.{Seat}
@@ -13,7 +13,7 @@ module _ {V : Type 0} where
     pub no_slot : place.me.1 ≡ []
     pub some_share : 0 < place.me.0.count
 
-  -- what a seat tells that sits at this place
+  -- the view of a seat at this place
   abbrev pub recorded_at : Seat (Unit {0}) (View V) → SeatView V
   recorded_at place = record {
     agreement = record { table = place.table_id; count = place.me.0.count };

@@ -11,11 +11,12 @@ module _ {V : Type 0} where
   shares [] = 0
   shares (v ∷ vs) = v.share + shares vs
 
-  -- a view with a share tells this value and this number of shares, and what it took in last told the same value
+  -- a view with a share has this value and this number of shares of the agreement, and the value that it took in last
+  -- is the same
   abbrev pub Records : ℕ → V → View V → Type 0
   Records count value v = 0 < v.share → (v.value ≡ value) × (v.taken_value ≡ value) × (v.count ≡ count)
 
-  -- no share was lost or made, and there is one value that all views with a share tell
+  -- the shares of all views add up to this number, and all views with a share have one value
   pub record IsAgreed (count : ℕ) (s : State (Unit {0}) (View V)) : Type 0 where
     pub all_there : shares s.views ≡ count
     pub value : V
@@ -41,11 +42,11 @@ module _ {V : Type 0} where
   abbrev pub part : View V → ℕ → View V
   part v n = fresh v.value n v.count
 
-  -- the view after w was taken in: it tells what it told before
+  -- the view after w was taken in: it keeps its value
   abbrev pub taking_in : View V → View V → View V
   taking_in v w = record { value = v.value; share = v.share + w.share; count = v.count; taken_value = w.value; taken_share = w.share }
 
-  -- the view after w was taken in by a place that may have had no share: it tells what w told
+  -- the view after w was taken in by a place that may have had no share: it has the value of w
   abbrev pub refilled : View V → View V → View V
   refilled v w = record { value = w.value; share = v.share + w.share; count = w.count; taken_value = w.value; taken_share = w.share }
 
@@ -53,11 +54,11 @@ module _ {V : Type 0} where
   abbrev pub set_to : View V → V → View V
   set_to v value = record { value = value; share = v.share; count = v.count; taken_value = value; taken_share = v.taken_share }
 
-  -- nothing changes; what was taken in last told the same value, and the shares are at most all
+  -- nothing changes; the place taken in last had the same value, and the place has at most all shares
   abbrev pub LooksRound : Me (Unit {0}) (View V) → Me (Unit {0}) (View V) → Type 0
   LooksRound before after = (after ≡ before) × (before.0.taken_value ≡ before.0.value) × (before.0.share ≤ before.0.count)
 
-  -- the place tells this value now
+  -- the place has this value now
   abbrev pub IsSetTo : V → Me (Unit {0}) (View V) → Me (Unit {0}) (View V) → Type 0
   IsSetTo value before after = after ≡ (set_to before.0 value, before.1)
 

@@ -1,8 +1,8 @@
-//! An agreement: one value that several seats tell, in any hands. A seat holds shares, and only who
-//! holds all shares of the agreement can change its value. So what a seat with a share tells stays
-//! true while the seat is not used, whatever the others do.
+//! An agreement is one ghost value that several seats record, in any threads. A seat holds shares of the
+//! agreement, and the value changes only where all shares are together. So the value that a seat with a
+//! share records stays true while that seat is not used, whatever the other seats do.
 //!
-//! Nothing here waits, and only `Seat::open` takes memory.
+//! No function waits, and only `Seat::open` allocates.
 #![tactic(auto)]
 
 mod places;

@@ -17,7 +17,8 @@ pub type Board<V> = Arc<Table<(), View<V>, u64, OneValue, Global>, Global>;
 
 pub type Place<V> = Seat<(), View<V>>;
 
-/// The table of a new agreement with this many shares, and the place that has them all.
+/// Opens the table of a new agreement with `count` shares. Returns the table and its first place, which
+/// has all shares.
 pub fn open<V: Value>(alloc: Global, count: u64) -> Result<(Board<V>, Place<V>), AllocError>
     requires { 0 < count }
     ensures place { IfOk result (λ pair. IsPlaceAt (arc_value pair.0).shared.table_id pair.1) }
@@ -28,7 +29,7 @@ pub fn open<V: Value>(alloc: Global, count: u64) -> Result<(Board<V>, Place<V>),
     Ok((board, place))
 }
 
-/// A new place, to which N shares go.
+/// Splits off a new place with N of the shares.
 pub fn cut<V: Value, const N: u64>(board: &Board<V>, place: &mut Place<V>) -> Place<V>
     requires place { IsPlaceAt (arc_value board.now).shared.table_id place.old }
     requires enough { N ≤ place.old.me.0.share }
@@ -40,7 +41,7 @@ pub fn cut<V: Value, const N: u64>(board: &Board<V>, place: &mut Place<V>) -> Pl
     board.shared.split_seat::<Cut<N>>(place)
 }
 
-/// A new place, to which the shares go that were taken in last.
+/// Splits off a new place with as many shares as the place took in last.
 pub fn hand_back<V: Value>(board: &Board<V>, place: &mut Place<V>) -> Place<V>
     requires place { IsPlaceAt (arc_value board.now).shared.table_id place.old }
     requires enough { place.old.me.0.taken_share ≤ place.old.me.0.share }
@@ -52,7 +53,8 @@ pub fn hand_back<V: Value>(board: &Board<V>, place: &mut Place<V>) -> Place<V>
     board.shared.split_seat::<HandBack>(place)
 }
 
-/// The place takes in the shares of another, and notes what that one told.
+/// Moves all shares of `other` to the place. The place keeps its value, and records the value of `other`
+/// as the one taken in last.
 pub fn take_in<V: Value>(board: &Board<V>, place: &mut Place<V>, other: Place<V>)
     requires place { IsPlaceAt (arc_value board.now).shared.table_id place.old }
     requires beside { IsPlaceAt (arc_value board.now).shared.table_id other }
@@ -63,7 +65,8 @@ pub fn take_in<V: Value>(board: &Board<V>, place: &mut Place<V>, other: Place<V>
     board.shared.join_seat::<TakeIn>(place, other);
 }
 
-/// The place, perhaps without a share, takes in the shares of another and tells what that one told.
+/// Moves all shares of `other` to the place, which may have none. The place takes over the value of
+/// `other`.
 pub fn refill<V: Value>(board: &Board<V>, place: &mut Place<V>, other: Place<V>)
     requires place { IsPlaceAt (arc_value board.now).shared.table_id place.old }
     requires beside { IsPlaceAt (arc_value board.now).shared.table_id other }
@@ -74,7 +77,8 @@ pub fn refill<V: Value>(board: &Board<V>, place: &mut Place<V>, other: Place<V>)
     board.shared.join_seat::<Refill>(place, other);
 }
 
-/// The place learns that what it took in last told the same as it does, and that its shares are at most all.
+/// Shows that the place taken in last had the same value, and that the place has at most all shares.
+/// Changes nothing.
 pub fn look_round<V: Value>(board: &Board<V>, place: &mut Place<V>)
     requires place { IsPlaceAt (arc_value board.now).shared.table_id place.old }
     requires some { 0 < place.old.me.0.share }
@@ -86,7 +90,7 @@ pub fn look_round<V: Value>(board: &Board<V>, place: &mut Place<V>)
     board.shared.load::<Looks>(place, 0);
 }
 
-/// The place has all shares, and changes the value.
+/// Changes the value. Requires a place that has all shares.
 pub fn change<V: Value, C: Change<V>>(board: &Board<V>, place: &mut Place<V>, change: &C)
     requires place { IsPlaceAt (arc_value board.now).shared.table_id place.old }
     requires all { place.old.me.0.share ≡ place.old.me.0.count }
@@ -96,7 +100,8 @@ pub fn change<V: Value, C: Change<V>>(board: &Board<V>, place: &mut Place<V>, ch
     set::<V, C, Brand>(board, place, change);
 }
 
-// The value is the one of J, which the proof of the call picks from its arguments: the change is one for that alone.
+// The new value is the one in J's list. The proof of the call picks J from the call's arguments;
+// `_change` is a parameter only for that.
 fn set<V: Value, C, J: Chosen<V>>(board: &Board<V>, place: &mut Place<V>, _change: &C)
     requires place { IsPlaceAt (arc_value board.now).shared.table_id place.old }
     requires all { place.old.me.0.share ≡ place.old.me.0.count }
@@ -106,7 +111,7 @@ fn set<V: Value, C, J: Chosen<V>>(board: &Board<V>, place: &mut Place<V>, _chang
     board.shared.load::<Sets<J>>(place, 0);
 }
 
-/// Takes all shares of another place, which told the same and is left without one.
+/// Moves all shares of `other` to the place. Both had the same value. `other` has no share afterwards.
 pub fn gather<V: Value>(board: &Board<V>, place: &mut Place<V>, other: &mut Place<V>)
     requires place { IsPlaceAt (arc_value board.now).shared.table_id place.old }
     requires beside { IsPlaceAt (arc_value board.now).shared.table_id other.old }

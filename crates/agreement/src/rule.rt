@@ -3,19 +3,19 @@ use crate::Value;
 use atomic_table::{Join, Play, Split, TableRule};
 use std::marker::{Brand, PhantomData};
 
-/// What a place at the table knows. No value of it is made.
+/// The view of a place at the table. Ghost data: no value of this type is ever made.
 pub struct View<V> {
-    /// What it tells, where it has a share.
+    /// The agreement's value, if the place has a share.
     pub value: V,
     pub share: u64,
     /// The number of shares of the agreement.
     pub count: u64,
-    /// What the place that was taken in last told, and its share.
+    /// The value of the place that was taken in last, and its share.
     pub taken_value: V,
     pub taken_share: u64,
 }
 
-/// All views with a share tell one value, and the shares add up to their number at the opening.
+/// All views with a share have one value, and the shares add up to their number at the opening.
 pub struct OneValue;
 
 impl<V: Value> TableRule<(), View<V>, u64> for OneValue {
@@ -26,7 +26,7 @@ impl<V: Value> TableRule<(), View<V>, u64> for OneValue {
     ghost first = { first_view V.initial };
 }
 
-/// N shares go to a new place.
+/// Moves N shares to a new place.
 pub struct Cut<const N: u64>;
 
 impl<V, const N: u64> Split<View<V>> for Cut<N> {
@@ -37,7 +37,7 @@ impl<V, const N: u64> Split<View<V>> for Cut<N> {
     ghost right = { λ v. part v N };
 }
 
-/// The shares that were taken in last go to a new place.
+/// Moves the shares that were taken in last to a new place.
 pub struct HandBack;
 
 impl<V> Split<View<V>> for HandBack {
@@ -48,7 +48,8 @@ impl<V> Split<View<V>> for HandBack {
     ghost right = { λ v. part v v.taken_share };
 }
 
-/// A place takes in another's shares, and notes what that one told.
+/// A place takes in another's shares, keeps its own value, and records the other's as the one taken in
+/// last.
 pub struct TakeIn;
 
 impl<V: Value> Join<View<V>> for TakeIn {
@@ -59,7 +60,7 @@ impl<V: Value> Join<View<V>> for TakeIn {
     ghost spent = { spent V.initial };
 }
 
-/// A place, perhaps without a share, takes in another's shares and tells what that one told.
+/// A place, which may have no share, takes in another's shares and the other's value.
 pub struct Refill;
 
 impl<V: Value> Join<View<V>> for Refill {
@@ -70,7 +71,8 @@ impl<V: Value> Join<View<V>> for Refill {
     ghost spent = { spent V.initial };
 }
 
-/// A look at the table: the place that was taken in told the same, and no one has more shares than there are.
+/// A load of the table. It shows that the place taken in last had the same value, and that the place has
+/// at most all shares.
 pub struct Looks;
 
 impl<V> Play<(), View<V>> for Looks {
@@ -79,7 +81,7 @@ impl<V> Play<(), View<V>> for Looks {
     ghost then = { λ step before found after. LooksRound before after };
 }
 
-/// The value that a change makes: the one of a list of one. The call that changes it picks it.
+/// The value that a change sets, as a list of one. The call that changes the value picks it.
 pub trait Chosen<V> {
     ghost use Rattle.std.specs.Prelude.{List};
 
@@ -92,7 +94,7 @@ impl<V> Chosen<V> for Brand {
     ghost value = { [] };
 }
 
-/// The place that has all shares tells another value.
+/// The place that has all shares gets another value.
 pub struct Sets<J> {
     by: PhantomData<J>,
 }

@@ -7,13 +7,13 @@ use std::alloc::{AllocError, Global};
 use std::marker::Model;
 use std::sync::Arc;
 
-/// A seat of an agreement. Where it has a share, it tells the value of the agreement; a seat without
-/// one is *spent*, and tells nothing.
+/// A seat of an agreement. If it has a share, its value is the agreement's value. A seat without a share
+/// is *spent*, and its value means nothing.
 ///
-/// All seats of an agreement that have a share tell the same value, and their shares add up to the
-/// number with which it was opened. A seat may be sent to another thread. A share that is dropped
-/// with its seat is gone for good: from then on no one can have all shares, and the agreement never
-/// changes again.
+/// All seats of an agreement that have a share have the same value, and their shares add up to the
+/// number with which the agreement was opened. A seat may be sent to another thread. A share that is
+/// dropped with its seat is lost for good: from then on no seat can have all shares, and the agreement
+/// never changes again.
 #[derive(Drop)]
 pub struct Seat<V: Value> {
     board: Board<V>,
@@ -33,8 +33,8 @@ impl<V: Value> Model for Seat<V> {
 }
 
 impl<V: Value> Seat<V> {
-    /// A new agreement with this many shares on the value's `initial`, and the seat that has them all.
-    /// Nothing is left after an error.
+    /// Opens a new agreement with `count` shares and the value `V::initial`. Returns the seat that has
+    /// all shares. Returns `AllocError` if an allocation fails; nothing stays allocated then.
     pub fn open(alloc: Global, count: u64) -> Result<Seat<V>, AllocError>
         requires { 0 < count }
         ensures count { IfOk result (λ seat. seat.agreement.count ≡ count) }
@@ -45,8 +45,8 @@ impl<V: Value> Seat<V> {
         Ok(Seat { board, place })
     }
 
-    /// One more seat of the agreement, which is spent. It takes no memory, and fails only where the
-    /// agreement has more seats than an `Arc` can count; the seat that is called stays as it was.
+    /// Returns one more seat of the agreement, which is spent. Allocates nothing, and fails only if the
+    /// agreement has more seats than an `Arc` can count. `self` is unchanged, also after an error.
     pub fn another(&mut self) -> Result<Seat<V>, AllocError>
         ensures same { self.new ≡ self.old }
         ensures spent { IfOk result (IsSpent self.old.agreement) }
@@ -56,7 +56,8 @@ impl<V: Value> Seat<V> {
         Ok(Seat { board, place })
     }
 
-    /// Gives N shares to another seat of the agreement, which may be spent, and then tells the same.
+    /// Gives N shares to another seat of the agreement, which may be spent. Afterwards the other seat
+    /// has this seat's value.
     pub fn give<const N: u64>(&mut self, other: &mut Seat<V>)
         requires beside { other.old.agreement ≡ self.old.agreement }
         requires some { 0 < N }
@@ -68,7 +69,8 @@ impl<V: Value> Seat<V> {
         places::refill(&self.board, &mut other.place, shares);
     }
 
-    /// Takes all shares of another seat of the agreement, which told the same value and is spent then.
+    /// Takes all shares of another seat of the agreement. Both had the same value. The other seat is
+    /// spent afterwards.
     pub fn gather(&mut self, other: &mut Seat<V>)
         requires beside { other.old.agreement ≡ self.old.agreement }
         requires some { (0 < self.old.share) × (0 < other.old.share) }
@@ -80,8 +82,8 @@ impl<V: Value> Seat<V> {
         places::gather(&self.board, &mut self.place, &mut other.place);
     }
 
-    /// Learns that another seat of the agreement tells the same value, and that the two have no more
-    /// shares than there are. Both stay as they were.
+    /// Shows that another seat of the agreement has the same value, and that the two together have at
+    /// most all shares. Changes neither seat.
     pub fn look(&mut self, other: &mut Seat<V>)
         requires beside { other.old.agreement ≡ self.old.agreement }
         requires some { (0 < self.old.share) × (0 < other.old.share) }
@@ -94,7 +96,7 @@ impl<V: Value> Seat<V> {
         other.place = places::hand_back(board, place);
     }
 
-    /// Changes the value. The seat has all shares of the agreement.
+    /// Changes the value. Requires that the seat has all shares of the agreement.
     pub fn change<C: Change<V>>(&mut self, change: &C)
         requires all { self.old.share ≡ self.old.agreement.count }
         ensures { self.new ≡ with_value self.old (C.changed change.now self.old.value) }
@@ -102,8 +104,8 @@ impl<V: Value> Seat<V> {
         places::change(&self.board, &mut self.place, change);
     }
 
-    /// Changes the value, where this seat and another have all shares of the agreement between them. Each
-    /// keeps its own share, and both tell the new value.
+    /// Changes the value. Requires that this seat and another have all shares of the agreement between
+    /// them. Each keeps its own share, and both have the new value afterwards.
     pub fn change_together<C: Change<V>>(&mut self, other: &mut Seat<V>, change: &C)
         requires beside { other.old.agreement ≡ self.old.agreement }
         requires some { (0 < self.old.share) × (0 < other.old.share) }
@@ -119,7 +121,7 @@ impl<V: Value> Seat<V> {
     }
 }
 
-/// The value becomes what a seat of another agreement on such values tells.
+/// The change to the value of a seat of another agreement on values of this type.
 impl<V: Value> Change<V> for Seat<V> {
     ghost changed = { λ seat before. seat.value };
 }

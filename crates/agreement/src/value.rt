@@ -1,12 +1,11 @@
-/// What seats may agree on. A value is no data of the program: none is ever made, and contracts alone
-/// speak of it.
+/// What seats may agree on. A value is ghost data: none is ever made, and only contracts mention it.
 pub trait Value {
-    /// What an agreement tells until its first change.
+    /// The value of an agreement until its first change.
     ghost initial: { Self };
 }
 
-/// Data that says how a value changes.
+/// Data that determines how a value changes.
 pub trait Change<V> {
-    /// What becomes of a value.
+    /// The new value, from the change and the old value.
     ghost changed: { Self → V → V };
 }

@@ -30,7 +30,7 @@ first_under Orders w_id = (refl, refl)
 first_under History w_id = (refl, refl)
 first_under Stock w_id = (refl, refl)
 
--- ---- which tells the prefix
+-- ---- from which the prefix follows
 
 kind_at : ℕ → Kind
 kind_at zero = Warehouse

@@ -1,4 +1,4 @@
--- What a group has.
+-- The content of a group.
 use Rattle.std.specs.Prelude.{◌≡◌, ◌≢◌, List, Option}
 use Rattle.std.specs.List.{All}
 use Rattle.std.specs.declared.cmp.Ordering.{Ordering}
@@ -18,7 +18,7 @@ use Rattle.requests.specs.declared.group.Group.{Group}
 use Rattle.requests.specs.declared.group.Group.TheVariants as g
 use Rattle.groups.specs.Groups.{group_of_customer, group_of_order, group_of_line, group_of_stock, is_same}
 
--- a row or none, a list of payments or none, or the rows that the group has of one table or of three
+-- a row or none, a list of payments or none, or the group's rows of one table or of three
 pub data Content : Type 0 where
   OfWarehouse : Option Warehouse → Content
   OfDistrict : Option District → Content
@@ -31,7 +31,7 @@ pub data Content : Type 0 where
 abbrev pub rows_of : {K X : Type 0} {R : K → K → Ordering} → (K → Group) → Group → map.FinMap R X → map.FinMap R X
 rows_of own group table = map.retain_keys table (λ key. is_same (own key) group)
 
--- what the tables have in a group
+-- the content of a group in these tables
 abbrev pub content : Database → Group → Content
 content t (g.Warehouse w_id) = OfWarehouse (map.get t.warehouses w_id)
 content t (g.District w_id d_id) = OfDistrict (map.get t.districts (district_key w_id d_id))
@@ -45,7 +45,7 @@ content t (g.Stock w_id residue) = OfStock (rows_of group_of_stock (g.Stock w_id
 
 -- ---- some groups of tables
 
--- the tables have the same in each of these groups
+-- each of these groups has the same content in both tables
 abbrev pub AreAlikeIn : List Group → Database → Database → Type 0
 AreAlikeIn groups s t = All (λ group. content s group ≡ content t group) groups
 

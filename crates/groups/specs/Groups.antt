@@ -1,4 +1,4 @@
--- Which group a row belongs to, and the order of groups. Rows of one group are locked as one.
+-- The group of each row, and the order of groups. Rows of one group are locked together.
 use Rattle.std.specs.Prelude.{ℕ, ◌%◌, ◌==◌, ◌&&◌, Bool}
 use Rattle.std.specs.declared.cmp.Ordering.{Ordering}
 use Rattle.std.specs.Ordering.{nat_cmp, ordering_then}
@@ -16,15 +16,15 @@ use Rattle.requests.specs.declared.group.Group.TheVariants.{Warehouse, District,
 abbrev pub group_of_warehouse : ℕ → Group
 group_of_warehouse key = Warehouse key
 
--- so is a row of DISTRICT
+-- a row of DISTRICT is a group of its own
 abbrev pub group_of_district : DistrictKey → Group
 group_of_district key = District key.w_id key.d_id
 
--- the customers of a district are a group
+-- the customers of a district are one group
 abbrev pub group_of_customer : CustomerKey → Group
 group_of_customer key = Customers key.w_id key.d_id
 
--- of a row of ORDER, and of one of NEW-ORDER
+-- a row of ORDER or of NEW-ORDER is in the group of the orders of its district
 abbrev pub group_of_order : OrderKey → Group
 group_of_order key = Orders key.w_id key.d_id
 
@@ -32,11 +32,11 @@ group_of_order key = Orders key.w_id key.d_id
 abbrev pub group_of_line : OrderLineKey → Group
 group_of_line key = Orders key.w_id key.d_id
 
--- of a district's list of payments
+-- a district's list of payments is a group of its own
 abbrev pub group_of_history : DistrictKey → Group
 group_of_history key = History key.w_id key.d_id
 
--- the stock of a warehouse is parted by the item's number modulo 64
+-- the stock of a warehouse is divided by the item's number modulo 64
 abbrev pub group_of_stock : StockKey → Group
 group_of_stock key = Stock key.w_id (key.i_id % 64)
 
@@ -51,7 +51,7 @@ kind_of (Orders w_id d_id) = 3
 kind_of (History w_id d_id) = 4
 kind_of (Stock w_id residue) = 5
 
--- the warehouse that a group belongs to
+-- the warehouse to which a group belongs
 abbrev pub warehouse_of : Group → ℕ
 warehouse_of (Warehouse w_id) = w_id
 warehouse_of (District w_id d_id) = w_id
@@ -60,7 +60,7 @@ warehouse_of (Orders w_id d_id) = w_id
 warehouse_of (History w_id d_id) = w_id
 warehouse_of (Stock w_id residue) = w_id
 
--- the number within the warehouse: the district's or the residue, and 0 for the warehouse's own row
+-- the group's number within the warehouse: the district's number or the residue, and 0 for the warehouse's own row
 abbrev pub number_of : Group → ℕ
 number_of (Warehouse w_id) = 0
 number_of (District w_id d_id) = d_id
@@ -69,12 +69,12 @@ number_of (Orders w_id d_id) = d_id
 number_of (History w_id d_id) = d_id
 number_of (Stock w_id residue) = residue
 
--- by kind, then by warehouse, and then by number
+-- groups are compared by kind, then by warehouse, and then by number
 abbrev pub group_cmp : Group → Group → Ordering
 group_cmp a b =
     ordering_then (nat_cmp (kind_of a) (kind_of b))
     (ordering_then (nat_cmp (warehouse_of a) (warehouse_of b)) (nat_cmp (number_of a) (number_of b)))
 
--- whether two groups are one
+-- two groups are equal
 abbrev pub is_same : Group → Group → Bool
 is_same a b = (kind_of a == kind_of b) && ((warehouse_of a == warehouse_of b) && (number_of a == number_of b))

@@ -1,4 +1,4 @@
--- What holds of the groups of requests, and what ties the contents of groups to the tables.
+-- Laws of the groups of requests, and of the contents of groups and the tables.
 use Rattle.std.specs.Prelude.{◌≡◌, ◌≢◌, ◌≤◌, ℕ, List, Option, Some, None, count_by, if◌then◌else◌}
 use Rattle.std.specs.declared.cmp.Ordering.{Ordering}
 use Rattle.std.specs.Ordering.{nat_cmp}
@@ -27,13 +27,14 @@ use Rattle.groups.specs.Content.Content.{OfWarehouse, OfDistrict, OfCustomers, O
 
 -- ---- the groups of a request
 
--- no group comes twice among them
+-- no group is twice among those of a request
 abbrev pub FootprintsNameEachGroupOnce : Type 0
 FootprintsNameEachGroupOnce = (request : Request) (group : Group) → count_by (is_same group) (groups_of (footprint request)) ≤ 1
 
--- ---- each row stands in one group
+-- ---- each row is in one group
 
--- The row at a key that a group has, by its content. The content of one row is without its key, which the group tells.
+-- The row of WAREHOUSE that a group has at this key, by its content. The content of a single row is without its key,
+-- which the group determines.
 abbrev pub warehouse_in : Group → Content → ℕ → Option Warehouse
 warehouse_in group (OfWarehouse row) key = if is_same (group_of_warehouse key) group then row else None
 warehouse_in group _ key = None
@@ -73,15 +74,15 @@ abbrev pub stock_in : Group → Content → StockKey → Option Stock
 stock_in group (OfStock rows) key = map.get rows key
 stock_in group _ key = None
 
--- At each key its own group has the row that the table has there, or none where the table has none, and no other group
--- has one.
+-- At each key, the key's own group has the row that the table has there, or none if the table has none, and no other
+-- group has one.
 abbrev pub StandInOne : {K X : Type 0} {R : K → K → Ordering}
     → Database → map.FinMap R X → (K → Group) → (Group → Content → K → Option X) → Type 0
 StandInOne {K} t table own found =
     (key : K) → (found (own key) (content t (own key)) key ≡ map.get table key)
     × ((group : Group) → group ≢ own key → found group (content t group) key ≡ None)
 
--- so it is of each row of eight tables: its own group has it, and no other group has a row at its key
+-- `StandInOne` for the rows of eight tables: a row's own group has it, and no other group has a row at its key
 pub record RowsStandInOneGroup (t : Database) : Type 0 where
   pub warehouses : StandInOne t t.warehouses group_of_warehouse warehouse_in
   pub districts : StandInOne t t.districts group_of_district district_in
@@ -92,76 +93,75 @@ pub record RowsStandInOneGroup (t : Database) : Type 0 where
   pub histories : StandInOne t t.histories group_of_history history_in
   pub stocks : StandInOne t t.stocks group_of_stock stock_in
 
--- of all tables
+-- in all tables, each row is in its own group, and no other group has a row at its key
 abbrev pub EachRowStandsInOneGroup : Type 0
 EachRowStandsInOneGroup = (t : Database) → RowsStandInOneGroup t
 
--- whatever the items, each group has the same
+-- a group's content doesn't depend on the items
 abbrev pub ItemsStandInNoGroup : Type 0
 ItemsStandInNoGroup =
     (t : Database) (items : map.FinMap nat_cmp Item) (group : Group) → content (record t { items = items }) group ≡ content t group
 
 -- ---- contents make the tables
 
--- tables of one scale with equal items, whose groups all have the same, are equal
+-- tables of one scale with equal items, whose groups all have the same content, are equal
 abbrev pub ContentsMakeTables : Type 0
 ContentsMakeTables =
     (s t : Database) → s.scale ≡ t.scale → s.items ≡ t.items → ((group : Group) → content s group ≡ content t group) → s ≡ t
 
--- ---- a row is put into one group
+-- ---- inserting a row changes one group
 
--- What a group has once the row is put in, or taken away. What a group of another kind has stays.
+-- The content of a group with this row of WAREHOUSE. A group of another kind is unchanged, here and below.
 abbrev pub with_warehouse : Warehouse → Content → Content
 with_warehouse row (OfWarehouse _) = OfWarehouse (Some row)
 with_warehouse row other = other
 
--- what a group has once this is its row of DISTRICT
+-- the content of a group with this row of DISTRICT
 abbrev pub with_district : District → Content → Content
 with_district row (OfDistrict _) = OfDistrict (Some row)
 with_district row other = other
 
--- what a group has once this is its row of CUSTOMER at the key
+-- the content of a group with this row of CUSTOMER at the key
 abbrev pub with_customer : CustomerKey → Customer → Content → Content
 with_customer key row (OfCustomers rows) = OfCustomers (map.insert rows key row)
 with_customer key row other = other
 
--- what a group has once this is its row of ORDER at the key
+-- the content of a group with this row of ORDER at the key
 abbrev pub with_order : OrderKey → Order → Content → Content
 with_order key row (OfOrders orders new_orders lines) = OfOrders (map.insert orders key row) new_orders lines
 with_order key row other = other
 
--- what a group has once this is its row of NEW-ORDER at the key
+-- the content of a group with this row of NEW-ORDER at the key
 abbrev pub with_new_order : OrderKey → NewOrder → Content → Content
 with_new_order key row (OfOrders orders new_orders lines) = OfOrders orders (map.insert new_orders key row) lines
 with_new_order key row other = other
 
--- what a group has once it has no row of NEW-ORDER at the key
+-- the content of a group without a row of NEW-ORDER at the key
 abbrev pub without_new_order : OrderKey → Content → Content
 without_new_order key (OfOrders orders new_orders lines) = OfOrders orders (map.remove new_orders key) lines
 without_new_order key other = other
 
--- what a group has once this is its row of ORDER-LINE at the key
+-- the content of a group with this row of ORDER-LINE at the key
 abbrev pub with_line : OrderLineKey → OrderLine → Content → Content
 with_line key row (OfOrders orders new_orders lines) = OfOrders orders new_orders (map.insert lines key row)
 with_line key row other = other
 
--- what a group has once this is its list of payments
+-- the content of a group with this list of payments
 abbrev pub with_history : List History → Content → Content
 with_history rows (OfHistory _) = OfHistory (Some rows)
 with_history rows other = other
 
--- what a group has once this is its row of STOCK at the key
+-- the content of a group with this row of STOCK at the key
 abbrev pub with_stock : StockKey → Stock → Content → Content
 with_stock key row (OfStock rows) = OfStock (map.insert rows key row)
 with_stock key row other = other
 
--- what one group has changes so, and no other group's does
+-- the content of one group changes so, and no other group's content changes
 pub record ChangesOneGroup (own : Group) (change : Content → Content) (old new : Database) : Type 0 where
   pub here : content new own ≡ change (content old own)
   pub elsewhere : (group : Group) → group ≢ own → content new group ≡ content old group
 
--- A row that is put into a table changes its own group so, for each table, and so does a row that is taken away from
--- NEW-ORDER.
+-- For each table, inserting a row changes the content of its own group only, and so does deleting a row of NEW-ORDER.
 pub record PutsChangeOneGroup (t : Database) : Type 0 where
   pub warehouses : (key : ℕ) (row : Warehouse)
       → ChangesOneGroup (group_of_warehouse key) (with_warehouse row) t (record t { warehouses = map.insert t.warehouses key row })
@@ -182,6 +182,6 @@ pub record PutsChangeOneGroup (t : Database) : Type 0 where
   pub stocks : (key : StockKey) (row : Stock)
       → ChangesOneGroup (group_of_stock key) (with_stock key row) t (record t { stocks = map.insert t.stocks key row })
 
--- of all tables
+-- in all tables, inserting a row or deleting one of NEW-ORDER changes the content of its own group only
 abbrev pub EachPutChangesOneGroup : Type 0
 EachPutChangesOneGroup = (t : Database) → PutsChangeOneGroup t

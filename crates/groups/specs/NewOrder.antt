@@ -13,12 +13,12 @@ use Rattle.groups.specs.Modes.{exclusively, shared}
 abbrev pub group_of_supply : OrderedLine → Group
 group_of_supply line = group_of_stock (record { w_id = line.supply_w_id; i_id = line.i_id })
 
--- each group once, where it first stands
+-- each group once, at its first place
 abbrev pub firsts : List Group → List Group
 firsts [] = []
 firsts (group ∷ groups) = group ∷ filter (λ other. not (is_same group other)) (firsts groups)
 
--- the groups that supply these lines, by the first line of each
+-- the groups of stock that supply these lines, in the order of the first line of each
 abbrev pub supplies_of : List OrderedLine → List Group
 supplies_of lines = firsts (map group_of_supply lines)
 

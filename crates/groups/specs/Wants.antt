@@ -1,4 +1,4 @@
--- What an action wants to claim: a group, or all groups of a kind in a warehouse. Which groups that are, and when two
+-- What an action asks to lock: a group, or all groups of a kind in a warehouse. Which groups those are, and when two
 -- wants conflict.
 use Rattle.std.specs.Prelude.{◌≡◌, ◌⊎◌, ℕ}
 use Rattle.requests.specs.declared.group.Group.{Group}
@@ -24,19 +24,19 @@ kind_number Stock = 5
 abbrev pub IsUnder : Prefix → Group → Type 0
 IsUnder prefix group = (kind_of group ≡ kind_number prefix.kind) × (warehouse_of group ≡ prefix.w_id)
 
--- the group is one of these
+-- the group is in the extent
 abbrev pub IsIn : Extent → Group → Type 0
 IsIn (One own) group = own ≡ group
 IsIn (Every prefix) group = IsUnder prefix group
 
--- the group is one of those that are wanted
+-- the group is in the want's extent
 abbrev pub Covers : Want → Group → Type 0
 Covers want group = IsIn want.extent group
 
--- some group is wanted by both
+-- some group is in both wants
 abbrev pub Overlap : Want → Want → Type 0
 Overlap a b = (group : Group) × Covers a group × Covers b group
 
--- some group is wanted by both, and one of the two wants it exclusively
+-- some group is in both wants, and one of the two is exclusive
 abbrev pub Conflict : Want → Want → Type 0
 Conflict a b = Overlap a b × ((a.mode ≡ Exclusive) ⊎ (b.mode ≡ Exclusive))

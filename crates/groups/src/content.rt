@@ -2,11 +2,12 @@ use requests::Group;
 use schema::Tables;
 use std::marker::Model;
 
-/// What a group has, for contracts alone: no value of it is made.
+/// The content of a group, for contracts only: no value of this type is ever made.
 ///
-/// Contracts see the plain sum `Content` of `specs/Content.antt`. Its finite maps are no types of the
-/// program, so it can't be an enum; a group of some tables stands for it, whose content it is. With its
-/// code it can be told where contracts tell a value of a type, as by a type parameter.
+/// Its model is the sum type `Content` of `specs/Content.antt`. An enum can't replace it, since its
+/// finite maps are not types of the program. So the struct is a group of some tables, and its model is
+/// the content of that group. Its `coded` lets contracts use it where they need the value of a type
+/// parameter.
 pub struct Content {
     tables: Tables,
     group: Group,

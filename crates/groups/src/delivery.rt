@@ -10,7 +10,8 @@ use std::alloc::Global;
 // The districts of a warehouse, numbered from 1.
 const DISTRICTS: u32 = 10;
 
-/// The rows that Delivery changes, all of them alone. Want of memory leaves nothing behind.
+/// Returns the groups of the rows that Delivery changes, all exclusive. Returns NoMemory if an
+/// allocation fails; nothing stays allocated then.
 pub(crate) fn group_wants(alloc: Global, delivery: &Delivery) -> Result<Vec<GroupWant>, NoMemory>
     ensures { IfOk result (λ group_wants. group_wants.items ≡ delivery_footprint delivery.now) }
 {

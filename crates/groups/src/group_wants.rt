@@ -6,16 +6,16 @@ use requests::{Group, Request};
 use schema::NoMemory;
 use std::alloc::Global;
 
-/// How a group is claimed.
+/// The mode in which a group is claimed.
 #[derive(Clone, Copy, Debug, PartialEq, Eq)]
 pub enum Mode {
     /// To read it, while others may read it too.
     Shared,
-    /// To change it, alone.
+    /// To change it, while no one else reads or changes it.
     Exclusive,
 }
 
-/// A group that a request claims, and how.
+/// A group that a request claims, and the mode.
 #[derive(Clone, Copy, Debug, PartialEq, Eq)]
 pub struct GroupWant {
     pub group: Group,
@@ -23,7 +23,7 @@ pub struct GroupWant {
 }
 
 impl GroupWant {
-    /// A want to read the group.
+    /// A shared want, to read the group.
     pub fn shared(group: Group) -> GroupWant
         ensures { result ≡ spec.shared group }
     {
@@ -33,7 +33,7 @@ impl GroupWant {
         }
     }
 
-    /// A want to change the group.
+    /// An exclusive want, to change the group.
     pub fn exclusively(group: Group) -> GroupWant
         ensures { result ≡ spec.exclusively group }
     {
@@ -44,7 +44,8 @@ impl GroupWant {
     }
 }
 
-/// The groups that a request claims, none twice. Want of memory leaves nothing behind.
+/// Returns the groups that a request claims, none twice. Returns NoMemory if an allocation fails;
+/// nothing stays allocated then.
 pub fn footprint(alloc: Global, request: &Request) -> Result<Vec<GroupWant>, NoMemory>
     ensures { IfOk result (λ group_wants. group_wants.items ≡ spec.footprint request.now) }
 {

@@ -9,8 +9,9 @@ use requests::{Group, NewOrder, OrderedLine};
 use schema::{DistrictKey, NoMemory, StockKey};
 use std::alloc::Global;
 
-/// The rows that New-Order reads, while others may read them too, and those that it changes, alone: each group of stock once,
-/// by the first line that it supplies. Want of memory leaves nothing behind.
+/// Returns the groups of the rows that New-Order reads, shared, and of those that it changes, exclusive.
+/// A group of stock is claimed once, for the first line that it supplies. Returns NoMemory if an
+/// allocation fails; nothing stays allocated then.
 pub(crate) fn group_wants(alloc: Global, order: &NewOrder) -> Result<Vec<GroupWant>, NoMemory>
     ensures { IfOk result (λ group_wants. group_wants.items ≡ new_order_footprint order.now) }
 {
@@ -39,7 +40,7 @@ fn group_of_supply(line: OrderedLine) -> Group
     })
 }
 
-// Whether one of the wants is for the group.
+// Returns whether one of the wants is for the group.
 fn is_wanted_group(group_wants: &[GroupWant], group: Group) -> bool
     ensures { result ≡ list_any (λ group_want. is_same group_want.group group) group_wants.now }
 {

@@ -6,7 +6,7 @@ use crate::GroupWant;
 use requests::{Group, OrderStatus};
 use schema::DistrictKey;
 
-/// The rows that Order-Status reads, while others may read them too.
+/// Returns the groups of the rows that Order-Status reads, all shared.
 pub(crate) fn group_wants(asked: &OrderStatus) -> [GroupWant; 2]
     ensures { result ≡ order_status_footprint asked.now }
 {

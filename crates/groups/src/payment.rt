@@ -5,7 +5,7 @@ ghost use Rattle.groups.specs.Payment.{payment_footprint};
 use crate::GroupWant;
 use requests::{Group, Payment};
 
-/// The rows that a payment changes, all of them alone.
+/// Returns the groups of the rows that a payment changes, all exclusive.
 pub(crate) fn group_wants(payment: &Payment) -> [GroupWant; 4]
     ensures { result ≡ payment_footprint payment.now }
 {

@@ -7,7 +7,8 @@ use requests::{Group, StockLevel};
 use schema::{DistrictKey, NoMemory};
 use std::alloc::Global;
 
-/// The rows that Stock-Level reads, while others may read them too. Want of memory leaves nothing behind.
+/// Returns the groups of the rows that Stock-Level reads, all shared. Returns NoMemory if an allocation
+/// fails; nothing stays allocated then.
 pub(crate) fn group_wants(alloc: Global, asked: &StockLevel) -> Result<Vec<GroupWant>, NoMemory>
     ensures { IfOk result (λ group_wants. group_wants.items ≡ stock_level_footprint asked.now) }
 {

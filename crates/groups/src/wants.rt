@@ -23,14 +23,14 @@ pub struct Prefix {
     pub w_id: u32,
 }
 
-/// What is claimed at once: a group, or all groups of a prefix.
+/// What one want claims: a group, or all groups of a prefix.
 #[derive(Clone, Copy, Debug, PartialEq, Eq)]
 pub enum Extent {
     One(Group),
     Every(Prefix),
 }
 
-/// What an action wants to claim, and how.
+/// A group or prefix that an action asks to lock, and the mode.
 #[derive(Clone, Copy, Debug, PartialEq, Eq)]
 pub struct Want {
     pub extent: Extent,
@@ -66,7 +66,7 @@ pub fn warehouse_of(group: Group) -> u32
 }
 
 impl Prefix {
-    // Whether the group is one of the prefix's.
+    // Returns whether the group is one of the prefix's.
     fn covers(self, group: Group) -> bool
         ensures { IsTrue result ↔ IsUnder self group }
     {
@@ -75,7 +75,7 @@ impl Prefix {
 }
 
 impl Want {
-    /// Whether the group is one of those that are wanted.
+    /// Returns whether the want includes the group.
     pub fn covers(self, group: Group) -> bool
         ensures { IsTrue result ↔ Covers self group }
     {
@@ -85,7 +85,7 @@ impl Want {
         }
     }
 
-    /// Whether some group is wanted by both.
+    /// Returns whether some group is in both wants.
     pub fn overlaps(self, other: Want) -> bool
         ensures { IsTrue result ↔ Overlap self other }
     {
@@ -96,7 +96,7 @@ impl Want {
         }
     }
 
-    /// Whether some group is wanted by both, and one of the two wants it exclusively.
+    /// Returns whether some group is in both wants, and one of the two is exclusive.
     pub fn conflicts(self, other: Want) -> bool
         ensures { IsTrue result ↔ Conflict self other }
     {

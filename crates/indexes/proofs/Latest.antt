@@ -174,7 +174,7 @@ put_fits slot index t key old new found same fits c place at =
     ∙ ap Some (sym (ap (most c) (entries-insert orders_total t.orders key new)
     ∙ most-put-again c key old new (entries t.orders) (sym (get-entries t.orders key) ∙ found) (ap (λ n. (key.w_id == c.w_id) && ((key.d_id == c.d_id) && (n == c.c_id))) same)))
 
--- ---- what stood there is put back
+-- ---- restoring the number from before
 
 number_back : (n : ℕ) → unwrap_or (number_of n) 0 ≡ n
 number_back zero = refl

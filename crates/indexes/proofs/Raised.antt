@@ -43,7 +43,7 @@ grows : (t : Database) (key : OrderKey) (row : Order) (o : Option Order) → map
 grows t key row None none h c = most-insert t key row none c
 grows t key row (Some old) found h c = put_again t key old row found h c
 
--- so where another customer's order stood there
+-- the same if another customer's order was stored there
 put_over : (c : CustomerKey) (key : OrderKey) (old row : Order) (es : List (OrderKey × Order)) → find order_cmp key es ≡ Some old → is_order_by c (key, old) ≡ false
     → most c (put order_cmp key row es) ≡ grown c key row (most c es)
 put_over c key old row [] found other = absurd cc

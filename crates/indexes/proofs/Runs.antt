@@ -80,7 +80,7 @@ distinct_range n i j below under same =
     let at_j : get_or (range_with_len 0 n) j 0 ≡ 0 + j = get_or-range_with_len 0 n j 0 (omega arith) in
     omega arith
 
--- where an element stood before two changed places
+-- where an element was before two changed places
 abbrev before_swap : ℕ → ℕ → ℕ → ℕ
 before_swap a b i = cond (eqb i a) b (cond (eqb i b) a i)
 

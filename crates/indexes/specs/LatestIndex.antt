@@ -1,4 +1,4 @@
--- What an index of latest orders holds, and when it fits the tables.
+-- The content of an index of latest orders, and when it fits the tables.
 use Rattle.std.specs.Prelude.{◌≡◌, ℕ, zero, suc, ◌<◌, List, length, slice_get, slice_set, slice_index, max, Option, Some, None}
 use Rattle.std.specs.Option.{option_map_or, option_and_then}
 use Rattle.rows.specs.declared.keys.CustomerKey.{CustomerKey}
@@ -8,20 +8,20 @@ use Rattle.schema.specs.Consistency.{greatest}
 use Rattle.partitions.specs.Slots.{Slots, customer_slot_by}
 use Rattle.indexes.specs.LatestOrder.{order_numbers}
 
--- each customer's latest order stands at the customer's place, and 0 where there is none
+-- the place of each customer contains the number of the customer's latest order, or 0 if there is none
 abbrev pub FitsLatestBy : Slots → List ℕ → Database → Type 0
 FitsLatestBy slot index t = (customer : CustomerKey) (place : ℕ) → customer_slot_by slot t.scale.customers customer ≡ Some place → slice_get index place ≡ Some (greatest (order_numbers t.orders customer))
 
--- so for each customer of the scale
+-- the place of each customer of the scale contains the number of the customer's latest order, or 0 if there is none
 abbrev pub FitsLatest : List ℕ → Database → Type 0
 FitsLatest index t = FitsLatestBy (district_slot t.scale) index t
 
--- what a number of the index means
+-- the meaning of a number of the index: 0 is none
 abbrev pub number_of : ℕ → Option ℕ
 number_of zero = None
 number_of (suc n) = Some (suc n)
 
--- what the index has for the customer, where each district has so many
+-- the index's entry for the customer, if each district has this number of customers
 abbrev pub latest_at : Slots → ℕ → List ℕ → CustomerKey → Option ℕ
 latest_at slot customers index customer = option_and_then (λ place. option_and_then number_of (slice_get index place)) (customer_slot_by slot customers customer)
 
@@ -29,11 +29,11 @@ latest_at slot customers index customer = option_and_then (λ place. option_and_
 abbrev pub with_latest : Slots → ℕ → List ℕ → CustomerKey → ℕ → List ℕ
 with_latest slot customers index customer number = option_map_or (λ place. slice_set index place number) (customer_slot_by slot customers customer) index
 
--- the customer, if one of these districts', has a place in the index
+-- the customer, if of one of these districts, has a place in the index
 abbrev pub HasPlace : Slots → ℕ → List ℕ → CustomerKey → Type 0
 HasPlace slot customers index customer = (place : ℕ) → customer_slot_by slot customers customer ≡ Some place → place < length index
 
--- the index with this number for the customer, where it was less
+-- the index with this number for the customer, if the number there was less
 abbrev pub raised : Slots → ℕ → List ℕ → CustomerKey → ℕ → List ℕ
 raised slot customers index customer number =
     option_map_or (λ place. slice_set index place (max (slice_index index place) number)) (customer_slot_by slot customers customer) index

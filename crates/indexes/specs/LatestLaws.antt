@@ -1,4 +1,4 @@
--- Laws of the look-up of latest orders, wherever the districts stand.
+-- Laws of the look-up of latest orders, for any places of the districts.
 use Rattle.std.specs.Prelude.{◌≡◌, ℕ, ◌<◌, List, unwrap_or, Some, None, IfSome}
 use Rattle.std.specs.FinMap as map
 use Rattle.rows.specs.declared.keys.CustomerKey.{CustomerKey}
@@ -10,19 +10,21 @@ use Rattle.partitions.specs.Slots.{Slots, AreApart}
 use Rattle.indexes.specs.LatestOrder.{order_numbers}
 use Rattle.indexes.specs.LatestIndex.{FitsLatestBy, latest_at, with_latest, raised}
 
--- a new order whose number is larger than those of its customer's orders is noted
+-- a new order whose number is larger than those of its customer's orders is noted: the index fits
 abbrev pub NotedOrderFits : Type 0
 NotedOrderFits = (slot : Slots) (index : List ℕ) (t : Database) (key : OrderKey) (row : Order) → AreApart slot → FitsLatestBy slot index t → map.get t.orders key ≡ None
     → greatest (order_numbers t.orders (customer_of_order key row)) < key.o_id
     → FitsLatestBy slot (with_latest slot t.scale.customers index (customer_of_order key row) key.o_id) (record t { orders = map.insert t.orders key row })
 
--- an order that is put where none stood, or one of the same customer, is noted where its number is larger than what was
+-- an order is inserted at a free key, or replaces one of the same customer, and the customer's number is raised: the
+-- index fits
 abbrev pub RaisedOrderFits : Type 0
 RaisedOrderFits = (slot : Slots) (index : List ℕ) (t : Database) (key : OrderKey) (row : Order) → AreApart slot → FitsLatestBy slot index t
     → IfSome (map.get t.orders key) (λ old. old.c_id ≡ row.c_id)
     → FitsLatestBy slot (raised slot t.scale.customers index (customer_of_order key row) key.o_id) (record t { orders = map.insert t.orders key row })
 
--- an order that is put in place of another customer's is noted so too, once that customer's are looked through
+-- an order replaces another customer's, the number is raised, and the other customer's orders are searched: the index
+-- fits
 abbrev pub ReplacedOrderFits : Type 0
 ReplacedOrderFits = (slot : Slots) (index : List ℕ) (t : Database) (key : OrderKey) (old row : Order) → AreApart slot → FitsLatestBy slot index t
     → map.get t.orders key ≡ Some old
@@ -31,7 +33,7 @@ ReplacedOrderFits = (slot : Slots) (index : List ℕ) (t : Database) (key : Orde
     (customer_of_order key old) (greatest (order_numbers (map.insert t.orders key row) (customer_of_order key old))))
     (record t { orders = map.insert t.orders key row })
 
--- an order that is taken away is forgotten once its customer's orders are looked through
+-- an order is deleted, and its customer's orders are searched: the index fits
 abbrev pub RemovedOrderFits : Type 0
 RemovedOrderFits = (slot : Slots) (index : List ℕ) (t : Database) (key : OrderKey) (old : Order) → AreApart slot → FitsLatestBy slot index t
     → map.get t.orders key ≡ Some old
@@ -39,12 +41,12 @@ RemovedOrderFits = (slot : Slots) (index : List ℕ) (t : Database) (key : Order
     (with_latest slot t.scale.customers index (customer_of_order key old) (greatest (order_numbers (map.remove t.orders key) (customer_of_order key old))))
     (record t { orders = map.remove t.orders key })
 
--- what is put back as it was leaves no trace
+-- recording a number and restoring the one before leaves the index unchanged
 abbrev pub TakenBackIsAsBefore : Type 0
 TakenBackIsAsBefore = (slot : Slots) (customers : ℕ) (index : List ℕ) (customer : CustomerKey) (number : ℕ)
     → with_latest slot customers (with_latest slot customers index customer number) customer (unwrap_or (latest_at slot customers index customer) 0) ≡ index
 
--- an order's row that is put with the same customer, as when it is delivered, leaves the index as it must be
+-- an order's row is replaced by one with the same customer, as by a delivery: the index still fits
 abbrev pub PutOrderFits : Type 0
 PutOrderFits = (slot : Slots) (index : List ℕ) (t : Database) (key : OrderKey) (old new : Order) → map.get t.orders key ≡ Some old → new.c_id ≡ old.c_id → FitsLatestBy slot index t
     → FitsLatestBy slot index (record t { orders = map.insert t.orders key new })

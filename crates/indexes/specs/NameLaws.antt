@@ -25,11 +25,11 @@ pub record SameNames (old new : Database) : Type 0 where
   pub last : (key : CustomerKey) → last_of (map.get new.customers key) ≡ last_of (map.get old.customers key)
   pub first : (key : CustomerKey) → first_of (map.get new.customers key) ≡ first_of (map.get old.customers key)
 
--- an index fits as long as the names stay, wherever the districts stand
+-- an index still fits as long as the names do not change, for any places of the districts
 abbrev pub SameNamesFit : Type 0
 SameNamesFit = (slot : Slots) (index : List (List ℕ)) (old new : Database) → SameNames old new → FitsNamesBy slot index old → FitsNamesBy slot index new
 
--- a customer's row that is put with the same C_LAST and C_FIRST leaves the names as they are
+-- replacing a customer's row by one with the same C_LAST and C_FIRST leaves the names unchanged
 abbrev pub PutKeepsNames : Type 0
 PutKeepsNames = (t : Database) (key : CustomerKey) (old new : Customer) → map.get t.customers key ≡ Some old → new.last ≡ old.last → new.first ≡ old.first
     → SameNames t (record t { customers = map.insert t.customers key new })

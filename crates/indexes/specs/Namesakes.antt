@@ -15,7 +15,7 @@ use Rattle.schema.specs.Scale.{customer_key}
 abbrev pub Keyed : Type 0
 Keyed = CustomerKey × Customer
 
--- texts byte by byte; a text comes before the longer ones that it begins
+-- texts are compared byte by byte; a text is before the longer ones that begin with it
 abbrev pub text_cmp : List ℕ → List ℕ → Ordering
 text_cmp = slice_cmp nat_cmp
 
@@ -39,19 +39,19 @@ Customers = map.FinMap customer_cmp Customer
 abbrev pub namesakes : Customers → DistrictKey → List ℕ → List Keyed
 namesakes customers home last = filter (is_namesake home last) (map.entries customers)
 
--- by C_FIRST, and by C_ID where that is the same
+-- customers are compared by C_FIRST, and by C_ID if that is equal
 abbrev pub first_cmp : Keyed → Keyed → Ordering
 first_cmp a b = ordering_then (text_cmp a.1.first b.1.first) (nat_cmp a.0.c_id b.0.c_id)
 
--- the one comes before the other in that order
+-- the one is before the other in that order
 abbrev pub is_before : Keyed → Keyed → Bool
 is_before a b = is_lt (first_cmp a b)
 
--- whether exactly (n-1)/2 of n customers come before this one
+-- exactly (n-1)/2 of n customers are before this one
 abbrev pub is_middle : List Keyed → Keyed → Bool
 is_middle customers c = length (filter (λ other. is_before other c) customers) == (length customers - 1) / 2
 
--- the middle one of some customers, where there is one
+-- the middle one of some customers, if there is one
 abbrev pub middle : List Keyed → Option Keyed
 middle customers = find (is_middle customers) customers
 

@@ -10,12 +10,12 @@ use std::alloc::Global;
 use std::marker::Model;
 use std::mem;
 
-/// The number of each customer's latest order, in the order of the customers' keys, four bytes each:
-/// of all customers, or of those of one warehouse. It fits on as the rows of orders change, as long as
-/// none comes, goes or changes its customer.
+/// The number of each customer's latest order, in the order of the customers' keys, four bytes each: of
+/// all customers, or of those of one warehouse. It still fits when rows of orders change, as long as no
+/// order is inserted, is deleted or changes its customer.
 #[derive(Drop)]
 pub struct LatestOrders {
-    // 0 stands for none.
+    // 0 if the customer has no order.
     numbers: Vec<u32>,
 }
 
@@ -28,7 +28,8 @@ impl Model for LatestOrders {
 }
 
 impl LatestOrders {
-    /// The index of these rows. Want of memory leaves nothing behind.
+    /// Builds the index of these rows. Returns NoMemory if an allocation fails; nothing stays allocated
+    /// then.
     pub fn build<T: Rows>(alloc: Global, rows: &T) -> Result<LatestOrders, NoMemory>
         ensures { IfOk result (λ index. FitsLatestBy (T.slot rows.now) index (T.tables rows.now)) }
     {
@@ -45,8 +46,8 @@ impl LatestOrders {
         Ok(LatestOrders { numbers })
     }
 
-    /// The largest O_ID of the customer's orders (clause 2.6.2.2), `None` exactly where there is
-    /// none. It reads one number, and of the rows none.
+    /// Returns the largest O_ID of the customer's orders (clause 2.6.2.2), `None` exactly if there is
+    /// none. Reads one number of the index, and no row.
     pub fn latest_order<T: Rows>(&self, rows: &T, customer: CustomerKey) -> Option<u32>
         requires { FitsLatestBy (T.slot rows.now) self.now (T.tables rows.now) }
         ensures { result ≡ latest (T.tables rows.now).orders customer }
@@ -55,9 +56,10 @@ impl LatestOrders {
         number_of(*self.numbers.get(slot)?)
     }
 
-    /// Notes the order of that number, from 1, as the customer's latest, and gives what stood there, for
-    /// `take_back`. A customer whose row is not here changes nothing. The index fits the rows with that
-    /// order where it was larger than all of the customer's before (`noted_order_fits`).
+    /// Records an order of that number, from 1, as the customer's latest. Returns what was recorded
+    /// before, for `take_back`. Changes nothing if the customer's row is not here. The index fits the
+    /// rows with that order if its number is larger than those of the customer's other orders
+    /// (`noted_order_fits`).
     pub fn note_order<T: Rows>(
         &mut self,
         rows: &T,
@@ -75,9 +77,9 @@ impl LatestOrders {
         }
     }
 
-    /// Raises the customer's number to that of an order, from 1, where it was less. A customer whose row is not here
-    /// changes nothing. The index fits any rows with that order where none stood at its key before, or one of the same
-    /// customer (`raised_order_fits`).
+    /// Raises the customer's number to that of an order, from 1, if it was less. Changes nothing if the
+    /// customer's row is not here. The index fits any rows with that order if no order was stored at its
+    /// key before, or one of the same customer (`raised_order_fits`).
     pub fn raise_order<T: Rows>(&mut self, rows: &T, customer: CustomerKey, number: u32)
         ensures { self.new ≡ raised (T.slot rows.now) (T.tables rows.now).scale.customers self.old customer number }
     {
@@ -88,9 +90,10 @@ impl LatestOrders {
         }
     }
 
-    /// Looks through all orders that are here for the customer's, and notes the largest number, 0 where there is none:
-    /// for an order that was taken away from that customer (`removed_order_fits`), or another that was put in its place
-    /// (`replaced_order_fits`), which is so in no consistent tables. A customer whose row is not here changes nothing.
+    /// Searches all orders that are here for the customer's, and records the largest number, 0 if there
+    /// is none. For use after an order of the customer was deleted (`removed_order_fits`), or was
+    /// replaced by another customer's (`replaced_order_fits`), which does not happen in consistent
+    /// tables. Changes nothing if the customer's row is not here.
     pub fn look_through<T: Rows>(&mut self, rows: &T, customer: CustomerKey)
         ensures { self.new ≡ with_latest (T.slot rows.now) (T.tables rows.now).scale.customers self.old customer
             (greatest (order_numbers (T.tables rows.now).orders customer)) }
@@ -99,8 +102,8 @@ impl LatestOrders {
         self.note_order(rows, customer, number);
     }
 
-    /// Puts back what `note_order` gave for that customer, where the order is taken away again. The
-    /// index is then as it was before (`taken_back_is_as_before`).
+    /// Restores what `note_order` returned for that customer, when the order is undone. The index is
+    /// then as it was before (`taken_back_is_as_before`).
     pub fn take_back<T: Rows>(&mut self, rows: &T, customer: CustomerKey, before: Option<u32>)
         ensures { self.new ≡ with_latest (T.slot rows.now) (T.tables rows.now).scale.customers self.old customer (unwrap_or before 0) }
     {
@@ -108,7 +111,7 @@ impl LatestOrders {
     }
 }
 
-// The place of the customer's number; `None` where the customer's row is not here.
+// Returns the place of the customer's number, `None` if the customer's row is not here.
 fn customer_slot<T: Rows>(rows: &T, customer: CustomerKey) -> Option<usize>
     ensures slot { result ≡ customer_slot_by (T.slot rows.now) (T.tables rows.now).scale.customers customer }
     ensures rows { AreRows (T.slot rows.now) (T.districts rows.now) (T.tables rows.now) }
@@ -122,7 +125,7 @@ fn customer_slot<T: Rows>(rows: &T, customer: CustomerKey) -> Option<usize>
     }
 }
 
-// The largest number of the customer's orders, 0 where there is none.
+// Returns the largest number of the customer's orders, 0 if there is none.
 fn greatest_number<T: Rows>(rows: &T, customer: CustomerKey) -> u32
     ensures { result ≡ greatest (order_numbers (T.tables rows.now).orders customer) }
 {
@@ -133,7 +136,7 @@ fn greatest_number<T: Rows>(rows: &T, customer: CustomerKey) -> u32
     number
 }
 
-// The larger of the number and the order's, where it is the customer's.
+// Returns the larger of the number and the order's, if the order is the customer's; else the number.
 fn grown(number: u32, customer: CustomerKey, key: OrderKey, order: &Order) -> u32
     ensures { result ≡ (if is_order_by customer (key, order.now) then max key.o_id number else number) }
 {
@@ -145,21 +148,21 @@ fn grown(number: u32, customer: CustomerKey, key: OrderKey, order: &Order) -> u3
     }
 }
 
-// What a number of the index means: 0 stands for none.
+// The meaning of a number of the index: 0 is none.
 fn number_of(number: u32) -> Option<u32>
     ensures { result ≡ number_of number }
 {
     if number == 0 { None } else { Some(number) }
 }
 
-// That many times 0.
+// Returns a vector of `count` zeros.
 fn zeros(count: usize, alloc: Global) -> Result<Vec<u32>, NoMemory>
     ensures { IfOk result (λ numbers. numbers.items ≡ replicate count 0) }
 {
     vec![in alloc; 0u32; count]
 }
 
-// Puts the number for the customer, unless a larger one stands there.
+// Records the number for the customer, unless a larger one is recorded.
 fn raise<T: Rows>(numbers: &mut [u32], rows: &T, customer: CustomerKey, number: u32)
     requires { HasPlace (T.slot rows.now) (T.tables rows.now).scale.customers numbers.old customer }
     ensures { numbers.new ≡ raised (T.slot rows.now) (T.tables rows.now).scale.customers numbers.old customer number }

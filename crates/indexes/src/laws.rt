@@ -1,58 +1,58 @@
-//! Laws of the look-ups: functions that do nothing, and are proved.
+//! Proved laws of the look-ups, as functions with empty bodies.
 ghost use Rattle.indexes.specs.NameLaws.{MiddleIsOne, MiddleIsThere, SameNamesFit, PutKeepsNames};
 ghost use Rattle.indexes.specs.LatestLaws.{NotedOrderFits, PutOrderFits, RaisedOrderFits, RemovedOrderFits, ReplacedOrderFits, TakenBackIsAsBefore};
 
-/// At most one customer of a district is the middle one of those with a last name.
+/// At most one customer of a district is the middle one of those with a given last name.
 pub fn middle_is_one()
     ensures { MiddleIsOne }
 {}
 
-/// The middle one is a customer of the tables, whose last name is the one that was asked for.
+/// The middle one is a customer of the tables, and has the last name that was asked for.
 pub fn middle_is_there()
     ensures { MiddleIsThere }
 {}
 
-/// An index by last name that fits tables fits all tables of the same scale and the same names of
-/// customers, whatever else differs, wherever the districts stand.
+/// An index by last name that fits tables fits all tables of the same scale and the same customers'
+/// names, whatever else differs, and for any places of the districts.
 pub fn same_names_fit()
     ensures { SameNamesFit }
 {}
 
-/// A customer's row that is put with the same first and last name leaves all names as they are.
+/// Replacing a customer's row by one with the same first and last name leaves all names unchanged.
 pub fn put_keeps_names()
     ensures { PutKeepsNames }
 {}
 
-/// An index of latest orders that fits tables fits them with one order more, once that is noted: it
-/// was not there before, and its number is larger than those of its customer's orders.
+/// An index of latest orders that fits tables fits them with one order more, once the order is noted.
+/// The order must be new, with a number larger than those of its customer's orders.
 pub fn noted_order_fits()
     ensures { NotedOrderFits }
 {}
 
-/// In any tables: an index of latest orders that fits them fits them with an order that is put where none stood, or
-/// one of the same customer, once it is raised to that.
+/// In any tables: an index of latest orders that fits them fits them with an order inserted, once it is
+/// raised to the order's number. At the order's key there must have been no order, or one of the same
+/// customer.
 pub fn raised_order_fits()
     ensures { RaisedOrderFits }
 {}
 
-/// In any tables: where the order is put in place of another customer's, that customer's orders are looked through
-/// too.
+/// In any tables: if the order replaces another customer's, that customer's orders are searched too.
 pub fn replaced_order_fits()
     ensures { ReplacedOrderFits }
 {}
 
-/// In any tables: where an order is taken away, its customer's orders are looked through.
+/// In any tables: if an order is deleted, its customer's orders are searched.
 pub fn removed_order_fits()
     ensures { RemovedOrderFits }
 {}
 
-/// Where the number that stood there is put back, the index is as it was before the order was noted.
+/// Restoring the recorded number makes the index as it was before the order was noted.
 pub fn taken_back_is_as_before()
     ensures { TakenBackIsAsBefore }
 {}
 
-/// An order's row that is put with the same customer, as when the order is delivered, leaves an index
-/// of latest orders fitting.
+/// Replacing an order's row by one with the same customer, as a delivery does, leaves an index of latest
+/// orders fitting.
 pub fn put_order_fits()
     ensures { PutOrderFits }
 {}

@@ -1,4 +1,4 @@
-//! Look-ups in the tables that would else be scans: a customer by last name, and a customer's
+//! Indexes for look-ups that would otherwise scan the tables: a customer by last name, and a customer's
 //! latest order. Clauses are those of TPC-C 5.11.
 #![tactic(auto)]
 

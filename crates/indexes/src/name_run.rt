@@ -7,8 +7,8 @@ use std::alloc::Global;
 use std::cmp::Ordering;
 use std::marker::Model;
 
-/// The places of a district's customers by last name, then by first name, then by number. The place
-/// of a customer is C_ID less 1, which is below 3,000.
+/// The places of a district's customers by last name, then by first name, then by number. A customer's
+/// place is C_ID less 1, and below 3,000.
 #[derive(Drop)]
 pub(crate) struct NameRun {
     places: Vec<u16>,
@@ -23,7 +23,8 @@ impl Model for NameRun {
 }
 
 impl NameRun {
-    /// The run of these rows, by the sort of the library. Want of memory leaves nothing behind.
+    /// Builds the run of these rows, with the library's sort. Returns NoMemory if an allocation fails;
+    /// nothing stays allocated then.
     pub(crate) fn sorted(alloc: Global, rows: &[Customer]) -> Result<Self, NoMemory>
         requires { length rows.now ≤ 3000 }
         ensures { IfOk result (IsNameRun (last_at rows.now) (first_at rows.now) (length rows.now)) }
@@ -34,8 +35,8 @@ impl NameRun {
         Ok(NameRun { places })
     }
 
-    /// The number of the middle one of the customers with that last name, by two binary searches;
-    /// `None` where nobody has it.
+    /// Returns the number of the middle one of the customers with that last name, `None` if nobody has
+    /// it. Takes two binary searches.
     pub(crate) fn middle(&self, rows: &[Customer], last: &str) -> Option<u32>
         requires { IsNameRun (last_at rows.now) (first_at rows.now) (length rows.now) self.now }
         ensures { (home : DistrictKey)
@@ -56,7 +57,7 @@ impl NameRun {
     }
 }
 
-// How two places of a run compare.
+// Compares two places of a run.
 fn compare(rows: &[Customer], a: u16, b: u16) -> Ordering
     ensures { result ≡ place_cmp (last_at rows.now) (first_at rows.now) a b }
 {
@@ -66,7 +67,7 @@ fn compare(rows: &[Customer], a: u16, b: u16) -> Ordering
         .then(a.cmp(&b))
 }
 
-// The last name at a place, empty past the rows.
+// Returns the last name at a place, empty past the rows.
 fn last_name(rows: &[Customer], place: u16) -> &str
     ensures { result.now ≡ last_at rows.now place }
 {
@@ -76,7 +77,7 @@ fn last_name(rows: &[Customer], place: u16) -> &str
     }
 }
 
-// The first name at a place, empty past the rows.
+// Returns the first name at a place, empty past the rows.
 fn first_name(rows: &[Customer], place: u16) -> &str
     ensures { result.now ≡ first_at rows.now place }
 {

@@ -1,8 +1,8 @@
--- What a contract sees of a log's length, and of a mark.
+-- The view of a log's length, and of a mark, in contracts.
 use Rattle.std.specs.Prelude.{ℕ}
 use Rattle.atomic_table.specs.Seated.{TableId}
 
--- the table of the length, and a number of entries: the length itself, or what the mark knows of it
+-- the table of the length, and a number of entries: the length itself, or the number that the mark records
 pub record LengthView : Type 0 where
   pub table : TableId
   pub entries : ℕ

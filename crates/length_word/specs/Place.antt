@@ -1,4 +1,4 @@
--- What a length and a mark keep of their place at the table.
+-- The place of a length or of a mark at the table.
 use Rattle.std.specs.Prelude.{◌≡◌, ◌<◌, []}
 use Rattle.atomic_table.specs.Seated.{TableId}
 use Rattle.atomic_table.specs.declared.shared.Seat.{Seat}

@@ -6,7 +6,8 @@ use std::alloc::{AllocError, Global};
 use std::marker::Model;
 use std::sync::Arc;
 
-/// The length of a log, from 0 to 2^32 - 1 entries. The log alone has it, and makes it grow with each entry.
+/// The length of a log, from 0 to 2^32 - 1 entries. The log owns it, and lets it grow by one with each
+/// entry.
 #[derive(Drop)]
 pub struct Length {
     board: Board,
@@ -28,8 +29,8 @@ impl Model for Length {
     ghost invariant = { λ l. (IsPlaceAt (arc_value l.board).shared.table_id l.place) × (l.place.me.0 ≡ log_view l.entries) };
 }
 
-/// A number of entries that a log has reached: its length is this or more from now on. A mark may be sent
-/// to another thread.
+/// A number of entries that a log has reached: the length is this or more from now on. A mark may be
+/// sent to another thread.
 #[derive(Drop)]
 pub struct Mark {
     board: Board,
@@ -52,7 +53,8 @@ impl Model for Mark {
 }
 
 impl Length {
-    /// The length of an empty log. Nothing is left after an error.
+    /// The length of an empty log. Returns `AllocError` if an allocation fails; nothing stays allocated
+    /// then.
     pub fn open(alloc: Global) -> Result<Length, AllocError>
         ensures { IfOk result (λ length. length.entries ≡ 0) }
     {
@@ -64,8 +66,8 @@ impl Length {
         })
     }
 
-    /// A new mark, which knows the length. It takes no memory, and fails only where the length has more
-    /// marks than an `Arc` can count.
+    /// Returns a new mark, which records the current length. Allocates nothing, and fails only if the
+    /// length has more marks than an `Arc` can count.
     pub fn mark(&mut self) -> Result<Mark, AllocError>
         ensures same { self.new ≡ self.old }
         ensures mark { IfOk result (λ mark. mark ≡ self.old) }
@@ -79,14 +81,14 @@ impl Length {
         })
     }
 
-    /// The length.
+    /// The number of entries of the log.
     pub fn entries(&self) -> u32
         ensures { result ≡ self.now.entries }
     {
         self.entries
     }
 
-    /// The log has one entry more.
+    /// Adds one to the length.
     pub fn grow(&mut self)
         requires { self.old.entries + 1 < 2 ^ 32 }
         ensures { self.new ≡ length_view self.old.table (self.old.entries + 1) }
@@ -95,7 +97,7 @@ impl Length {
         places::lengthen(&self.board, &mut self.place, self.entries);
     }
 
-    /// Learns that a mark knows no more than the length. Both stay as they were.
+    /// Shows that a mark records at most the length. Changes neither.
     pub fn check(&mut self, mark: &mut Mark)
         requires { mark.old.table ≡ self.old.table }
         ensures below { mark.old.entries ≤ self.old.entries }
@@ -106,7 +108,7 @@ impl Length {
         places::compare(&self.board, &mut self.place);
     }
 
-    /// The mark knows the length from now on.
+    /// Sets the mark to the current length.
     pub fn show(&mut self, mark: &mut Mark)
         requires { mark.old.table ≡ self.old.table }
         ensures same { self.new ≡ self.old }
@@ -118,14 +120,14 @@ impl Length {
 }
 
 impl Mark {
-    /// The number of entries that it knows.
+    /// The number of entries that the mark records.
     pub fn entries(&self) -> u32
         ensures { result ≡ self.now.entries }
     {
         self.entries
     }
 
-    // Learns what another mark knows.
+    // Sets the mark to the number that another mark records.
     fn learn(&mut self, other: &mut Mark)
         requires { other.old.table ≡ self.old.table }
         ensures learnt { self.new ≡ other.old }
@@ -136,7 +138,7 @@ impl Mark {
     }
 }
 
-/// Both marks know the larger of their two numbers from now on. It waits for nobody.
+/// Sets both marks to the larger of their two numbers. Never waits.
 pub fn meet(one: &mut Mark, other: &mut Mark)
     requires { one.old.table ≡ other.old.table }
     ensures one { one.new ≡ length_view one.old.table (max one.old.entries other.old.entries) }

@@ -1,8 +1,8 @@
-//! The length of a log as a word that stands beside it, and marks: a mark knows a number of entries that
-//! the log has reached. Who has a mark can so speak of the log's length, and learn from another mark,
-//! without the lock that the log stands under.
+//! The length of a log, stored in a word beside the log, and marks. A mark records a number of entries
+//! that the log has reached. A mark is read, and set to the larger number of another mark, without the
+//! lock that guards the log.
 //!
-//! Nothing here waits, and only `Length::open` takes memory.
+//! No function waits, and only `Length::open` allocates.
 #![tactic(auto)]
 
 mod length;

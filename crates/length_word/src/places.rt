@@ -9,12 +9,12 @@ use atomic_table::{Seat, Table};
 use std::alloc::{AllocError, Global};
 use std::sync::Arc;
 
-/// The table of a length. Its one word has the length.
+/// The table of a length. Its one word contains the length.
 pub type Board = Arc<Table<(), View, (), NoneBeyond, Global>, Global>;
 
 pub type Place = Seat<(), View>;
 
-/// The table of an empty log, and the log's own place.
+/// Opens the table of an empty log. Returns the table and the log's own place.
 pub fn open(alloc: Global) -> Result<(Board, Place), AllocError>
     ensures place { IfOk result (λ pair. IsPlaceAt (arc_value pair.0).shared.table_id pair.1) }
     ensures view { IfOk result (λ pair. pair.1.me.0 ≡ log_view 0) }
@@ -24,7 +24,7 @@ pub fn open(alloc: Global) -> Result<(Board, Place), AllocError>
     Ok((board, place))
 }
 
-/// A new place, which knows as much.
+/// Splits off a new place, which records the same number of entries.
 pub fn copy(board: &Board, place: &mut Place) -> Place
     requires { IsPlaceAt (arc_value board.now).shared.table_id place.old }
     ensures place { IsPlaceAt (arc_value board.now).shared.table_id place.new }
@@ -35,7 +35,7 @@ pub fn copy(board: &Board, place: &mut Place) -> Place
     board.shared.split_seat::<Copies>(place)
 }
 
-/// The place takes in another, and notes what that one knew.
+/// The place takes in another, and records that one's number of entries as noted.
 pub fn take_in(board: &Board, place: &mut Place, other: Place)
     requires place { IsPlaceAt (arc_value board.now).shared.table_id place.old }
     requires beside { IsPlaceAt (arc_value board.now).shared.table_id other }
@@ -45,7 +45,7 @@ pub fn take_in(board: &Board, place: &mut Place, other: Place)
     board.shared.join_seat::<Notes>(place, other);
 }
 
-/// The log's own place learns that what it noted is no more than the length.
+/// Shows that the number that the log's own place noted is at most the length.
 pub fn compare(board: &Board, place: &mut Place)
     requires place { IsPlaceAt (arc_value board.now).shared.table_id place.old }
     requires log { place.old.me.0.is_log ≡ true }
@@ -56,7 +56,7 @@ pub fn compare(board: &Board, place: &mut Place)
     board.shared.load::<Compares>(place, 0);
 }
 
-/// The length is one more, which is the number given.
+/// Sets the length to the number given, which is one more than before.
 pub fn lengthen(board: &Board, place: &mut Place, length: u32)
     requires place { IsPlaceAt (arc_value board.now).shared.table_id place.old }
     requires log { place.old.me.0.is_log ≡ true }

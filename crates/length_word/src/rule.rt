@@ -1,17 +1,17 @@
 //! The rule of a length's table, and what its steps do to the views.
 use atomic_table::{Join, Play, Split, TableRule};
 
-/// What a place at the table knows. No value of it is made.
+/// The view of a place at the table. Ghost data: no value of this type is ever made.
 pub struct View {
     /// Whether it is the log's own place.
     pub is_log: bool,
     /// A number of entries that the log has reached.
     pub reached: u64,
-    /// What the place that was taken in last knew.
+    /// The number of entries of the place that was taken in last.
     pub noted: u64,
 }
 
-/// The log's own place knows the length, which stands in the word, and no place knows more.
+/// The log's own place records the length, which is in the word. No place records more.
 pub struct NoneBeyond;
 
 impl TableRule<(), View, ()> for NoneBeyond {
@@ -22,7 +22,7 @@ impl TableRule<(), View, ()> for NoneBeyond {
     ghost first = { λ key. log_view 0 };
 }
 
-/// A new place knows as much.
+/// A new place records the same number of entries.
 pub struct Copies;
 
 impl Split<View> for Copies {
@@ -33,7 +33,7 @@ impl Split<View> for Copies {
     ghost right = { λ v. mark_view v.reached };
 }
 
-/// A place takes in another, and notes what that one knew.
+/// A place takes in another, and notes that one's number of entries.
 pub struct Notes;
 
 impl Join<View> for Notes {
@@ -44,7 +44,7 @@ impl Join<View> for Notes {
     ghost spent = { mark_view 0 };
 }
 
-/// The log's own place learns that it noted no more than the length.
+/// The log's own place shows that it noted at most the length.
 pub struct Compares;
 
 impl Play<(), View> for Compares {
@@ -53,7 +53,7 @@ impl Play<(), View> for Compares {
     ghost then = { λ step before found after. IsCompared before after };
 }
 
-/// The log's own place makes the length one more.
+/// The log's own place adds one to the length.
 pub struct Grows;
 
 impl Play<(), View> for Grows {

@@ -1,4 +1,4 @@
--- What the table answers, as the locks tell it.
+-- The table's answers, by the locks.
 use Rattle.std.proofs.Common.{◌≡◌, ℕ, ◌<◌, ◌≤◌, List, [], ◌∷◌, ◌++◌, length, get_or, take, drop, map, refl, sym, ap, subst, ◌∙◌, arith}
 use Rattle.std.specs.Prelude.{All, Contains}
 use Rattle.std.specs.List.{flat_map}
@@ -48,7 +48,7 @@ home_there warehouses w_id locks are =
     let known = home_known warehouses (get_or locks 0 no_lock).ticket_box.group at.known in
     (omega (arith, known.0, at.here), omega (arith, known.1, at.here))
 
--- what stands at a group's place is what stands in the group
+-- the content at a group's place is the group's content
 stands_there : (warehouses w_id : ℕ) (locks : List LockView) (group : Group) → AreLocksOf warehouses w_id locks → IsGroupOf warehouses group → warehouse_of group ≡ w_id
     → (stand_at (map stand_in locks) (place_in_warehouse group) ≡ stand_in (get_or locks (place_in_warehouse group) no_lock))
     × (left_in (map stand_in locks) group ≡ (stand_in (get_or locks (place_in_warehouse group) no_lock)).left)
@@ -76,7 +76,7 @@ same_holding warehouses w_id by locks are group mode known home =
     let there = stands_there warehouses w_id locks group are known home in
     ap (λ (s : Stand). holding s.group mode by) there.0 ∙ ap (λ (own : Group). holding own mode by) there.2
 
--- ---- who is free
+-- ---- free
 
 -- each place that is wanted is open
 pub all_open : (age : ℕ) (locks : List LockView) (wanted : List Spot) → IsRuling age locks wanted Free → All (IsOpen locks) wanted
@@ -104,7 +104,7 @@ granted_all warehouses w_id age by wants locks new waiters later claims are own 
       w_id = refl;
     }
 
--- ---- who waits, and who dies
+-- ---- waiting and dying
 
 pub free_is_no_death : (holdings : List HeldClaim) (age : ℕ) (wants : List Want) (group : Group) (oldest : ℕ) → IsFree holdings wants → MustDie holdings age wants group oldest → ⊥
 free_is_no_death holdings age wants group oldest free death = free death.some.0 death.some.1

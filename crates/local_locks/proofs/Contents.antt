@@ -1,4 +1,4 @@
--- What stands in a group that was claimed by itself, once the claim is back, as tests have it.
+-- The content of a group that was claimed alone, after the claim is given back, for tests.
 use Rattle.std.proofs.Common.{◌≡◌, ℕ, List, [], ◌∷◌, ◌++◌, length, get_or, set, take, drop, map, refl, sym, ap, subst, ◌∙◌, arith}
 use Rattle.std.specs.Prelude.{All}
 use Rattle.std.proofs.lemmas.List.{length-map}
@@ -27,7 +27,7 @@ pub one_granted : (by : Holder) (wants : List Want) (group : Group) (mode : Mode
     → claims ≡ fresh by group mode (left_in old.stands group) ∷ []
 one_granted by wants group mode old new claims is granted = granted.claims ∙ ap (λ (ws : List Want). map (claim_for by old.stands) (group_wants ws)) is
 
--- what was left in the group stands there once claims are back
+-- what was left in the group is its content after claims are given back
 pub left_back : (warehouses w_id : ℕ) (stands : List Stand) (group : Group) (content : Content) (claims : List ClaimView) → AreStandsOf warehouses w_id stands → IsGroupOf warehouses group → warehouse_of group ≡ w_id
     → left_in (all_kept_after claims (map (left_after group content) stands)) group ≡ content
 left_back warehouses w_id stands group content claims are known home =
@@ -43,14 +43,14 @@ only_turn one index by wants old new only turn =
     All-head (IsWaiting one) (waiting by wants) new.waiters
     (All-permutation (IsWaiting one) old.waiters (waiting by wants ∷ new.waiters) turn.waiters (subst (All (IsWaiting one)) (sym only) (All-cons (IsWaiting one) one [] refl (All-nil (IsWaiting one)))))
 
--- it is the turn of that one, who is granted the group
+-- it is the turn of that action, which is granted the group
 pub turn_granted : (one : Holder) (asked : List Want) (group : Group) (mode : Mode) (index : ℕ) (by : Holder) (old new : LockTableView) (claims : List ClaimView) → old.waiters ≡ waiting one asked ∷ [] → asked ≡ on_one group mode ∷ []
     → ((wants : List Want) × IsTurnOf index (waiting by wants) old new × Grants by wants old claims new) → Grants by (on_one group mode ∷ []) old claims new
 turn_granted one asked group mode index by old new claims only is turn =
     let same : waiting one asked ≡ waiting by turn.0 = only_turn (waiting one asked) index by turn.0 old new only turn.1 in
     subst (λ (ws : List Want). Grants by ws old claims new) (sym (ap (λ (w : WaitingAction). w.wants) same) ∙ is) turn.2
 
--- where nobody waited, and one has to wait, that one waits alone
+-- if no action waited, and one has to wait, it waits alone
 pub waits_alone : (start granted left asked idle back : LockTableView) (group : Group) (content : Content) (by : Holder) (wants : List Want) → start.waiters ≡ [] → granted.waiters ≡ start.waiters → left ≡ leaving_in granted group content
     → asked ≡ record left { waiters = left.waiters ++ waiting by wants ∷ [] } → idle ≡ asked → back.waiters ≡ idle.waiters → back.waiters ≡ waiting by wants ∷ []
 waits_alone start granted left asked idle back group content by wants none same leave waits still returned =

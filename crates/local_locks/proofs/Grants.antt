@@ -52,7 +52,7 @@ open_box mode lock agree clear =
     let shared : Agree Shared lock.ticket_box lock.holders = subst (λ m. Agree m lock.ticket_box lock.holders) (open_is_shared mode lock agree clear) agree in
     shared.0
 
--- what stands in its group stays
+-- the content of its group is unchanged
 pub open_stand : (mode : Mode) (lock : LockView) → IsLocked lock → conflicting mode lock ≡ [] → stand_of (given_out mode lock.ticket_box) ≡ stand_in lock
 open_stand mode lock agree clear =
     let box = open_box mode lock agree clear in
@@ -63,7 +63,7 @@ open_stand mode lock agree clear =
     given Shared b back = λ i. record { group = b.group; left = b.left; back = sym back i }
     given Exclusive b back = λ i. record { group = b.group; left = b.left; back = sym back i }
 
--- who holds it, holds it as the one does who is granted it
+-- if a want of this mode is free, the present holders hold the group in that mode
 open_held : (mode : Mode) (lock : LockView) → IsLocked lock → conflicting mode lock ≡ [] → holdings_of lock ≡ map (holding lock.ticket_box.group mode) lock.holders
 open_held Shared lock agree clear =
     ap (λ m. map (holding lock.ticket_box.group m) lock.holders) (open_is_shared Shared lock agree clear)

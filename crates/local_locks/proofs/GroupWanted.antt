@@ -1,4 +1,4 @@
--- A want stands for each group that is covered.
+-- A want has a want for each group that it covers.
 use Rattle.std.proofs.Common.{◌≡◌, ◌⊎◌, ℕ, zero, suc, ◌+◌, ◌<◌, ◌≤◌, [], ◌∷◌, refl, sym, ap, subst, ◌∙◌, ⊎_elim, arith}
 use Rattle.std.specs.Prelude.{Contains}
 use Rattle.requests.specs.declared.group.Group.{Group}

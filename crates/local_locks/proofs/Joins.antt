@@ -1,4 +1,4 @@
--- What is said to one who wants the group at one place, and to one who wants more.
+-- The ruling on a want for the group at one place, and on several wants.
 use Rattle.std.proofs.Common.{◌≡◌, ◌⊎◌, ℕ, zero, suc, ◌+◌, ◌<◌, ◌≤◌, Bool, true, false, List, [], ◌∷◌, ◌++◌, length, get_or, take, ltb, refl, sym, ap, subst, ◌∙◌, ⊎_elim, arith}
 use Rattle.std.specs.Prelude.{Contains, if◌then◌else◌}
 use Rattle.std.specs.List.{flat_map}
@@ -24,7 +24,7 @@ at_place locks mode number lock here is = get_or-map (conflicting mode) locks nu
 stops_here : (locks : List LockView) (number : ℕ) (mode : Mode) (holder : Holder) → Contains (conflicting_at locks mode number) holder → Stops locks (spot number mode ∷ []) number holder
 stops_here locks number mode holder c = record { mode = mode; wants = contains_itself (spot number mode); holds = c }
 
--- who is in the way of a want for one place stands there
+-- a holder that conflicts with a want for one place is at that place
 stopped_there : (locks : List LockView) (number other : ℕ) (mode : Mode) (holder : Holder) → Stops locks (spot number mode ∷ []) other holder → (number ≡ other) × Contains (conflicting_at locks mode number) holder
 stopped_there locks number other mode holder s =
     let same : spot number mode ≡ spot other s.mode = contains_one (spot number mode) (spot other s.mode) s.wants in

@@ -32,7 +32,7 @@ on_group_wants group [] = refl
 on_group_wants group (h ∷ hs) =
     sum_by-cons (tickets_for group) (claimed h) (map claimed hs) ∙ ap (λ (n : ℕ). tickets_by group h + n) (on_group_wants group hs) ∙ sym (sum_by-cons (tickets_by group) h hs)
 
--- who holds these claims has their tickets
+-- the holders of these claims have their tickets
 pub on_claims : (group : Group) (claims : List ClaimView) → tickets_on group (map held_by claims) ≡ tickets_out group claims
 on_claims group [] = refl
 on_claims group (c ∷ cs) =
@@ -143,7 +143,7 @@ module _ (here : Group → Bool) (rows : Group → Content) where
       let same : is_same c.group group ≡ true = ap (λ (g : Group). is_same c.group g) (sym own) ∙ is_same-itself c.group in
       omega (arith, sum_by-cons (tickets_of group) c claims, yes_by group (held_by c) same, one_at_least c.mode)
 
-  -- Each tells what is committed: where it is on a group that is here, no exclusive claim was out on it.
+  -- Each records what is committed: if it is on a group that is here, no exclusive claim was out on it.
   granted_recorded : (tables : Group → Content) (old : List HeldClaim) (all others : List ClaimView)
       → ((group : Group) → IsTrue (here group) → tickets_out group others + (8 - tickets_on group old) ≡ 8)
       → ((group : Group) → tickets_out group all + tickets_on group old ≤ 8)
@@ -167,9 +167,9 @@ module _ (here : Group → Bool) (rows : Group → Content) where
   all_others P [] ys all = all
   all_others P (x ∷ xs) ys all = all_others P xs ys (All-tail P x (xs ++ ys) all)
 
-  -- ---- what comes back
+  -- ---- claims that are given back
 
-  -- an exclusive claim that is settled tells what stands in its group
+  -- an exclusive claim that is settled records the content of its group
   settled_stands : (tables : Group → Content) (group : Group) (claims others : List ClaimView) → IsTrue (here group) → All IsSettled claims → All (RecordsHere here tables) (claims ++ others) → All (LeavesHere here rows) (claims ++ others)
       → 1 ≤ exclusive_out group claims → rows group ≡ tables group
   settled_stands tables group [] others near settled recorded left some = absurd (omega (arith, some))

@@ -31,7 +31,7 @@ use Rattle.local_locks.proofs.Members.{contains_here, contains_there}
 use Rattle.local_locks.proofs.Stands.{inside}
 use Rattle.local_locks.proofs.Views.{held_somewhere}
 
--- The lock at the place of a claim's group is the group's; and where the claim is out, its holder stands there.
+-- The lock at the place of a claim's group is the group's; and if the claim is out, its holder is in that lock.
 pub record IsHome (locks : List LockView) (claim : ClaimView) (number : ℕ) (lock : LockView) : Type 0 where
   pub small : number < length locks
   pub group : claim.group ≡ lock.ticket_box.group
@@ -132,7 +132,7 @@ back_out locks number old new claim small is back =
     subst (λ ws. IsPermutation ws (claimed (held_by claim) ∷ map claimed (flat_map holdings_of (set locks number new)))) (sym (claimed_all locks))
     (subst (λ ws. IsPermutation (flat_map claims_of locks) (claimed (held_by claim) ∷ ws)) (sym (claimed_all (set locks number new))) all)
 
--- What stands in the groups, where it changes in one of them.
+-- The contents of the groups, if one of them changes.
 pub one_stand : (warehouses w_id : ℕ) (locks : List LockView) (number : ℕ) (old new : LockView) (change : Stand → Stand) → AreLocksOf warehouses w_id locks → number < length locks → old ≡ get_or locks number old
     → stand_in new ≡ change (stand_in old) → ((stand : Stand) → stand.group ≢ old.ticket_box.group → change stand ≡ stand) → map stand_in (set locks number new) ≡ map change (map stand_in locks)
 one_stand warehouses w_id locks number old new change are small is own others =
@@ -192,7 +192,7 @@ left_stands warehouses w_id locks number old new group content are small is made
         let test : is_same stand.group group ≡ false = is_same-other stand.group group (λ e. apart (sym e ∙ same)) in
         ap (λ (t : Bool). record { group = stand.group; left = if t then content else stand.left; back = stand.back }) test
 
--- who holds what stays
+-- all holdings are unchanged
 left_held : (locks : List LockView) (number : ℕ) (d new : LockView) → number < length locks → holdings_of new ≡ holdings_of (get_or locks number d) → flat_map holdings_of (set locks number new) ≡ flat_map holdings_of locks
 left_held [] number d new small same = refl
 left_held (lock ∷ locks) zero d new small same = ap (λ hs. hs ++ flat_map holdings_of locks) same

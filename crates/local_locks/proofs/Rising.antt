@@ -1,4 +1,4 @@
--- Ages rise along who waits for whom.
+-- Ages rise along each chain of waits.
 use Rattle.std.proofs.Common.{ℕ, ◌<◌, List, [], ◌∷◌, arith}
 use Rattle.std.specs.Prelude.{All}
 use Rattle.std.proofs.lemmas.List.Elements.{All-contains}

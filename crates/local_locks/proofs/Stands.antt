@@ -1,4 +1,4 @@
--- What stands in the groups of a table, once something else is left in one, and once claims are back.
+-- The contents of a table's groups, after something else is left in one, and after claims are given back.
 use Rattle.std.proofs.Common.{◌≡◌, ℕ, ◌<◌, Bool, true, List, [], ◌∷◌, length, get_or, map, refl, sym, ap, subst, ◌∙◌, arith}
 use Rattle.std.specs.Prelude.{if◌then◌else◌}
 use Rattle.std.proofs.lemmas.List.{get_or-map, length-map}
@@ -33,7 +33,7 @@ inside warehouses group known = grind arith
 abbrev unset : Group → Stand
 unset group = record { group = group; left = nothing; back = nothing }
 
--- what is left in a group stands there
+-- what is left in a group is its content
 pub left_there : (warehouses w_id : ℕ) (stands : List Stand) (group : Group) (content : Content) → AreStandsOf warehouses w_id stands → IsGroupOf warehouses group → warehouse_of group ≡ w_id
     → left_in (map (left_after group content) stands) group ≡ content
 left_there warehouses w_id stands group content are known home =
@@ -47,7 +47,7 @@ left_there warehouses w_id stands group content are known home =
     ap (λ (s : Stand). s.left) (get_or-map (left_after group content) stands place d d (omega (arith, small, are.all_there)))
     ∙ ap (λ (t : Bool). if t then content else stand.left) test
 
--- claims that come back leave what stands there
+-- giving claims back leaves the contents unchanged
 pub left_kept : (claims : List ClaimView) (stands : List Stand) (group : Group) → place_in_warehouse group < length stands → left_in (all_kept_after claims stands) group ≡ left_in stands group
 left_kept [] stands group small = refl
 left_kept (claim ∷ claims) stands group small =

@@ -1,4 +1,4 @@
--- One of those who wait has its turn.
+-- The turn of one of the waiting actions.
 use Rattle.std.proofs.Common.{◌≡◌, ℕ, suc, ◌<◌, ◌≤◌, List, ◌∷◌, ◌++◌, length, get_or, map, take, drop, sym, ap, subst, ◌∙◌, arith}
 use Rattle.std.specs.Prelude.{All}
 use Rattle.std.specs.List.{flat_map, remove}
@@ -20,7 +20,7 @@ use Rattle.local_locks.proofs.Asks.{no_lock, home_there}
 use Rattle.local_locks.proofs.Covering.{group_wanted_length}
 use Rattle.local_locks.proofs.Views.{records_wait, records_death}
 
--- this one was taken out of those who wait, since it is its turn
+-- this action was removed from the waiting actions, since it is its turn
 pub record IsTaken (warehouses w_id : ℕ) (locks : List LockView) (waiters rest : List WaiterView) (p : WaiterView) (next : Next) : Type 0 where
   pub locks_of : AreLocksOf warehouses w_id locks
   pub all : All (IsParked warehouses w_id) waiters

@@ -1,4 +1,4 @@
--- Whose turn it is, once one more of those who wait was looked at.
+-- Whose turn it is, after one more of the waiting actions was looked at.
 use Rattle.std.proofs.Common.{◌≡◌, ◌≢◌, ◌⊎◌, ℕ, ◌+◌, ◌<◌, Bool, true, false, List, [], ◌∷◌, ◌++◌, Option, Some, None, length, get_or, take, eqb, ltb, ◌||◌, ◌&&◌, inl, inr, refl, sym, ap, subst, ◌∙◌, ⊎_elim, arith}
 use Rattle.std.specs.Prelude.{All, MatchOption, if◌then◌else◌}
 use Rattle.std.specs.List.{flat_map}
@@ -14,7 +14,7 @@ use Rattle.local_locks.specs.Locks.{LockView, WaiterView}
 use Rattle.local_locks.specs.Rulings.{IsRuling, spots_of}
 use Rattle.local_locks.specs.Turns.{StaysParked, StaysIfBefore, IsNext, is_before, chosen, sooner}
 
--- ---- who comes before whom
+-- ---- the order of turns
 
 before_itself : (a : Holder) → IsBefore a a → ⊥
 before_itself a before = ⊎_elim (λ (older : a.age < a.age). omega (arith, older)) (λ (same : (a.age ≡ a.age) × (a.place < a.place)). omega (arith, same.1)) before
@@ -43,9 +43,9 @@ records_not_before a b isnt before =
     same_not : (m n p q : ℕ) → (ltb m n || (eqb m n && ltb p q)) ≡ false → m ≡ n → p < q → ⊥
     same_not m n p q isnt same lesser = grind arith
 
--- ---- one more of those who wait
+-- ---- one more of the waiting actions
 
--- who was found before one more was looked at
+-- the action found before one more was looked at
 still_next : (locks : List LockView) (xs : List WaiterView) (p : WaiterView) (next : Next) → IsNext locks xs next → StaysIfBefore locks next.by p → IsNext locks (xs ++ p ∷ []) next
 still_next locks xs p next is last = record {
   inside = omega (arith, is.inside, length-append xs (p ∷ []));

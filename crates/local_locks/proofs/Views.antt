@@ -1,4 +1,4 @@
--- What the locks say, told of the plain list of all claims that are out.
+-- The locks, in terms of the plain list of all claims that are out.
 use Rattle.std.proofs.Common.{◌≡◌, ◌≢◌, ◌⊎◌, ℕ, zero, suc, ◌+◌, ◌<◌, ◌≤◌, Bool, true, false, List, [], ◌∷◌, ◌++◌, length, get_or, map, inl, inr, refl, sym, ap, subst, ◌∙◌, ⊎_elim, cond, arith}
 use Rattle.std.specs.Prelude.{All, Contains, count_by, if◌then◌else◌, ◌&&◌}
 use Rattle.std.specs.List.{flat_map}
@@ -133,9 +133,9 @@ pub shared_there : (warehouses w_id : ℕ) (locks : List LockView) (number : ℕ
 shared_there warehouses w_id locks number d are small =
     shared_from warehouses w_id 0 locks number d (are_from warehouses w_id 0 locks (λ k e inside. subst (λ (n : ℕ). IsLockAt warehouses w_id n (get_or locks k e)) (omega arith) (are.each k e inside))) small
 
--- ---- who holds what
+-- ---- holders and their holdings
 
--- a holder stands at a lock, by its group and mode
+-- a holder is in a lock, by its group and mode
 pub record IsHeldAt (locks : List LockView) (h : HeldClaim) (number : ℕ) (lock : LockView) : Type 0 where
   pub small : number < length locks
   pub is : get_or locks number lock ≡ lock
@@ -165,7 +165,7 @@ held_here locks number d by small c =
     let lock = get_or locks number d in
     contains_joined holdings_of locks lock (holding lock.ticket_box.group lock.ticket_box.mode by) (Contains-get_or locks number d small) (mapped (holding lock.ticket_box.group lock.ticket_box.mode) lock.holders by c)
 
--- ---- who is in the way
+-- ---- conflicting holders
 
 taken : (mode : Mode) (lock : LockView) (by : Holder) → is_taken mode lock.ticket_box.mode (length lock.holders) ≡ true → Contains lock.holders by → Contains (conflicting mode lock) by
 taken mode lock by is c = subst (λ (b : Bool). Contains (if b then lock.holders else []) by) (sym is) c
@@ -200,7 +200,7 @@ few_holders lock agree =
     (λ exclusive. let one : Agree Exclusive lock.ticket_box lock.holders = subst (λ m. Agree m lock.ticket_box lock.holders) exclusive agree in omega (arith, one.1))
     (λ shared. let some : Agree Shared lock.ticket_box lock.holders = subst (λ m. Agree m lock.ticket_box lock.holders) shared agree in some.1)
 
--- one who is in the way stands at a place that is wanted
+-- a conflicting holder is at a place that is wanted
 pub record IsInTheWay (warehouses w_id : ℕ) (locks : List LockView) (wants : List Want) (h : HeldClaim) : Type 0 where
   pub stops : Stops locks (flat_map spots_of wants) (place_in_warehouse h.group) h.by
   pub known : IsGroupOf warehouses h.group
@@ -237,7 +237,7 @@ in_the_way warehouses w_id locks wants h are blocks =
       home = ap warehouse_of (sym held.group) ∙ at.here;
     }
 
--- who holds the group of a place with this age and place
+-- the holding of this holder on the group at this place
 abbrev pub held_of : List LockView → ℕ → LockView → Holder → HeldClaim
 held_of locks number d by = holding (get_or locks number d).ticket_box.group (get_or locks number d).ticket_box.mode by
 
@@ -245,7 +245,7 @@ nothing_at : (locks : List LockView) (mode : Mode) (number : ℕ) (by : Holder) 
 nothing_at locks mode number by past c =
     contains_none by (subst (λ hs. Contains hs by) (get_or_past (map (conflicting mode) locks) number [] (omega (arith, past, length-map locks (conflicting mode)))) c)
 
--- who stands in the way at a place has a claim that conflicts
+-- a conflicting holder at a place has a claim that conflicts
 pub stands_in_the_way : (warehouses w_id : ℕ) (locks : List LockView) (wants : List Want) (number : ℕ) (d : LockView) (by : Holder) → AreLocksOf warehouses w_id locks → All (IsOwn warehouses w_id) wants
     → Stops locks (flat_map spots_of wants) number by → (number < length locks) × Blocks (flat_map holdings_of locks) wants (held_of locks number d by)
 stands_in_the_way warehouses w_id locks wants number d by are own stops = by_place (lt_or_le number (length locks))

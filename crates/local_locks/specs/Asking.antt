@@ -1,4 +1,4 @@
--- What a lock table answers, and what it leaves.
+-- The answers of a lock table, and the table after each answer.
 use Rattle.std.specs.Prelude.{◌≡◌, ◌⊎◌, ℕ, ◌<◌, List, [], ◌∷◌, ◌++◌, All, length, map, slice_index_or, if◌then◌else◌}
 use Rattle.std.specs.List.{remove}
 use Rattle.std.specs.List.Sorted.{IsPermutation}
@@ -20,15 +20,15 @@ use Rattle.local_locks.specs.GroupWants.{group_wants}
 
 -- ---- grants
 
--- the claim that is granted to this one for a want: under it nothing was done yet, and it tells what stands in its group
+-- the claim granted to this action for a want: nothing was done under it yet, and it records the content of its group
 abbrev pub claim_for : Holder → List Stand → GroupWant → ClaimView
 claim_for by stands group_want = fresh by group_want.group group_want.mode (left_in stands group_want.group)
 
--- what this holder holds for a want
+-- the holding of this action for a want
 abbrev pub held_for : Holder → GroupWant → HeldClaim
 held_for by group_want = record { by = by; group = group_want.group; mode = group_want.mode }
 
--- One who is free has a claim on each group that is wanted, and holds them. What stands in the groups stays.
+-- All wanted groups are free, and the action gets and holds a claim on each. The groups' contents are unchanged.
 pub record Grants (by : Holder) (wants : List Want) (old : LockTableView) (granted : List ClaimView) (new : LockTableView) : Type 0 where
   pub free : IsFree old.holdings wants
   pub claims : granted ≡ map (claim_for by old.stands) (group_wants wants)
@@ -36,22 +36,22 @@ pub record Grants (by : Holder) (wants : List Want) (old : LockTableView) (grant
   pub stands : new.stands ≡ old.stands
   pub w_id : new.w_id ≡ old.w_id
 
--- ---- who comes back
+-- ---- claims that are given back
 
--- who holds this claim
+-- the holding of a claim, by the holder that it records
 abbrev pub held_by : ClaimView → HeldClaim
 held_by claim = record { by = claim.by; group = claim.group; mode = claim.mode }
 
--- these are claims of the table that are out
+-- each of these claims is one of the table's holdings
 abbrev pub AreHeld : List HeldClaim → List ClaimView → Type 0
 AreHeld holdings claims = (others : List HeldClaim) × IsPermutation holdings (map held_by claims ++ others)
 
--- what a claim is on, and how, whoever holds it
+-- the group and mode of a holding, without its holder
 abbrev pub claimed : HeldClaim → GroupWant
 claimed holding = record { group = holding.group; mode = holding.mode }
 
--- All these claims are those and the others: of each group as many shared ones and as many exclusive ones, whoever holds
--- them.
+-- The claims of `all` are those of `some` and `others` together: of each group the same number of shared and of
+-- exclusive claims, whoever holds them.
 abbrev pub AreTogether : List HeldClaim → List HeldClaim → List HeldClaim → Type 0
 AreTogether all some others = IsPermutation (map claimed all) (map claimed some ++ map claimed others)
 
@@ -63,45 +63,45 @@ IsOfHome w_id claim = warehouse_of claim.group ≡ w_id
 abbrev pub IsSettled : ClaimView → Type 0
 IsSettled claim = claim.mode ≡ Exclusive → claim.recorded ≡ claim.left
 
--- what stands in a group once a claim is back: nothing of it is taken back any more
+-- the content of a group after a claim is given back: nothing is left to undo in the claim's group
 abbrev pub kept_after : ClaimView → Stand → Stand
 kept_after claim stand = record { group = stand.group; left = stand.left; back = if is_same stand.group claim.group then stand.left else stand.back }
 
--- what stands in the groups once these claims are back, one after another
+-- the contents of the groups after these claims are given back, one after another
 abbrev pub all_kept_after : List ClaimView → List Stand → List Stand
 all_kept_after [] stands = stands
 all_kept_after (claim ∷ claims) stands = all_kept_after claims (map (kept_after claim) stands)
 
 -- ---- work under a claim
 
--- what stands in a group, and is there again once all is taken back, once this is left in one of the groups
+-- a group's content now and after an undo, if this is left in `group`
 abbrev pub left_after : Group → Content → Stand → Stand
 left_after group content stand = record { group = stand.group; left = if is_same stand.group group then content else stand.left; back = stand.back }
 
--- the table once this is left in one of its groups
+-- the table after this is left in one of its groups
 abbrev pub leaving_in : LockTableView → Group → Content → LockTableView
 leaving_in table group content = record table { stands = map (left_after group content) table.stands }
 
 -- ---- whose turn it is
 
--- one who waits for these wants
+-- an action that waits for these wants
 abbrev pub waiting : Holder → List Want → WaitingAction
 waiting by wants = record { by = by; wants = wants }
 
--- it is the older, or of the same age and of the lesser place
+-- the one is older, or of the same age and of the lesser place
 abbrev pub IsBefore : Holder → Holder → Type 0
 IsBefore a b = (a.age < b.age) ⊎ ((a.age ≡ b.age) × (a.place < b.place))
 
--- this one has to wait for others still
+-- the action still has to wait for others
 abbrev pub StillWaits : List HeldClaim → WaitingAction → Type 0
 StillWaits holdings waiting = MustWait holdings waiting.by.age waiting.wants
 
--- if this one's turn comes before that holder's, it has to wait still
+-- if this action's turn comes before that holder's, it still has to wait
 abbrev pub WaitsIfBefore : List HeldClaim → Holder → WaitingAction → Type 0
 WaitsIfBefore holdings by waiting = IsBefore waiting.by by → StillWaits holdings waiting
 
--- Of those who wait it is one's turn, who stands there among them, and all before that one have to wait still. All others go
--- on waiting, in their order.
+-- It is the turn of the waiting action at this index, and all before it still have to wait. All others go on waiting,
+-- in their order.
 pub record IsTurnOf (index : ℕ) (waiting : WaitingAction) (old new : LockTableView) : Type 0 where
   pub inside : index < length old.waiters
   pub there : (d : WaitingAction) → slice_index_or old.waiters index d ≡ waiting
@@ -109,23 +109,23 @@ pub record IsTurnOf (index : ℕ) (waiting : WaitingAction) (old new : LockTable
   pub waiters : IsPermutation old.waiters (waiting ∷ new.waiters)
   pub first : All (WaitsIfBefore old.holdings waiting.by) old.waiters
 
--- ---- what is answered
+-- ---- answers
 
 module _ {J : Type 0} where
-  -- what is answered to one who asks, and what the table is then
+  -- the answer to an action that asks, and the table after it
   abbrev pub Answers : Holder → List Want → LockTableView → Asked J → LockTableView → Type 0
   Answers by wants old (asked.Granted claims) new = Grants by wants old claims.items new × (new.waiters ≡ old.waiters)
   Answers by wants old asked.Waits new =
       MustWait old.holdings by.age wants × (new ≡ record old { waiters = old.waiters ++ waiting by wants ∷ [] })
   Answers by wants old (asked.Dies group holder) new = MustDie old.holdings by.age wants group holder × (new ≡ old)
 
-  -- what is answered to one who asks and would not wait, and what the table is then
+  -- the answer to an action that asks and doesn't wait, and the table after it
   abbrev pub AnswersAtOnce : Holder → List Want → LockTableView → Asked J → LockTableView → Type 0
   AnswersAtOnce by wants old (asked.Granted claims) new = Grants by wants old claims.items new × (new.waiters ≡ old.waiters)
   AnswersAtOnce by wants old asked.Waits new = MustWait old.holdings by.age wants × (new ≡ old)
   AnswersAtOnce by wants old (asked.Dies group holder) new = MustDie old.holdings by.age wants group holder × (new ≡ old)
 
-  -- whose turn it is and what is said to that one, and what the table is then
+  -- whose turn it is, the answer to that action, and the table after it
   abbrev pub TakesTurn : LockTableView → Turn J → LockTableView → Type 0
   TakesTurn old (turn.Granted index by claims) new =
       (wants : List Want) × IsTurnOf index (waiting by wants) old new × Grants by wants old claims.items new

@@ -1,4 +1,4 @@
--- The groups that are wanted, one by one, and what may be wanted of a table.
+-- The wanted groups, one by one, and what may be asked of a table.
 use Rattle.std.specs.Prelude.{◌≡◌, ℕ, zero, suc, List, [], ◌∷◌, All, AllPairs, map}
 use Rattle.std.specs.List.{flat_map}
 use Rattle.requests.specs.declared.group.Group.{Group}
@@ -13,7 +13,7 @@ use Rattle.groups.specs.declared.wants.Extent.TheVariants.{One, Every}
 use Rattle.groups.specs.declared.wants.Want.{Want}
 use Rattle.tickets.specs.Places.{IsGroupOf}
 
--- the groups of so many numbers from the first on
+-- the groups with `count` numbers from `first` on
 unfoldable pub numbered : (ℕ → Group) → ℕ → ℕ → List Group
 numbered group first zero = []
 numbered group first (suc count) = group first ∷ numbered group (suc first) count
@@ -32,26 +32,26 @@ abbrev pub groups_in : Extent → List Group
 groups_in (One group) = group ∷ []
 groups_in (Every prefix) = groups_under prefix.kind prefix.w_id
 
--- a want for one of the groups of a want
+-- the want for one group of a want
 abbrev pub group_want_of : Want → Group → GroupWant
 group_want_of want group = record { group = group; mode = want.mode }
 
--- the wants that a want stands for, group by group
+-- a want for each group of a want
 abbrev pub group_wants_in : Want → List GroupWant
 group_wants_in want = map (group_want_of want) (groups_in want.extent)
 
--- a want for each group that is wanted, want by want
+-- a want for each wanted group, want by want
 abbrev pub group_wants : List Want → List GroupWant
 group_wants wants = flat_map group_wants_in wants
 
--- ---- what may be wanted
+-- ---- what may be asked
 
--- the group, or all groups of the prefix, are there
+-- the group exists; nothing is required of a prefix
 abbrev pub IsThere : ℕ → Extent → Type 0
 IsThere warehouses (One group) = IsGroupOf warehouses group
 IsThere warehouses (Every prefix) = Unit {0}
 
--- the groups of the want are there
+-- the groups of the want exist
 abbrev pub IsWanted : ℕ → Want → Type 0
 IsWanted warehouses want = IsThere warehouses want.extent
 
@@ -60,15 +60,15 @@ abbrev pub home_of : Extent → ℕ
 home_of (One group) = warehouse_of group
 home_of (Every prefix) = prefix.w_id
 
--- groups of this warehouse are wanted
+-- the want is for groups of this warehouse
 abbrev pub IsOwn : ℕ → ℕ → Want → Type 0
 IsOwn warehouses w_id want = IsWanted warehouses want × (home_of want.extent ≡ w_id)
 
--- no group is wanted by both
+-- no group is in both wants
 abbrev pub AreApart : Want → Want → Type 0
 AreApart a b = Overlap a b → ⊥
 
--- groups of this warehouse are wanted, and none twice
+-- all wants are for groups of this warehouse, and no group is wanted twice
 pub record CanAsk (warehouses w_id : ℕ) (wants : List Want) : Type 0 where
   pub own : All (IsOwn warehouses w_id) wants
   pub once : AllPairs AreApart wants

@@ -1,4 +1,4 @@
--- What holds of every table, and of who waits for whom.
+-- Laws of every table, and of who waits for whom.
 use Rattle.std.specs.Prelude.{◌≡◌, ◌↔◌, ℕ, ◌≤◌, List, [], ◌∷◌, All, AllPairs, Any, Contains}
 use Rattle.requests.specs.declared.group.Group.{Group}
 use Rattle.groups.specs.Groups.{warehouse_of}
@@ -11,24 +11,24 @@ use Rattle.local_locks.specs.Conflicts.{Blocks, shared_on}
 use Rattle.local_locks.specs.Asking.{StillWaits}
 use Rattle.local_locks.specs.GroupWants.{CanAsk, group_want_of, group_wants_in}
 
--- two claims on one group are shared
+-- two claims on one group are both shared
 abbrev pub AreCompatible : HeldClaim → HeldClaim → Type 0
 AreCompatible a b = a.group ≡ b.group → (a.mode ≡ Shared) × (b.mode ≡ Shared)
 
--- No two claims conflict: of two on one group both are shared, and at most eight are out on each group.
+-- No two claims conflict: two on one group are both shared, and at most eight are out on each group.
 pub record NoneConflict (holdings : List HeldClaim) : Type 0 where
   pub pairs : AllPairs AreCompatible holdings
   pub most : (group : Group) → shared_on group holdings ≤ 8
 
--- where the claim is on this group, it is shared
+-- if the claim is on this group, it is shared
 abbrev pub IsNotAlone : Group → HeldClaim → Type 0
 IsNotAlone group holding = holding.group ≡ group → holding.mode ≡ Shared
 
--- where no exclusive claim on the group is out, nothing is left to be taken back in it
+-- if no exclusive claim on the group is out, nothing is left to undo in it
 abbrev pub IsUntouched : List HeldClaim → Stand → Type 0
 IsUntouched holdings stand = All (IsNotAlone stand.group) holdings → stand.back ≡ stand.left
 
--- so it is of each group
+-- in no group without an exclusive claim out is anything left to undo
 abbrev pub AreUntouched : List HeldClaim → List Stand → Type 0
 AreUntouched holdings stands = All (IsUntouched holdings) stands
 
@@ -36,13 +36,13 @@ AreUntouched holdings stands = All (IsUntouched holdings) stands
 abbrev pub IsClaimOf : ℕ → ℕ → HeldClaim → Type 0
 IsClaimOf warehouses w_id holding = IsGroupOf warehouses holding.group × (warehouse_of holding.group ≡ w_id)
 
--- it waits for what can be asked of the table
+-- the waiting action's wants can be asked of the table
 abbrev pub CouldAsk : ℕ → ℕ → WaitingAction → Type 0
 CouldAsk warehouses w_id waiting = CanAsk warehouses w_id waiting.wants
 
 -- ---- who waits for whom
 
--- one of age t waits for a group on which one of age u has a claim that conflicts with what is wanted
+-- an action of age t waits for a group on which one of age u has a conflicting claim
 pub record WaitsFor (table : LockTableView) (t u : ℕ) : Type 0 where
   pub waiting : WaitingAction
   pub waits : Contains table.waiters waiting
@@ -51,7 +51,7 @@ pub record WaitsFor (table : LockTableView) (t u : ℕ) : Type 0 where
   pub blocks : Blocks table.holdings waiting.wants holding
   pub holder : holding.by.age ≡ u
 
--- one of age t waits for one of age u in one of these tables
+-- an action of age t waits for one of age u in one of these tables
 abbrev pub WaitsSomewhere : List LockTableView → ℕ → ℕ → Type 0
 WaitsSomewhere tables t u = Any (λ table. WaitsFor table t u) tables
 
@@ -60,19 +60,19 @@ abbrev pub Path : (ℕ → ℕ → Type 0) → ℕ → List ℕ → ℕ → Type
 Path waits t [] u = waits t u
 Path waits t (next ∷ ages) u = waits t next × Path waits next ages u
 
--- all who wait in the table have to wait
+-- all waiting actions of the table have to wait
 abbrev pub AllHaveToWait : LockTableView → Type 0
 AllHaveToWait table = All (StillWaits table.holdings) table.waiters
 
--- Where all who wait have to, in some tables, none waits for itself, through any others, from table to table.
+-- If all waiting actions of some tables have to wait, none waits for itself, through any others, from table to table.
 abbrev pub NobodyWaitsForItself : Type 0
 NobodyWaitsForItself =
     (tables : List LockTableView) → All AllHaveToWait tables → (t : ℕ) (ages : List ℕ) → Path (WaitsSomewhere tables) t ages t → ⊥
 
--- ---- what is wanted
+-- ---- wants
 
--- Of the groups that there are, a want stands for each that a want covers, and for no other: for a prefix one for each
--- group of its kind and warehouse.
+-- Of the groups that exist, `group_wants_in` has a want for each that the want covers, and for no other: for a
+-- prefix, one for each group of its kind and warehouse.
 abbrev pub EachCoveredGroupIsWanted : Type 0
 EachCoveredGroupIsWanted =
     (warehouses : ℕ) (want : Want) (group : Group)

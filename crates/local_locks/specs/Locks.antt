@@ -1,4 +1,4 @@
--- How a table keeps what it has: a lock for each group, in the order of groups, and who waits.
+-- The representation of a table: a lock for each group, in the order of groups, and the waiting actions.
 use Rattle.std.specs.Prelude.{◌≡◌, ℕ, ◌+◌, ◌<◌, ◌≤◌, List, [], Bool, true, map, length, slice_index_or, ◌==◌, if◌then◌else◌}
 use Rattle.std.specs.List.{flat_map}
 use Rattle.requests.specs.declared.group.Group.{Group}
@@ -12,7 +12,7 @@ use Rattle.wait_die.specs.declared.deciding.Holder.{Holder}
 use Rattle.local_locks.specs.LockTableView.{HeldClaim, WaitingAction, Stand, LockTableView, stand_of}
 use Rattle.local_locks.specs.GroupWants.{CanAsk, group_wants}
 
--- a group's ticket box, and who holds the claims that are out
+-- a group's ticket box, and the holders of the claims that are out
 pub record LockView : Type 0 where
   pub ticket_box : TicketBoxView
   pub holders : List Holder
@@ -21,16 +21,16 @@ pub record LockView : Type 0 where
 abbrev pub lock_view : TicketBoxView → List Holder → LockView
 lock_view ticket_box holders = record { ticket_box = ticket_box; holders = holders }
 
--- either one exclusive claim is out, or as many shared ones as there are holders
+-- either one exclusive claim is out, or the number of shared ones is that of the holders
 abbrev pub Agree : Mode → TicketBoxView → List Holder → Type 0
 Agree Shared b holders = (b ≡ sharing b.group b.left (length holders)) × (length holders ≤ 8)
 Agree Exclusive b holders = (b.shared ≡ 0) × (length holders ≡ 1)
 
--- of a lock, the box and the holders agree
+-- the lock's box and its holders agree
 abbrev pub IsLocked : LockView → Type 0
 IsLocked lock = Agree lock.ticket_box.mode lock.ticket_box lock.holders
 
--- a want of this mode can't be granted beside so many claims of that one
+-- a want of the first mode can't be granted beside `count` claims of the second
 abbrev pub is_taken : Mode → Mode → ℕ → Bool
 is_taken Exclusive held count = true
 is_taken Shared Exclusive count = true
@@ -40,7 +40,7 @@ is_taken Shared Shared count = count == 8
 abbrev pub conflicting : Mode → LockView → List Holder
 conflicting mode lock = if is_taken mode lock.ticket_box.mode (length lock.holders) then lock.holders else []
 
--- the box once a claim of this mode has gone out
+-- the box after a claim of this mode is granted
 abbrev pub given_out : Mode → TicketBoxView → TicketBoxView
 given_out Shared b = sharing b.group b.left (b.shared + 1)
 given_out Exclusive b = lent b.group b.left
@@ -51,29 +51,29 @@ given_out Exclusive b = lent b.group b.left
 abbrev pub holding : Group → Mode → Holder → HeldClaim
 holding group mode by = record { by = by; group = group; mode = mode }
 
--- what the holders of a lock hold
+-- the holdings of a lock's holders
 abbrev pub holdings_of : LockView → List HeldClaim
 holdings_of lock = map (holding lock.ticket_box.group lock.ticket_box.mode) lock.holders
 
--- what stands in the lock's group
+-- the content of the lock's group, now and after an undo
 abbrev pub stand_in : LockView → Stand
 stand_in lock = stand_of lock.ticket_box
 
--- one who waits, for what, and for how many claims there is room
+-- a waiting action, its wants, and the number of claims for which it has room
 pub record WaiterView : Type 0 where
   pub by : Holder
   pub wants : List Want
   pub room : ℕ
 
--- one who waits for these wants, with room for so many claims
+-- an action that waits for these wants, with room for this number of claims
 abbrev pub waiter_view : Holder → List Want → ℕ → WaiterView
 waiter_view by wants room = record { by = by; wants = wants; room = room }
 
--- the same, as contracts see it
+-- the same, without the room
 abbrev pub waiting_of : WaiterView → WaitingAction
 waiting_of p = record { by = p.by; wants = p.wants }
 
--- the table of these locks and of those who wait, as contracts see it
+-- the table of these locks and waiting actions, as contracts see it
 abbrev pub locking : ℕ → List LockView → List WaiterView → LockTableView
 locking w_id locks waiters = record {
   w_id = w_id;
@@ -82,7 +82,7 @@ locking w_id locks waiters = record {
   waiters = map waiting_of waiters;
 }
 
--- the lock is that of the warehouse's group at this place
+-- this is the lock of the warehouse's group at this place
 pub record IsLockAt (warehouses w_id number : ℕ) (lock : LockView) : Type 0 where
   pub known : IsGroupOf warehouses lock.ticket_box.group
   pub here : warehouse_of lock.ticket_box.group ≡ w_id
@@ -94,11 +94,11 @@ pub record AreLocksOf (warehouses w_id : ℕ) (locks : List LockView) : Type 0 w
   pub all_there : length locks ≡ 105
   pub each : (place : ℕ) (d : LockView) → place < length locks → IsLockAt warehouses w_id place (slice_index_or locks place d)
 
--- of whatever warehouse the locks were, there still is one for each of its groups
+-- if the old locks were those of a warehouse, one for each of its groups, so are the new ones
 abbrev pub KeepsLocks : ℕ → List LockView → List LockView → Type 0
 KeepsLocks warehouses old new = (w_id : ℕ) → AreLocksOf warehouses w_id old → AreLocksOf warehouses w_id new
 
--- what it waits for can be asked of the table, and there is room for a claim on each group
+-- the waiting action's wants can be asked of the table, and it has room for a claim on each group
 pub record IsParked (warehouses w_id : ℕ) (p : WaiterView) : Type 0 where
   pub can : CanAsk warehouses w_id p.wants
   pub room : length (group_wants p.wants) ≤ p.room

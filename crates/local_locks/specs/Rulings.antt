@@ -1,4 +1,4 @@
--- What is said to one who wants some groups, by their places among the groups of the warehouse.
+-- The ruling on an action's wants, by the places of groups among those of the warehouse.
 use Rattle.std.specs.Prelude.{◌≡◌, ℕ, zero, suc, ◌<◌, ◌≤◌, List, [], ◌∷◌, Contains, map, slice_index_or, nat_lt, if◌then◌else◌}
 use Rattle.groups.specs.declared.group_wants.Mode.{Mode}
 use Rattle.groups.specs.declared.wants.Kind.{Kind}
@@ -14,7 +14,7 @@ use Rattle.local_locks.specs.Locks.{LockView, conflicting}
 
 -- ---- places
 
--- the place of a kind's first group in each warehouse, and how many groups it has there
+-- the place of a kind's first group in each warehouse
 abbrev pub first_of : Kind → ℕ
 first_of Warehouse = 0
 first_of District = 1
@@ -23,7 +23,7 @@ first_of Orders = 21
 first_of History = 31
 first_of Stock = 41
 
--- how many groups of the kind each warehouse has
+-- the number of groups of the kind in each warehouse
 abbrev pub count_of : Kind → ℕ
 count_of Warehouse = 1
 count_of District = 10
@@ -37,60 +37,61 @@ abbrev pub first_place : Extent → ℕ
 first_place (One group) = place_in_warehouse group
 first_place (Every prefix) = first_of prefix.kind
 
--- how many groups an extent has
+-- the number of groups of an extent
 abbrev pub count_in : Extent → ℕ
 count_in (One group) = 1
 count_in (Every prefix) = count_of prefix.kind
 
--- a place, and how its group is wanted
+-- a place, and the mode in which its group is wanted
 pub record Spot : Type 0 where
   pub number : ℕ
   pub mode : Mode
 
--- this place, wanted so
+-- this place, wanted in this mode
 abbrev pub spot : ℕ → Mode → Spot
 spot number mode = record { number = number; mode = mode }
 
--- so many places from the first on
+-- `count` places from `first` on
 unfoldable pub spots : ℕ → ℕ → Mode → List Spot
 spots first zero mode = []
 spots first (suc count) mode = spot first mode ∷ spots (suc first) count mode
 
--- the places that a want covers, each wanted as it says
+-- the places that a want covers, each with the want's mode
 abbrev pub spots_of : Want → List Spot
 spots_of want = spots (first_place want.extent) (count_in want.extent) want.mode
 
--- ---- what is said
+-- ---- rulings
 
 -- the holders at a place that conflict with a want of this mode
 abbrev pub conflicting_at : List LockView → Mode → ℕ → List Holder
 conflicting_at locks mode number = slice_index_or (map (conflicting mode) locks) number []
 
--- one of those at this place with whom a want for one of these spots conflicts
+-- one of the holders at this place that conflict with a want for one of the spots
 pub record Stops (locks : List LockView) (wanted : List Spot) (number : ℕ) (holder : Holder) : Type 0 where
   pub mode : Mode
   pub wants : Contains wanted (spot number mode)
   pub holds : Contains (conflicting_at locks mode number) holder
 
--- somebody is in the way, and all who are are younger than this age
+-- some holder conflicts, and all that do are younger than this age
 pub record AllYounger (age : ℕ) (locks : List LockView) (wanted : List Spot) : Type 0 where
   pub some : (number : ℕ) × (holder : Holder) × Stops locks wanted number holder
   pub younger : (number : ℕ) (holder : Holder) → Stops locks wanted number holder → age < holder.age
 
--- Somebody is in the way who is not younger than this age: at this place first, and there the oldest is of that age.
+-- Some conflicting holder is not younger than this age. This is the first place with such a holder, and the oldest
+-- conflicting holder there has the age `oldest`.
 pub record FirstNotYounger (age : ℕ) (locks : List LockView) (wanted : List Spot) (number oldest : ℕ) : Type 0 where
   pub some : (holder : Holder) × Stops locks wanted number holder × (holder.age ≡ oldest)
   pub older : oldest ≤ age
   pub first : (other : ℕ) (holder : Holder) → Stops locks wanted other holder → holder.age ≤ age → number ≤ other
   pub oldest_there : (holder : Holder) → Stops locks wanted number holder → oldest ≤ holder.age
 
--- what is said to one of this age who wants the groups at these places
+-- the ruling on an action of this age that wants the groups at these places
 abbrev pub IsRuling : ℕ → List LockView → List Spot → Ruling → Type 0
 IsRuling age locks wanted Free = (number : ℕ) (holder : Holder) → Stops locks wanted number holder → ⊥
 IsRuling age locks wanted Waits = AllYounger age locks wanted
 IsRuling age locks wanted (Dies number oldest) = FirstNotYounger age locks wanted number oldest
 
--- to die of the first place goes before all, and to wait before being free
+-- dying goes before waiting, at the first place of the two, and waiting before being free
 abbrev pub joined : Ruling → Ruling → Ruling
 joined Free other = other
 joined Waits Free = Waits

@@ -1,4 +1,4 @@
-//! Groups that are wanted, and free, are granted.
+//! Granting the wanted groups that are free.
 ghost use Rattle.std.specs.Prelude.{◌≡◌, ◌<◌, ◌≤◌, ◌+◌, ◌∷◌, ◌++◌, [], All, AllPairs, length, vec_len, vec_capacity, map};
 ghost use Rattle.std.specs.List.{flat_map};
 ghost use Rattle.local_locks.specs.Granting.{AreElsewhere, AreGranted, IsOpen, claim_at};
@@ -12,7 +12,7 @@ use groups::{Mode, Want};
 use tickets::{Claim, GroupNames};
 use wait_die::Holder;
 
-/// How many groups are wanted.
+/// Returns the number of groups that are wanted.
 pub(crate) fn count_of<J: GroupNames>(wants: &[Want]) -> usize
     requires there { All (IsWanted J.warehouses) wants.now }
     requires few { length (flat_map spots_of wants.now) ≤ 105 }
@@ -26,7 +26,7 @@ pub(crate) fn count_of<J: GroupNames>(wants: &[Want]) -> usize
     count
 }
 
-// The group at a place is granted.
+// Grants the group at a place.
 fn grant_at<J: GroupNames>(locks: &mut [Lock<J>], number: usize, mode: Mode, by: Holder) -> Claim<J>
     requires inside { number < length locks.old }
     requires open { IsOpen locks.old (spot number mode) }
@@ -36,7 +36,7 @@ fn grant_at<J: GroupNames>(locks: &mut [Lock<J>], number: usize, mode: Mode, by:
     locks[number].grant(mode, by)
 }
 
-// Each of these groups is granted.
+// Grants each group of the want.
 fn grant_want<J: GroupNames>(
     locks: &mut [Lock<J>],
     want: Want,
@@ -58,7 +58,7 @@ fn grant_want<J: GroupNames>(
     }
 }
 
-/// All groups that are wanted are granted. There is room for the claims.
+/// Grants all groups that are wanted. There must be room for the claims.
 pub(crate) fn grant_all<J: GroupNames>(
     locks: &mut [Lock<J>],
     wants: &[Want],

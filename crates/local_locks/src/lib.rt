@@ -1,12 +1,12 @@
 //! The lock table of a warehouse: who holds which of its groups, and who waits for them, by wait-die. An
-//! action asks for all its groups at once and has all of them or none: it is granted them, waits for
-//! younger holders alone, or dies of one that is not younger.
+//! action asks for all its groups at once and gets all of them or none: it is granted them, waits if
+//! every conflicting holder is younger, or dies.
 //!
-//! Contracts see all claims that are out and all who wait, as two plain lists. The table keeps a lock for
-//! each group, and looks at the groups alone that are asked for.
+//! In contracts: all claims that are out and all waiting actions, as two plain lists. The table keeps a
+//! lock for each group, and reads only the groups that are asked for.
 //!
-//! Nothing here waits itself. Only opening a table and asking it take memory: there is room for the claims of one
-//! who waits from the asking on.
+//! No function waits. Only opening a table and asking it allocate: a waiting action has room for its
+//! claims from the time it asked.
 #![tactic(auto)]
 
 mod granting;

@@ -1,4 +1,4 @@
-//! The lock of a group: its ticket box, and who holds the claims on it that are out.
+//! The lock of a group: its ticket box, and the holders of the claims on it that are out.
 ghost use Rattle.std.specs.Prelude.{◌≡◌, [], ◌∷◌, ◌++◌, Contains, IfNone, IfSome, slice_index_or, length, ◌<◌, ◌+◌};
 ghost use Rattle.std.specs.List.Sorted.{IsPermutation};
 ghost use Rattle.groups.specs.declared.group_wants.Mode.TheVariants.{Shared, Exclusive};
@@ -14,8 +14,8 @@ use std::marker::Model;
 use tickets::{Claim, GroupNames, TicketBox};
 use wait_die::Holder;
 
-/// A group's ticket box, and who holds its claims that are out: an exclusive one, or up to eight shared
-/// ones.
+/// A group's ticket box, and the holders of its claims that are out: one exclusive claim, or up to eight
+/// shared ones.
 #[derive(Drop)]
 pub(crate) struct Lock<J: GroupNames> {
     ticket_box: TicketBox<J>,
@@ -37,7 +37,7 @@ impl<J: GroupNames> Model for Lock<J> {
 }
 
 impl<J: GroupNames> Lock<J> {
-    /// The lock of a group of which no claim is out.
+    /// The lock of a group with no claim out.
     pub(crate) fn new(ticket_box: TicketBox<J>) -> Lock<J>
         requires { ticket_box ≡ sharing ticket_box.group ticket_box.left 0 }
         ensures { result ≡ lock_view ticket_box [] }
@@ -48,14 +48,14 @@ impl<J: GroupNames> Lock<J> {
         }
     }
 
-    /// The group.
+    /// Returns the group.
     pub(crate) fn group(&self) -> Group
         ensures { result ≡ self.now.ticket_box.group }
     {
         self.ticket_box.group()
     }
 
-    /// The holders that conflict with a want of this mode.
+    /// Returns the holders that conflict with a want of this mode.
     pub(crate) fn conflicting(&self, mode: Mode) -> &[Holder]
         ensures { result.now ≡ conflicting mode self.now }
     {
@@ -70,7 +70,7 @@ impl<J: GroupNames> Lock<J> {
         }
     }
 
-    /// A claim of this mode, which this one holds.
+    /// Grants a claim of this mode to `by`.
     pub(crate) fn grant(&mut self, mode: Mode, by: Holder) -> Claim<J>
         requires { conflicting mode self.old ≡ [] }
         ensures claim { result ≡ fresh by self.old.ticket_box.group mode self.old.ticket_box.left }
@@ -86,8 +86,9 @@ impl<J: GroupNames> Lock<J> {
         claim
     }
 
-    /// Takes back a claim, once what it left is committed, and with it its holder. Where that one holds none, another
-    /// goes, so that there are as many holders as claims.
+    /// Takes back a claim, and removes its holder. What an exclusive claim left must be committed. If
+    /// that holder has no claim here, another holder is removed, so that there are as many holders as
+    /// claims.
     pub(crate) fn take_back(&mut self, claim: Claim<J>)
         requires group { claim.group ≡ self.old.ticket_box.group }
         requires committed { claim.mode ≡ Exclusive → claim.recorded ≡ claim.left }
@@ -103,7 +104,7 @@ impl<J: GroupNames> Lock<J> {
         self.holders.remove(index);
     }
 
-    /// Learns that what a claim on the group left stands in it.
+    /// Shows that what a claim on the group left is the group's content. Changes nothing.
     pub(crate) fn look(&mut self, claim: &mut Claim<J>)
         requires group { claim.old.group ≡ self.old.ticket_box.group }
         ensures mode { claim.old.mode ≡ self.old.ticket_box.mode }
@@ -126,7 +127,7 @@ impl<J: GroupNames> Lock<J> {
         self.ticket_box.leave(claim, change);
     }
 
-    /// Takes back all that was done under an exclusive claim.
+    /// Undoes all that was done under an exclusive claim.
     pub(crate) fn undo(&mut self, claim: &mut Claim<J>)
         requires group { claim.old.group ≡ self.old.ticket_box.group }
         requires exclusive { claim.old.mode ≡ Exclusive }
@@ -139,7 +140,7 @@ impl<J: GroupNames> Lock<J> {
     }
 }
 
-// Where this one stands among the holders, if it is one of them.
+// Returns the place of `by` among the holders, `None` if it is not one of them.
 fn index_of(holders: &[Holder], by: Holder) -> Option<usize>
     ensures inside { IfSome result (λ index. index < length holders.now) }
     ensures is { IfSome result (λ index. slice_index_or holders.now index by ≡ by) }

@@ -9,7 +9,7 @@ use groups::{Extent, Kind};
 use requests::Group;
 use tickets::{Claim, GROUPS_PER_WAREHOUSE, GroupNames, place_of};
 
-/// The place of a group.
+/// Returns the place of a group.
 pub(crate) fn place_in_warehouse<J: GroupNames>(group: Group) -> usize
     requires { IsGroupOf J.warehouses group }
     ensures { result ≡ spec.place_in_warehouse group }
@@ -17,7 +17,7 @@ pub(crate) fn place_in_warehouse<J: GroupNames>(group: Group) -> usize
     place_of::<J>(group) % GROUPS_PER_WAREHOUSE
 }
 
-/// The place of a claim's group.
+/// Returns the place of a claim's group.
 pub(crate) fn place_of_claim<J: GroupNames>(claim: &Claim<J>) -> usize
     ensures known { IsGroupOf J.warehouses claim.now.group }
     ensures place { result ≡ spec.place_in_warehouse claim.now.group }
@@ -25,7 +25,7 @@ pub(crate) fn place_of_claim<J: GroupNames>(claim: &Claim<J>) -> usize
     claim.place() % GROUPS_PER_WAREHOUSE
 }
 
-/// The places of groups that are wanted: the first, and the one after the last.
+/// Returns the places of an extent's groups: the first, and the one after the last.
 pub(crate) fn places_of<J: GroupNames>(extent: Extent) -> (usize, usize)
     requires { IsThere J.warehouses extent }
     ensures first { result.0 ≡ first_place extent }
@@ -40,7 +40,7 @@ pub(crate) fn places_of<J: GroupNames>(extent: Extent) -> (usize, usize)
     }
 }
 
-// The places of all groups of a kind.
+// Returns the places of all groups of a kind: the first, and the one after the last.
 fn places_under(kind: Kind) -> (usize, usize)
     ensures first { result.0 ≡ first_of kind }
     ensures end { result.1 ≡ first_of kind + count_of kind }

@@ -1,4 +1,4 @@
-//! What is said to one who wants some groups.
+//! The ruling on an action's wants.
 ghost use Rattle.std.specs.Prelude.{◌≡◌, ◌<◌, ◌≤◌, ◌+◌, ◌∷◌, [], All, length};
 ghost use Rattle.std.specs.List.{flat_map};
 ghost use Rattle.local_locks.specs.Rulings.{IsRuling, joined, spot, spots_of};
@@ -10,17 +10,18 @@ use groups::{Mode, Want};
 use tickets::GroupNames;
 use wait_die::{Age, Decision, verdict};
 
-/// What is said to one who wants some groups.
+/// The ruling on an action's wants.
 #[derive(Clone, Copy, Debug, PartialEq, Eq)]
 pub(crate) enum Ruling {
     Free,
     Waits,
-    /// Of the first place at which a holder that conflicts is not younger, and of the oldest one there.
+    /// The first place at which a conflicting holder is not younger, and the age of the oldest one
+    /// there.
     Dies(usize, Age),
 }
 
 impl Ruling {
-    // What is said to one who wants both.
+    // Returns the ruling on both wants together.
     fn join(self, other: Ruling) -> Ruling
         ensures { result ≡ joined self other }
     {
@@ -35,7 +36,7 @@ impl Ruling {
     }
 }
 
-// What is said to a want for the group at a place.
+// Returns the ruling on a want for the group at a place.
 fn ruling_at<J: GroupNames>(locks: &[Lock<J>], age: Age, number: usize, mode: Mode) -> Ruling
     requires { number < length locks.now }
     ensures { IsRuling age locks.now (spot number mode ∷ []) result }
@@ -47,7 +48,7 @@ fn ruling_at<J: GroupNames>(locks: &[Lock<J>], age: Age, number: usize, mode: Mo
     }
 }
 
-// What is said to a want for each of these groups.
+// Returns the ruling on a want for each of its groups.
 fn ruling_on_want<J: GroupNames>(locks: &[Lock<J>], age: Age, want: Want) -> Ruling
     requires there { IsWanted J.warehouses want }
     requires places { 105 ≤ length locks.now }
@@ -61,7 +62,7 @@ fn ruling_on_want<J: GroupNames>(locks: &[Lock<J>], age: Age, want: Want) -> Rul
     ruling
 }
 
-/// What is said to one of this age who wants groups of the warehouse.
+/// Returns the ruling on the wants of an action of this age.
 pub(crate) fn ruling_on<J: GroupNames>(locks: &[Lock<J>], age: Age, wants: &[Want]) -> Ruling
     requires there { All (IsWanted J.warehouses) wants.now }
     requires places { 105 ≤ length locks.now }

@@ -25,28 +25,29 @@ use std::marker::Model;
 use tickets::{Claim, GroupNames, TicketBox};
 use wait_die::{Age, Holder};
 
-/// What is answered to an action that asks for groups.
+/// The answer to an action that asks for groups.
 #[derive(Drop)]
 pub enum Asked<J: GroupNames> {
-    /// A claim on each group, want by want, those of a prefix in the order of groups.
+    /// Granted: a claim on each group, want by want; the claims of a prefix are in the order of groups.
     Granted(Vec<Claim<J>>),
-    /// It waits, for younger holders alone.
+    /// It waits. All conflicting holders are younger.
     Waits,
-    /// It dies: of those who are in its way and not younger, the group is the first that one holds, and
-    /// `holder` the age of the oldest one there.
+    /// It dies. Of the conflicting holders that are not younger, `group` is the first group that one
+    /// holds, and `holder` the age of the oldest holder there.
     Dies { group: Group, holder: Age },
 }
 
-/// The turn of an action that waited, and which of those who waited it was, from 0 on, in the order in which they asked.
+/// The turn of a waiting action. `index` is its place among the waiting actions, from 0, in the order in
+/// which they asked.
 #[derive(Drop)]
 pub enum Turn<J: GroupNames> {
-    /// It has a claim on each group, want by want, those of a prefix in the order of groups.
+    /// It has a claim on each group, want by want; the claims of a prefix are in the order of groups.
     Granted {
         index: usize,
         by: Holder,
         claims: Vec<Claim<J>>,
     },
-    /// It dies, as `Asked::Dies` tells.
+    /// It dies. `group` and `holder` are as in `Asked::Dies`.
     Dies {
         index: usize,
         by: Holder,
@@ -57,7 +58,8 @@ pub enum Turn<J: GroupNames> {
 
 /// Who holds which groups of a warehouse, and who waits for them.
 ///
-/// Contracts see the warehouse, what stands in each group, all claims that are out, and all who wait.
+/// In contracts: the warehouse, the content of each group, all claims that are out, and all waiting
+/// actions.
 #[derive(Drop)]
 pub struct LockTable<J: GroupNames> {
     w_id: u32,
@@ -82,8 +84,8 @@ impl<J: GroupNames> Model for LockTable<J> {
 }
 
 impl<J: GroupNames> LockTable<J> {
-    /// The table of a warehouse with these boxes of its groups, in the order of groups. Nothing is left
-    /// after an error.
+    /// Opens the table of a warehouse with these ticket boxes of its groups, in the order of groups.
+    /// Returns NoMemory if an allocation fails; nothing stays allocated then.
     pub fn open(
         alloc: Global,
         w_id: u32,
@@ -103,8 +105,9 @@ impl<J: GroupNames> LockTable<J> {
         })
     }
 
-    /// An action asks for all its groups at once. It is granted all exactly where each is free, and else
-    /// none. Want of memory changes nothing.
+    /// An action asks for all its groups at once. It is granted all exactly if each is free, and none
+    /// otherwise: then it waits or dies. Returns NoMemory if an allocation fails; the table is unchanged
+    /// then. An action that must die, or that asks for nothing, never gets NoMemory.
     pub fn ask(&mut self, alloc: Global, by: Holder, wants: &[Want]) -> Result<Asked<J>, NoMemory>
         requires { CanAsk J.warehouses self.old.w_id wants.now }
         ensures answers { IfOk result (λ asked. Answers by wants.now self.old asked self.new) }
@@ -122,8 +125,8 @@ impl<J: GroupNames> LockTable<J> {
         }
     }
 
-    /// An action asks, as `ask` has it, and doesn't wait: where it would have to, it is told so, and nothing has
-    /// changed.
+    /// As `ask`, for an action that doesn't wait: if it would have to, it gets `Waits`, and the table is
+    /// unchanged.
     pub fn ask_at_once(
         &mut self,
         alloc: Global,
@@ -150,9 +153,9 @@ impl<J: GroupNames> LockTable<J> {
         }
     }
 
-    /// Takes a claim back, once what it left is committed. It takes no memory. Whoever has a claim may call it:
-    /// that it is out follows from its tickets (`out`), and that it is out to the one that it tells is left to
-    /// whoever passes claims on (`holdings`).
+    /// Takes a claim back. What an exclusive claim left must be committed. Never allocates. A caller
+    /// need not show that the claim is out: its tickets prove that (`out`). If the holder that the claim
+    /// records holds it, exactly that holding is removed (`holdings`).
     pub fn take_back(&mut self, claim: Claim<J>)
         requires home { IsOfHome self.old.w_id claim }
         requires committed { IsSettled claim }
@@ -166,7 +169,7 @@ impl<J: GroupNames> LockTable<J> {
         self.locks[number].take_back(claim);
     }
 
-    /// Takes claims back, each as `take_back` does. It takes no memory.
+    /// Takes claims back, each as `take_back` does. Never allocates.
     pub fn give_back(&mut self, claims: Vec<Claim<J>>)
         requires home { All (IsOfHome self.old.w_id) claims.items }
         requires committed { All IsSettled claims.items }
@@ -181,8 +184,8 @@ impl<J: GroupNames> LockTable<J> {
         }
     }
 
-    /// The turn of the oldest of those who need not wait any more, and of one age of the one of the least
-    /// place: it is granted or dies. `None` where all have to wait. It takes no memory.
+    /// Returns the turn of the oldest waiting action that need not wait any more; of one age, the one of
+    /// the least place. It is granted or dies. `None` if all have to wait. Never allocates.
     pub fn next_grant(&mut self) -> Option<Turn<J>>
         ensures turn { IfSome result (λ turn. TakesTurn self.old turn self.new) }
         ensures none { IfNone result (All (StillWaits self.old.holdings) self.old.waiters) }
@@ -206,7 +209,7 @@ impl<J: GroupNames> LockTable<J> {
         }
     }
 
-    /// Learns that what a claim on one of the groups left stands in it.
+    /// Shows that what a claim on one of the groups left is the content of that group. Changes nothing.
     pub fn look(&mut self, claim: &mut Claim<J>)
         requires { warehouse_of claim.old.group ≡ self.old.w_id }
         ensures known { IsGroupOf J.warehouses claim.old.group }
@@ -231,7 +234,7 @@ impl<J: GroupNames> LockTable<J> {
         self.locks[place].leave(claim, change);
     }
 
-    /// Takes back all that was done under an exclusive claim.
+    /// Undoes all that was done under an exclusive claim.
     pub fn undo(&mut self, claim: &mut Claim<J>)
         requires here { warehouse_of claim.old.group ≡ self.old.w_id }
         requires exclusive { claim.old.mode ≡ Exclusive }
@@ -244,9 +247,9 @@ impl<J: GroupNames> LockTable<J> {
         self.locks[place].undo(claim);
     }
 
-    /// What stands in each group of the warehouse is known, and all claims that are out are on these
-    /// groups. No two of them conflict. Where no exclusive one is out, nothing is left to be taken back.
-    /// All who wait do so for what can be asked.
+    /// Shows that the table has a content for each group of the warehouse, that all claims that are out
+    /// are on these groups, and that no two of them conflict. A group with no exclusive claim out has
+    /// nothing to undo. All waiting actions wait for groups that can be asked for.
     pub fn agree(&self)
         ensures stands { AreStandsOf J.warehouses self.now.w_id self.now.stands }
         ensures claims { All (IsClaimOf J.warehouses self.now.w_id) self.now.holdings }

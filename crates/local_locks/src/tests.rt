@@ -26,7 +26,7 @@ impl Change<Content> for NoRow {
     ghost changed = { λ none before. OfWarehouse None };
 }
 
-// Claims that are out, and who holds them.
+// Claims that are out, and their holder.
 #[derive(Drop)]
 struct Grant<J: GroupNames> {
     by: Holder,
@@ -47,7 +47,7 @@ impl<J: GroupNames> Model for Grant<J> {
     ghost view = { λ g. (g.by, g.claims.items) };
 }
 
-// A table with all its claims that are out. Contracts see how many grants are.
+// A table with all its claims that are out. In contracts: the number of grants.
 #[derive(Drop)]
 struct Trial<J: GroupNames> {
     table: LockTable<J>,
@@ -65,7 +65,7 @@ impl<J: GroupNames> Model for Trial<J> {
     ghost invariant = { λ t. AreOut t.table t.out.items };
 }
 
-// What is said to one who asks, or whose turn it is: how many claims are granted, if any.
+// The answer to an action that asks, or whose turn it is: the number of claims granted, if any.
 #[derive(Clone, Copy, Debug, PartialEq, Eq)]
 enum Said {
     Granted(usize),
@@ -141,7 +141,7 @@ impl<J: GroupNames> Trial<J> {
         }
     }
 
-    // The claims of one grant come back. It tells who held them.
+    // Gives the claims of one grant back. Returns their holder.
     fn give_back(&mut self, index: usize) -> Holder
         requires { index < self.old }
     {
@@ -188,7 +188,7 @@ fn one_warehouse(alloc: Global) -> Result<Vec<GroupSeats>, NoMemory>
     Ok(openings)
 }
 
-// The ninth shared claim waits for the youngest, or dies of the oldest.
+// The ninth shared claim waits for the youngest holder, or dies of the oldest.
 fn nine_share<J: GroupNames>(
     rt: &impl Abort,
     alloc: Global,
@@ -226,7 +226,7 @@ fn nine_ask_for_eight_tickets(rt: HostRuntime) -> Result<(), Fail> {
     Ok(())
 }
 
-// All claims that are out and all who wait, as two plain lists.
+// All claims that are out and all waiting actions, as two plain lists.
 #[derive(Drop)]
 struct Plain {
     holdings: Vec<(Holder, Group, Mode)>,
@@ -234,7 +234,7 @@ struct Plain {
 }
 
 impl Plain {
-    // What is said to one who wants these, by looking at all claims.
+    // Returns the answer to an action with these wants, from all claims.
     fn said(&self, by: Holder, wants: &[Want]) -> Said {
         let mut said = Said::Granted(count_of(wants));
         for (holder, group, mode) in &self.holdings {
@@ -255,7 +255,8 @@ impl Plain {
         want.covers(group) && (is_exclusive || is_full)
     }
 
-    // Who is the oldest, and of one age of the least place, of those who need not wait, and what is said.
+    // Returns the oldest of the actions that need not wait, of one age the one of the least place, and
+    // the answer.
     fn next_grant(&mut self) -> Result<Option<(Holder, Said)>, NoMemory> {
         let mut next: Option<(usize, Holder, Said)> = None;
         for (index, (by, wants)) in self.waiters.iter().enumerate() {
@@ -330,7 +331,7 @@ fn count_of(wants: &[Want]) -> usize {
     count
 }
 
-// What is said once one more holder is in the way.
+// Returns the answer with one more holder in conflict.
 fn worse(said: Said, by: Holder, holder: Holder, group: Group) -> Said {
     if holder.age > by.age {
         return match said {
@@ -366,7 +367,7 @@ impl Random {
     }
 }
 
-// One group or all of a prefix, or both groups that a new order claims at first, are asked for.
+// Asks for one group, all of a prefix, or the two groups that a new order claims first.
 fn ask_at_random<J: GroupNames>(
     rt: &impl Abort,
     alloc: Global,
@@ -403,7 +404,7 @@ fn ask_at_random<J: GroupNames>(
     plain.asked(alloc, by, &wants, said)
 }
 
-// Whose turn it is has it, until all have to wait.
+// Grants turns until all waiting actions have to wait.
 fn take_turns<J: GroupNames>(
     rt: &impl Abort,
     trial: &mut Trial<J>,

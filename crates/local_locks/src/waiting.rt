@@ -1,4 +1,4 @@
-//! Who waits, and whose turn it is.
+//! The waiting actions, and whose turn it is.
 ghost use Rattle.std.specs.Prelude.{◌≡◌, ◌≤◌, All, IfOk, IfSome, IfNone, length};
 ghost use Rattle.local_locks.specs.Locks.{waiter_view};
 ghost use Rattle.local_locks.specs.Turns as spec;
@@ -13,7 +13,7 @@ use std::marker::Model;
 use tickets::{Claim, GroupNames};
 use wait_die::Holder;
 
-/// One who waits, for what, and with room for the claims.
+/// A waiting action, its wants, and room for its claims.
 #[derive(Drop)]
 pub(crate) struct Waiter<J: GroupNames> {
     pub(crate) by: Holder,
@@ -34,7 +34,7 @@ impl<J: GroupNames> Model for Waiter<J> {
 }
 
 impl<J: GroupNames> Waiter<J> {
-    /// One who waits from now on, with room for so many claims.
+    /// Makes a waiting action with room for `count` claims. Returns NoMemory if an allocation fails.
     pub(crate) fn new(
         alloc: Global,
         by: Holder,
@@ -49,7 +49,8 @@ impl<J: GroupNames> Waiter<J> {
     }
 }
 
-/// Whose turn it is: where it stands among those who wait, who it is, and what is said to it.
+/// The waiting action whose turn it is: its place among the waiting actions, the action, and the ruling
+/// on it.
 #[derive(Clone, Copy, Debug, PartialEq, Eq)]
 pub(crate) struct Next {
     pub(crate) index: usize,
@@ -57,7 +58,8 @@ pub(crate) struct Next {
     pub(crate) ruling: Ruling,
 }
 
-/// The oldest of those who need not wait any more, and of one age the one of the least place.
+/// Returns the oldest waiting action that need not wait any more; of one age, the one of the least
+/// place. `None` if all have to wait.
 pub(crate) fn next_of<J: GroupNames>(locks: &[Lock<J>], waiters: &[Waiter<J>]) -> Option<Next>
     requires there { All (IsParkedThere J.warehouses) waiters.now }
     requires places { 105 ≤ length locks.now }
@@ -73,7 +75,7 @@ pub(crate) fn next_of<J: GroupNames>(locks: &[Lock<J>], waiters: &[Waiter<J>]) -
     next
 }
 
-// Whose turn it is: who was found so far, or this one.
+// Returns whose turn it is: the action found so far, or this one.
 fn sooner(found: Option<Next>, this: Next) -> Option<Next>
     ensures { result ≡ spec.sooner found this }
 {
@@ -84,7 +86,7 @@ fn sooner(found: Option<Next>, this: Next) -> Option<Next>
     }
 }
 
-// The older goes first, and of one age the one of the lesser place.
+// Returns whether `a` goes first: the older does, and of one age the one of the lesser place.
 fn is_before(a: Holder, b: Holder) -> bool
     ensures { result ≡ spec.is_before a b }
 {

@@ -12,7 +12,7 @@ seeded seed = pcg64_of_seed (pcg32_seed 32 seed)
 unfoldable pub word : Lcg → ℕ
 word generator = (pcg64 generator).0
 
--- the generator after so many words
+-- the generator after this number of words
 unfoldable pub beyond : ℕ → Lcg → Lcg
 beyond zero generator = generator
 beyond (suc count) generator = beyond count (pcg64 generator).1

@@ -8,8 +8,8 @@ use rand_core::utils::NextWord;
 use rand_pcg::Pcg64;
 use std::marker::Model;
 
-/// The numbers of one seed, in the order in which they are drawn. Each is made of one or more words of
-/// a generator, and of the same seed they are the same.
+/// The numbers of one seed, in the order in which they are drawn. Each is computed from one or more
+/// words of a generator. The same seed gives the same numbers.
 #[derive(Drop)]
 pub struct NumberDraws {
     generator: Pcg64,
@@ -33,8 +33,8 @@ impl NumberDraws {
         }
     }
 
-    /// A whole number from `low` to `high`, both included: `low` and the rest of one word divided by
-    /// their count.
+    /// Draws a whole number from `low` to `high`, both included: `low` plus the remainder of one word
+    /// divided by their count.
     pub fn random(&mut self, low: u32, high: u32) -> u32
         requires { low ≤ high }
         ensures value { result ≡ random_of low high self.old }
@@ -46,9 +46,9 @@ impl NumberDraws {
         low + (self.generator.next_word() % count) as u32
     }
 
-    /// A number from `low` to `high` that isn't evenly spread (clause 2.1.6): the bits of a number up to
-    /// `bits` or those of one from `low` to `high`, the constant added, and of that the rest by their
-    /// count. The number up to `bits` is drawn first.
+    /// Draws a number from `low` to `high` that isn't evenly distributed (clause 2.1.6): the bitwise or
+    /// of a number from 0 to `bits` and one from `low` to `high`, plus the constant; `low` plus the
+    /// remainder of that by the count. The number up to `bits` is drawn first.
     pub fn nu_rand(&mut self, bits: u32, constant: u32, low: u32, high: u32) -> u32
         requires { low ≤ high }
         ensures value { result ≡ nu_rand_of bits constant low high self.old }
@@ -62,8 +62,8 @@ impl NumberDraws {
         low + ((u64::from(left | right) + u64::from(constant)) % count) as u32
     }
 
-    /// Shuffles the items: for each place k from the last down to 1, counted from 0, those at k and at
-    /// `random(0, k)` are exchanged.
+    /// Shuffles the items: for each place k from the last down to 1, counted from 0, exchanges the items
+    /// at k and at `random(0, k)`.
     pub fn shuffle<T>(&mut self, items: &mut [T])
         requires { length items.old ≤ 2 ^ 32 }
         ensures value { items.new ≡ shuffled (length items.old - 1) items.old self.old }

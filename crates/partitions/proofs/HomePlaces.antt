@@ -33,7 +33,7 @@ district_place home q =
     ∙ in_turn (is_between 1 10 q.d_id) (is_of home q.w_id) 0 (q.d_id - 1) 10
     ∙ ap (λ n. cond (has_district_of home q) (Some n) None) (let e : 0 * 10 + (q.d_id - 1) ≡ q.d_id - 1 = omega arith in e)
 
--- a key of STOCK is told as a district's is: by the warehouse, and then by the number
+-- a key of STOCK is compared like a district's: by the warehouse, and then by the number
 pub stock_place : (scale : Scale) (home : ℕ) (q : StockKey) → place (eq_by_cmp stock_cmp q) (stock_keys_of scale home) ≡ home_stock_slot scale home q
 stock_place scale home q =
     place-grid (eq_by_cmp stock_cmp q) (eq_by_cmp nat_cmp q.w_id) stock_key q.i_id scale.items (home ∷ []) (district_splits (district_key q.w_id q.i_id))

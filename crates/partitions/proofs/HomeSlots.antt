@@ -1,4 +1,4 @@
--- What stands at the places of a warehouse's districts, and of their customers.
+-- What is stored at the places of a warehouse's districts, and of their customers.
 use Rattle.std.proofs.Common.{◌≡◌, ℕ, ◌+◌, ◌-◌, ◌*◌, ◌<◌, Bool, true, false, cond, ◌&&◌, nat_lt, Some, None, IsTrue, is_some, refl, sym, ap, ◌∙◌, arith}
 use Rattle.std.specs.Option.{option_map}
 use Rattle.std.proofs.lemmas.Bool.Decides.{nat_tests}

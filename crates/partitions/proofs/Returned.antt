@@ -78,7 +78,7 @@ pub other_kept : (key own : OrderKey) (new old : NewTable) → is_order key own 
 other_kept key own new old other is =
     ap (λ m. insert m own (record {})) is ∙ sym (put_row_apart orders_total orders_exact old own key (Some (record {})) None (order_test key own ∙ other))
 
--- rows are alike: where one stands that is put back, nothing changes
+-- all rows of NEW-ORDER are equal: restoring a row that is stored changes nothing
 pub stands_again : (m : NewTable) (key : OrderKey) (was : Option NewOrder) → IsTrue (contains_key m key) → is_some was ≡ true → m ≡ put_row m key was
 stands_again m key None there some = absurd cc
 stands_again m key (Some row) there some =
@@ -87,7 +87,7 @@ stands_again m key (Some row) there some =
       | Some other ↦ λ h. refl
     ] there))
 
--- where none stood, it goes
+-- if none was stored before, the row is deleted
 pub gone : (m : NewTable) (key : OrderKey) (was : Option NewOrder) → is_some was ≡ false → remove m key ≡ put_row m key was
 gone m key None none = refl
 gone m key (Some row) none = absurd cc

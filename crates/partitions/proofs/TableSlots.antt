@@ -61,7 +61,7 @@ customer_here scale key =
       | false ↦ elim (is_between 1 scale.customers key.c_id) as (λ i. let r : Option ℕ = cond i None None in false ≡ is_some r) [ true ↦ refl | false ↦ refl ]
     ]
 
--- the rows of all tables stand at the places of the scale's districts
+-- the rows of all tables are at the places of the scale's districts
 pub tables_are_rows : (scale : Scale) (t : Database) → scale ≡ t.scale → IsWithinScale t → AreRows (district_slot t.scale) (t.scale.warehouses * 10) t
 tables_are_rows scale t same within = record {
   few = let most : scale.warehouses ≤ 64 = scale.limits.most_warehouses in let e : scale.warehouses ≡ t.scale.warehouses = ap (λ s. s.warehouses) same in omega arith;

@@ -1,4 +1,4 @@
--- The rows of one more warehouse, behind those of the warehouses before it.
+-- The rows of one more warehouse, appended to those of the warehouses before it.
 use Rattle.std.specs.Prelude.{◌≡◌, List, [], ◌∷◌, ◌++◌}
 use Rattle.std.specs.declared.cmp.Ordering.{Ordering}
 use Rattle.std.specs.Option.{option_or}
@@ -7,11 +7,11 @@ use Rattle.std.specs.FinMap as table
 use Rattle.schema.specs.declared.table_rows.TableRows.{TableRows}
 use Rattle.partitions.specs.declared.home_rows.HomeRows.{HomeRows}
 
--- at each key, the row that came, or else the one that was there
+-- at each key, the added row, or else the old one
 abbrev pub AddsRows : {K X : Type 0} (R : K → K → Ordering) → List (K × X) → List (K × X) → List (K × X) → Type 0
 AddsRows {K} R old more new = (key : K) → table.get (table.from_entries {R = R} new) key ≡ option_or (table.get (table.from_entries {R = R} more) key) (table.get (table.from_entries {R = R} old) key)
 
--- the warehouse's rows come behind the others, table by table; ITEM stays
+-- the warehouse's rows are added behind the others, table by table; ITEM is unchanged
 pub record AppendsHome (old : TableRows) (home : HomeRows) (new : TableRows) : Type 0 where
   pub items : new.items.items ≡ old.items.items
   pub warehouses : new.warehouses.items ≡ old.warehouses.items ++ home.warehouse ∷ []

@@ -1,4 +1,4 @@
--- A delivery that is taken back: what stood there before it, and the tables with that put back.
+-- Undoing a delivery: what was stored before it, and the tables with that restored.
 use Rattle.std.specs.Prelude.{◌≡◌, ℕ, ◌+◌, ◌-◌, ◌<◌, if◌then◌else◌, List, length, slice_index_or, Option, None}
 use Rattle.std.specs.Option.{option_and_then}
 use Rattle.std.specs.FinMap as table
@@ -12,30 +12,30 @@ use Rattle.schema.specs.Database.{Database, is_of_order}
 use Rattle.schema.specs.OrderRows.{LineTable, line_key, is_order}
 use Rattle.partitions.specs.declared.delivery_rows.BeforeDelivery.{BeforeDelivery}
 
--- the carrier of the order, where it has one
+-- the order's carrier, if it has one
 abbrev pub carrier_at : table.FinMap order_cmp Order → OrderKey → Option ℕ
 carrier_at orders key = option_and_then (λ row. row.carrier_id) (table.get orders key)
 
--- the moment at which the line was delivered, where it was
+-- the moment at which the line was delivered, if it was
 abbrev pub moment_at : LineTable → OrderLineKey → Option ℕ
 moment_at lines key = option_and_then (λ row. row.delivery_d) (table.get lines key)
 
--- this is what stood there before the order was delivered
+-- this is what was stored before the order was delivered
 pub record StoodBefore (t : Database) (order : OrderKey) (before : BeforeDelivery) : Type 0 where
   pub carrier : before.carrier_id ≡ carrier_at t.orders order
   pub fifteen : length before.moments ≡ 15
   pub moments : (n : ℕ) → n < 15 → slice_index_or before.moments n None ≡ moment_at t.lines (line_key order (n + 1))
   pub new_order : before.new_order ≡ table.get t.new_orders order
 
--- the order's row gets this carrier, or none
+-- the order's row gets this carrier back, or none
 abbrev pub with_carrier_back : OrderKey → Option ℕ → OrderKey → Order → Order
 with_carrier_back order carrier key row = if is_order order key then record row { carrier_id = carrier } else row
 
--- each line of the order gets the moment at its number, or none
+-- each line of the order gets the moment at its number back, or none
 abbrev pub with_moments_back : OrderKey → List (Option ℕ) → OrderLineKey → OrderLine → OrderLine
 with_moments_back order moments key row = if is_of_order order key then record row { delivery_d = slice_index_or moments (key.number - 1) None } else row
 
--- the tables with what stood there put back
+-- the tables with what was stored before restored
 abbrev pub without_delivery : Database → OrderKey → BeforeDelivery → Database
 without_delivery t order before = record t {
   orders = map_rows (with_carrier_back order before.carrier_id) t.orders;

@@ -1,4 +1,4 @@
--- The rows of NEW-ORDER of one warehouse: those of an ordered map, and those that came back.
+-- The rows of NEW-ORDER of one warehouse: those of an ordered map, and the restored ones.
 use Rattle.std.specs.Prelude.{ℕ, min, List, Option, Some, None}
 use Rattle.std.specs.BTreeMap.{BTreeMap}
 use Rattle.std.specs.FinMap as table
@@ -8,16 +8,16 @@ use Rattle.rows.specs.Keys.{order_cmp}
 use Rattle.schema.specs.MapRows.{table_of}
 use Rattle.partitions.specs.declared.new_order_rows.Returned.{Returned, Nothing, Row'}
 
--- these rows, and those that came back
+-- these rows together with the restored ones
 abbrev pub with_returned : Returned → table.FinMap order_cmp NewOrder → table.FinMap order_cmp NewOrder
 with_returned Nothing rows = rows
 with_returned (Row' key p rest) rows = table.insert (with_returned rest rows) key (record {})
 
--- all of them with their keys, in order
+-- the rows of the map and the restored ones, with their keys, in order
 abbrev pub entries_with : Returned → BTreeMap OrderKey NewOrder → List (OrderKey × NewOrder)
 entries_with returned rows = table.entries (with_returned returned (table_of order_cmp rows))
 
--- the lesser of a number and another, where there is one
+-- the lesser of a number and another, if there is another
 abbrev pub lesser_of : ℕ → Option ℕ → ℕ
 lesser_of number None = number
 lesser_of number (Some other) = min number other

@@ -1,4 +1,4 @@
--- Which part of the tables a partition's rows make.
+-- The part of the tables that a partition's rows make.
 use Rattle.std.specs.Prelude.{[], ◌∷◌, ◌≡◌, ℕ, ◌*◌, List, length}
 use Rattle.std.specs.List.{zip}
 use Rattle.std.specs.FinMap as map
@@ -17,17 +17,18 @@ use Rattle.partitions.specs.Parts.{SharedTables, Part, IsPart}
 abbrev pub district_keys_of : ℕ → List DistrictKey
 district_keys_of home = grid district_key 10 (home ∷ [])
 
--- the keys of its stock, ascending
+-- the keys of the warehouse's stock, ascending
 abbrev pub stock_keys_of : Scale → ℕ → List StockKey
 stock_keys_of scale home = grid stock_key scale.items (home ∷ [])
 
--- the keys of its customers, ascending
+-- the keys of the warehouse's customers, ascending
 abbrev pub customer_keys_of : Scale → ℕ → List CustomerKey
 customer_keys_of scale home = grid customer_key scale.customers (district_keys_of home)
 
 -- ---- the part
 
--- the part of the tables that these rows make: those of four tables belong to the warehouse's keys in order
+-- The part that these rows make. The rows of districts, stock, customers and payments belong to the warehouse's keys
+-- in order.
 abbrev pub part : SharedTables → ℕ → HomeRows → Part
 part shared home rows = record {
   home = home;
@@ -45,7 +46,7 @@ part shared home rows = record {
   };
 }
 
--- none of these rows is missing, and there is none too many
+-- each table stored without keys has exactly as many rows as the warehouse has keys
 pub record HasCountsOf (scale : Scale) (rows : HomeRows) : Type 0 where
   pub districts : length rows.districts.items ≡ 10
   pub stocks : length rows.stocks.items ≡ scale.items

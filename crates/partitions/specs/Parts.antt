@@ -1,4 +1,4 @@
--- Tables parted by warehouse, and made whole again.
+-- Tables cut by warehouse, and joined again.
 use Rattle.std.specs.Prelude.{◌≡◌, ℕ, ◌+◌, ◌<◌, Bool, ◌&&◌, ◌==◌, List, length, map, slice_index_or, IsTrue}
 use Rattle.std.specs.List.{flat_map}
 use Rattle.std.specs.declared.cmp.Ordering.{Ordering}
@@ -26,31 +26,32 @@ pub record SharedTables : Type 0 where
 abbrev pub shared_of : Database → SharedTables
 shared_of t = record { scale = t.scale; items = t.items }
 
--- the rows of one warehouse, as tables that have no others, and what all parts share
+-- the rows of one warehouse, as tables without the rows of others, and what all parts share
 pub record Part : Type 0 where
   pub home : ℕ
   pub tables : Database
 
 -- ---- one part
 
--- the warehouse is this one
+-- the warehouse is `home`
 abbrev pub is_of : ℕ → ℕ → Bool
 is_of home warehouse = warehouse == home
 
--- the key is of one of the warehouse's ten districts
+-- the key belongs to one of the warehouse's ten districts
 abbrev pub has_district_of : ℕ → DistrictKey → Bool
 has_district_of home key = is_of home key.w_id && is_between 1 10 key.d_id
 
--- the key is of its stock of an item of the scale
+-- the key belongs to the warehouse's stock of an item of the scale
 abbrev pub has_stock_of : Scale → ℕ → StockKey → Bool
 has_stock_of scale home key = is_of home key.w_id && has_item scale key.i_id
 
--- the key is of a customer of one of its districts
+-- the key belongs to a customer of one of the warehouse's districts
 abbrev pub has_customer_of : Scale → ℕ → CustomerKey → Bool
 has_customer_of scale home key = has_district_of home (district_of_customer key) && is_between 1 scale.customers key.c_id
 
--- It is a warehouse of the scale. The keys of five tables are exactly those of the scale's that are the warehouse's, those of
--- ITEM all of the scale's, and no others are another warehouse's; and rows refer to others as the scale's rules say.
+-- The warehouse is one of the scale. WAREHOUSE, DISTRICT, STOCK, CUSTOMER and HISTORY have exactly the scale's keys
+-- of this warehouse, and ITEM has all of the scale's keys. Orders, new orders and lines are all of this warehouse.
+-- Rows refer to others as the scale's rules require.
 pub record IsPart (p : Part) : Type 0 where
   pub home : IsTrue (has_warehouse p.tables.scale p.home)
   pub items : (key : ℕ) → table.contains_key p.tables.items key ≡ has_item p.tables.scale key
@@ -73,7 +74,7 @@ pub record IsPart (p : Part) : Type 0 where
 
 -- ---- the parts of tables
 
--- what of the tables is one warehouse's
+-- the part of the tables that belongs to one warehouse
 abbrev pub part_of : Database → ℕ → Part
 part_of t home = record {
   home = home;
@@ -91,17 +92,17 @@ part_of t home = record {
   };
 }
 
--- those of all its warehouses, in order
+-- the parts of all warehouses, in order
 abbrev pub parts_of : Database → List Part
 parts_of t = map (part_of t) (warehouse_ids t.scale)
 
--- ---- and the whole again
+-- ---- joined again
 
--- the rows of one table that the parts have, each of its own warehouse
+-- the rows of one table in all parts, each of its part's own warehouse
 abbrev pub rows_of_all : {K X : Type 0} {R : K → K → Ordering} → (K → ℕ) → (Database → table.FinMap R X) → List Part → table.FinMap R X
 rows_of_all own rows parts = table.from_entries (flat_map (λ p. table.entries (table.retain_keys (rows p.tables) (λ key. is_of p.home (own key)))) parts)
 
--- tables of what the parts have, and of what they share
+-- the tables of all parts' rows, and of what the parts share
 abbrev pub whole_of : SharedTables → List Part → Database
 whole_of shared parts = record {
   scale = shared.scale;
@@ -116,7 +117,7 @@ whole_of shared parts = record {
   lines = rows_of_all (λ key. key.w_id) (λ t. t.lines) parts;
 }
 
--- a part of the warehouse whose place this is, from 0, with this scale and these items
+-- a part of the warehouse at this place, counted from 0, with this scale and these items
 pub record IsPartAt (shared : SharedTables) (place : ℕ) (p : Part) : Type 0 where
   pub home : p.home ≡ place + 1
   pub scale : p.tables.scale ≡ shared.scale

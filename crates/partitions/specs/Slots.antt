@@ -1,4 +1,4 @@
--- Where the rows of districts, of stock and of customers stand, among those that are here.
+-- The places of the rows of districts, stock and customers, among those that are here.
 use Rattle.std.specs.Prelude.{◌≡◌, ℕ, ◌+◌, ◌-◌, ◌*◌, ◌<◌, ◌≤◌, Option, Some, None, is_some, if◌then◌else◌}
 use Rattle.std.specs.Option.{option_map}
 use Rattle.std.specs.FinMap as map
@@ -16,17 +16,18 @@ use Rattle.partitions.specs.Parts.{has_district_of, has_stock_of}
 abbrev pub Slots : Type 0
 Slots = DistrictKey → Option ℕ
 
--- the place of a customer, where each of these districts has so many
+-- the place of a customer, if each of these districts has this number of customers
 abbrev pub customer_slot_by : Slots → ℕ → CustomerKey → Option ℕ
 customer_slot_by slot customers key =
     if is_between 1 customers key.c_id then option_map (λ place. place * customers + (key.c_id - 1)) (slot (district_of_customer key)) else None
 
--- no two districts have one place
+-- no two districts have the same place
 abbrev pub AreApart : Slots → Type 0
 AreApart slot = (one other : DistrictKey) (place : ℕ) → slot one ≡ Some place → slot other ≡ Some place → one ≡ other
 
--- The places of so many districts, and the rows that are here: of each district there are all customers, and each order
--- names one of them, and its number is one that orders have.
+-- Each place is below the number of districts, and no two districts share one. The customers that are here are
+-- exactly those of the districts that have a place, each order's customer is one of them, and each order's number is
+-- one that orders can have.
 pub record AreRows (slot : Slots) (districts : ℕ) (t : Database) : Type 0 where
   pub few : districts ≤ 640
   pub within : (home : DistrictKey) (place : ℕ) → slot home ≡ Some place → place < districts

@@ -1,4 +1,4 @@
--- Rows of all warehouses, split into those of each.
+-- The rows of all warehouses, split by warehouse.
 use Rattle.std.specs.Prelude.{◌≡◌, ℕ, ◌+◌, ◌-◌, ◌*◌, ◌<◌, ◌≤◌, List, length, take, drop, slice_index_or}
 use Rattle.std.specs.List.{All, filter}
 use Rattle.rows.specs.declared.keys.OrderKey.{OrderKey}
@@ -10,7 +10,7 @@ use Rattle.partitions.specs.declared.home_rows.HomeRows.{HomeRows}
 use Rattle.partitions.specs.declared.homes.Homes.{Homes}
 use Rattle.partitions.specs.Parts.{is_of}
 
--- the rows at a place, where each place has so many
+-- the rows at a place, if each place has `each` rows
 abbrev pub chunk : {X : Type 0} → ℕ → ℕ → List X → List X
 chunk each place rows = take each (drop (place * each) rows)
 
@@ -18,24 +18,24 @@ chunk each place rows = take each (drop (place * each) rows)
 abbrev pub entries_at : {K X : Type 0} → (K → ℕ) → ℕ → List (K × X) → List (K × X)
 entries_at own place entries = filter (λ e. is_of (place + 1) (own e.0)) entries
 
--- each of these keys is of one of so many warehouses
+-- the warehouse of each of these keys is from 1 to `many`
 abbrev pub AreOfWarehouses : {K X : Type 0} → (K → ℕ) → ℕ → List (K × X) → Type 0
 AreOfWarehouses own many entries = All (λ e. (1 ≤ own e.0) × (own e.0 ≤ many)) entries
 
--- The parts of the places from the first on, of so many, the last first: each is what stands at its place.
+-- The parts at the places from `first` on, of `many`, the last first: each is the part for its place.
 pub record AreLastFirst {P : Type 0} (StandsAt : ℕ → P → Type 0) (first many : ℕ) (parts : List P) : Type 0 where
   pub count : length parts + first ≡ many
   pub each : (place : ℕ) (d : P) → first ≤ place → place < many → StandsAt place (slice_index_or parts (many - 1 - place) d)
 
 -- ---- the rows of all tables
 
--- each key of the three tables that have no fixed keys is of a warehouse of the scale
+-- each key of ORDER, NEW-ORDER and ORDER-LINE belongs to a warehouse of the scale
 pub record AreRowsOfWarehouses (scale : Scale) (rows : TableRows) : Type 0 where
   pub orders : AreOfWarehouses (λ (key : OrderKey). key.w_id) scale.warehouses rows.orders.entries
   pub new_orders : AreOfWarehouses (λ (key : OrderKey). key.w_id) scale.warehouses rows.new_orders.entries
   pub lines : AreOfWarehouses (λ (key : OrderLineKey). key.w_id) scale.warehouses rows.lines
 
--- the rows of each table, those of the warehouses from a place on, the last warehouse's first
+-- the rows of each table that belong to the warehouses from a place on, the last warehouse's first
 pub record AreHomesFrom (scale : Scale) (rows : TableRows) (first : ℕ) (homes : Homes) : Type 0 where
   pub warehouses : AreLastFirst (λ place (row : Warehouse). (d : Warehouse) → slice_index_or rows.warehouses.items place d ≡ row) first scale.warehouses homes.warehouses.items
   pub districts : AreLastFirst (λ place part. part.items ≡ chunk 10 place rows.districts.items) first scale.warehouses homes.districts.items
@@ -57,7 +57,7 @@ pub record IsHomeAt (scale : Scale) (rows : TableRows) (place : ℕ) (home : Hom
   pub new_orders : home.new_orders ≡ entries_at (λ (key : OrderKey). key.w_id) place rows.new_orders.entries
   pub lines : home.lines ≡ entries_at (λ (key : OrderLineKey). key.w_id) place rows.lines
 
--- there is a warehouse left
+-- at least one warehouse is left
 pub record HasHome (homes : Homes) : Type 0 where
   pub warehouses : 0 < length homes.warehouses.items
   pub districts : 0 < length homes.districts.items

@@ -1,4 +1,4 @@
-//! The rows of one more warehouse, behind those of the warehouses before it: moved.
+//! Appends the rows of one more warehouse to those of the warehouses before it. The rows are moved.
 ghost use Rattle.std.specs.Prelude.{◌≡◌, ◌*◌, ◌^◌, ◌<◌, ◌≤◌, ◌++◌, length, OnOk};
 ghost use Rattle.partitions.specs.Partitions.{HasCountsOf};
 ghost use Rattle.partitions.specs.Appends.{AppendsHome};
@@ -6,8 +6,8 @@ ghost use Rattle.partitions.specs.Appends.{AppendsHome};
 use crate::home_rows::HomeRows;
 use schema::{NoMemory, Scale, TableRows};
 
-// Puts the rows of a part behind those of the parts before it. The first part's are kept where they are, with room
-// for so many parts.
+// Appends the rows of a part to those of the parts before it. The first part's vector is kept, with room
+// for all parts.
 fn append<T: Drop>(rows: &mut Vec<T>, part: Vec<T>, parts: usize) -> Result<(), NoMemory>
     requires few { length part.items * parts < 2 ^ 63 }
     requires some { 1 ≤ parts }
@@ -23,7 +23,8 @@ fn append<T: Drop>(rows: &mut Vec<T>, part: Vec<T>, parts: usize) -> Result<(), 
     Ok(())
 }
 
-/// Puts the rows of one more warehouse behind those of the warehouses before it. After an error some are left out.
+/// Appends the rows of one more warehouse to those of the warehouses before it. After an error some rows
+/// are left out.
 pub(crate) fn append_home(
     rows: &mut TableRows,
     scale: Scale,

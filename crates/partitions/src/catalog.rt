@@ -7,7 +7,8 @@ use std::alloc::Global;
 use std::marker::Model;
 use std::sync::Arc;
 
-/// What the partitions of all warehouses share: the scale of the tables, and ITEM, which is never written.
+/// What the partitions of all warehouses share: the scale of the tables, and ITEM, which is never
+/// written.
 #[derive(Drop)]
 pub struct Catalog {
     pub(crate) scale: Scale,
@@ -46,14 +47,15 @@ impl Catalog {
         self.scale
     }
 
-    /// The row of the item, `None` where there is none.
+    /// Returns the item's row, `None` if there is none.
     pub(crate) fn item(&self, i_id: u32) -> Option<&Item>
         ensures { option_copied result ≡ map.get self.now.items i_id }
     {
         self.items.get(self.scale.item_slot(i_id)?)
     }
 
-    /// The same catalog for another partition, which takes no copy of the items. An error changes nothing.
+    /// Returns the same catalog for another partition. The items are shared, not copied. An error
+    /// changes nothing.
     pub fn share(&self) -> Result<Catalog, NoMemory>
         ensures { IfOk result (λ shared. shared ≡ self.now) }
     {

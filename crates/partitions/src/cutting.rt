@@ -7,8 +7,8 @@ use schema::{NoMemory, Tables};
 use std::alloc::Global;
 use std::sync::Arc;
 
-/// The tables, cut into a partition for each warehouse. The rows are moved, one table after the other: no row is
-/// copied, and at no time does more than one table take its memory twice. An error drops the rows.
+/// Cuts the tables into a partition for each warehouse. The rows are moved, table by table: no row is
+/// copied, and at any time at most one table takes its memory twice. An error drops the rows.
 pub fn cut(alloc: Global, tables: Tables) -> Result<(Catalog, Vec<Partition>), NoMemory>
     ensures catalog { IfOk result (λ made. made.0 ≡ shared_of tables) }
     ensures parts { IfOk result (λ made. made.1.items ≡ parts_of tables) }

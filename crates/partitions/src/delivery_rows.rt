@@ -1,4 +1,4 @@
-//! What takes a delivery back, over the rows of one warehouse.
+//! Undoing a delivery, over the rows of one warehouse.
 ghost use Rattle.std.specs.Prelude.{◌≡◌, ◌+◌, ◌<◌, ℕ, None, length, slice_index_or};
 ghost use Rattle.rows.specs.Keys.{order_cmp};
 ghost use Rattle.schema.specs.EachRow.{EachRow};
@@ -11,25 +11,26 @@ use crate::new_order_rows::RowRoom;
 use schema::{CarrierId, Moment, NewOrder, Order, OrderKey, OrderLineKey, OrderLines};
 use std::collections::BTreeMap;
 
-/// What an order's rows were before it was delivered, and room for the one that went.
+/// What an order's rows were before it was delivered, and room for the row of NEW-ORDER that was
+/// deleted.
 #[derive(Drop)]
 pub struct BeforeDelivery {
     pub carrier_id: Option<CarrierId>,
-    /// At the numbers of lines, from 1: `None` too where there is no line.
+    /// By OL_NUMBER, from 1. `None` also where the order has no such line.
     pub moments: [Option<Moment>; 15],
-    /// The order's row of NEW-ORDER, which went.
+    /// The order's row of NEW-ORDER, which was deleted.
     pub new_order: Option<NewOrder>,
     pub(crate) room: RowRoom,
 }
 
-/// The order's carrier, where it has one.
+/// Returns the order's carrier, `None` if it has none.
 pub(crate) fn carrier_of(orders: &BTreeMap<OrderKey, Order>, key: OrderKey) -> Option<CarrierId>
     ensures { result ≡ carrier_at (table_of order_cmp orders.now) key }
 {
     orders.get(&key)?.carrier_id
 }
 
-/// The moments at which the order's lines were delivered, at their numbers from 1.
+/// Returns the moments at which the order's lines were delivered, by OL_NUMBER from 1.
 pub(crate) fn moments_of(lines: &OrderLines, order: OrderKey) -> [Option<Moment>; 15]
     ensures fifteen { length result ≡ 15 }
     ensures each { (n : ℕ) → n < 15 → slice_index_or result n None ≡ moment_at (line_table lines.now) (line_key order (n + 1)) }
@@ -44,7 +45,7 @@ pub(crate) fn moments_of(lines: &OrderLines, order: OrderKey) -> [Option<Moment>
     moments
 }
 
-/// Puts the carrier of the order back. It takes no memory.
+/// Restores the order's carrier. Never allocates.
 pub(crate) fn put_carrier_back(
     orders: &mut BTreeMap<OrderKey, Order>,
     key: OrderKey,
@@ -57,7 +58,7 @@ pub(crate) fn put_carrier_back(
     }
 }
 
-/// Puts the moments of the order's lines back. It takes no memory.
+/// Restores the delivery moments of the order's lines. Never allocates.
 pub(crate) fn put_moments_back(
     lines: &mut OrderLines,
     order: OrderKey,

@@ -7,8 +7,8 @@ use schema::{
 };
 use std::collections::BTreeMap;
 
-/// The rows of one warehouse. Those of four tables, whose keys are the scale's, stand in ascending order of
-/// their keys, without them.
+/// The rows of one warehouse. The scale fixes the keys of districts, stocks, customers and histories:
+/// their rows are stored without keys, in ascending order of the keys.
 #[derive(Drop)]
 pub struct HomeRows {
     pub warehouse: Warehouse,
@@ -26,7 +26,7 @@ pub struct HomeRows {
 }
 
 impl HomeRows {
-    /// Equal rows. Want of memory leaves nothing behind.
+    /// Returns an equal copy. Returns NoMemory if an allocation fails; nothing stays allocated then.
     pub fn try_clone(&self) -> Result<HomeRows, NoMemory>
         ensures { IfOk result (AreSameHomeRows self.now) }
     {

@@ -14,7 +14,7 @@ use schema::{
 use std::alloc::Global;
 use std::collections::BTreeMap;
 
-/// The rows of each table but ITEM, split into those of each warehouse, the last warehouse's first.
+/// The rows of each table but ITEM, split by warehouse. The last warehouse's rows are first.
 #[derive(Drop)]
 pub(crate) struct Homes {
     pub(crate) warehouses: Vec<Warehouse>,
@@ -28,7 +28,8 @@ pub(crate) struct Homes {
 }
 
 impl Homes {
-    /// The rows of ITEM, and those of the other tables, split one table after the other. An error drops them.
+    /// Returns the rows of ITEM, and those of the other tables split by warehouse, one table after the
+    /// other. An error drops all rows.
     pub(crate) fn split(
         alloc: Global,
         scale: Scale,
@@ -55,7 +56,7 @@ impl Homes {
         Ok((rows.items, homes))
     }
 
-    /// Takes the rows of the first warehouse that is left.
+    /// Removes and returns the rows of the first warehouse that is left.
     pub(crate) fn take_first(&mut self) -> HomeRows
         requires { HasHome self.old }
         ensures { (scale : Scale) (rows : TableRows) (place : ℕ) → AreHomesFrom scale rows place self.old → IsHomeAt scale rows place result × AreHomesFrom scale rows (place + 1) self.new }

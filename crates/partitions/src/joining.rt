@@ -9,8 +9,8 @@ use crate::{Catalog, Partition};
 use schema::{Item, NoMemory, TableRows, Tables};
 use std::sync::Arc;
 
-/// The tables that the partitions of all warehouses make. The rows are moved, one partition after the other, behind
-/// those of the first, which are kept. An error drops the rows.
+/// Joins the partitions of all warehouses to the tables. The rows are moved, one partition after the
+/// other, behind those of the first, whose vectors are kept. An error drops the rows.
 pub fn whole(catalog: Catalog, parts: Vec<Partition>) -> Result<Tables, NoMemory>
     requires { ArePartsOf catalog parts.items }
     ensures { IfOk result (λ tables. tables ≡ whole_of catalog parts.items) }
@@ -24,7 +24,7 @@ pub fn whole(catalog: Catalog, parts: Vec<Partition>) -> Result<Tables, NoMemory
     Ok(Tables::from_fitting(scale, rows))
 }
 
-// The rows of ITEM: moved where nothing else shares them, and else copied.
+// Returns the rows of ITEM: moved if nothing else shares them, else copied.
 fn into_items(catalog: Catalog) -> Result<Vec<Item>, NoMemory>
     ensures rows { IfOk result (λ items. map.from_entries (zip (item_ids catalog.scale) items.items) ≡ catalog.items) }
     ensures count { IfOk result (λ items. length items.items ≡ catalog.scale.items) }

@@ -1,12 +1,12 @@
-//! Laws of parts: functions that do nothing, and are proved.
+//! Proved laws of parts, as functions with empty bodies.
 ghost use Rattle.partitions.specs.Laws.{CutPartsMakeTheTables, WholeHasEachPart};
 
-/// Tables are cut into parts that make them whole again.
+/// The parts into which tables are cut make these tables again.
 pub fn cut_parts_make_the_tables()
     ensures { CutPartsMakeTheTables }
 {}
 
-/// The tables that parts make have each of these parts.
+/// The tables that parts make have each of these parts as their own.
 pub fn whole_has_each_part()
     ensures { WholeHasEachPart }
 {}

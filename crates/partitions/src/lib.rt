@@ -1,4 +1,5 @@
-//! The rows of one warehouse, parted from those of the others: what is dense stands dense, and ITEM is shared.
+//! The rows of one warehouse, separate from those of the others. Tables with consecutive keys are stored
+//! as vectors, and ITEM is shared.
 #![tactic(auto)]
 
 mod appends;

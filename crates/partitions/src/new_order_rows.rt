@@ -1,5 +1,6 @@
-//! The rows of NEW-ORDER of one warehouse. A row that a delivery took away comes back without memory: into room that the
-//! delivery set aside for it, beside the ordered map of the others.
+//! The rows of NEW-ORDER of one warehouse. Restoring a row that a delivery deleted allocates nothing:
+//! the row goes into room that the delivery set aside, in a list beside the ordered map of the other
+//! rows.
 ghost use Rattle.std.specs.Prelude.{◌≡◌, ◌+◌, ◌<◌, ◌≤◌, ℕ, length, map, Some, IfOk, OnOk, OnErr, IsTrue};
 ghost use Rattle.std.specs.FinMap as table;
 ghost use Rattle.rows.specs.declared.records.NewOrder as new_order;
@@ -22,14 +23,14 @@ use std::collections::BTreeMap;
 use std::marker::Model;
 use std::mem;
 
-/// Rows that came back, by their keys, the last one first.
+/// Restored rows with their keys, the last one restored first.
 #[derive(Drop)]
 pub(crate) enum Returned {
     Nothing,
     Row(OrderKey, Box<Returned>),
 }
 
-/// Room in which one row of NEW-ORDER can come back.
+/// Room to restore one row of NEW-ORDER.
 #[derive(Drop)]
 pub struct RowRoom {
     room: Box<Returned>,
@@ -43,8 +44,8 @@ impl Model for RowRoom {
     ghost view = { λ _. 0 };
 }
 
-/// The rows of NEW-ORDER of one warehouse with their keys, in order: those of the map, and those that came back since the
-/// last order was added or delivered.
+/// The rows of NEW-ORDER of one warehouse with their keys, in order: those of the map, and those
+/// restored since the last order was added or delivered.
 #[derive(Drop)]
 pub struct NewOrderRows {
     rows: BTreeMap<OrderKey, NewOrder>,
@@ -63,12 +64,12 @@ impl Model for NewOrderRows {
 }
 
 impl NewOrderRows {
-    /// These rows.
+    /// Returns these rows, with none restored.
     pub(crate) fn new(rows: BTreeMap<OrderKey, NewOrder>) -> NewOrderRows
         ensures entries { result ≡ rows.entries }
         ensures table { result ≡ table.entries (table_of order_cmp rows) }
     {
-        // For its contract: the rows stand in order.
+        // For the contract: the rows are in order.
         let _ = rows.len();
         NewOrderRows {
             rows,
@@ -76,7 +77,7 @@ impl NewOrderRows {
         }
     }
 
-    /// Moves the rows to those of other warehouses. After an error some are left out.
+    /// Moves the rows to those of other warehouses. After an error some rows are left out.
     pub(crate) fn append_to(self, rows: &mut BTreeMap<OrderKey, NewOrder>) -> Result<(), NoMemory>
         ensures { OnOk result (AddsRows order_cmp rows.old.entries self rows.new.entries) }
     {
@@ -86,7 +87,7 @@ impl NewOrderRows {
         Ok(())
     }
 
-    /// The same rows. Want of memory leaves nothing behind.
+    /// Returns an equal copy. Returns NoMemory if an allocation fails; nothing stays allocated then.
     pub(crate) fn try_clone(&self) -> Result<NewOrderRows, NoMemory>
         ensures { IfOk result (λ copy. copy ≡ self.now) }
     {
@@ -95,7 +96,7 @@ impl NewOrderRows {
         Ok(NewOrderRows::new(rows))
     }
 
-    /// The number of the district's oldest new order, `None` where it has none here.
+    /// Returns the number of the district's oldest new order, `None` if it has none here.
     pub(crate) fn oldest_number(&self, home: DistrictKey) -> Option<u32>
         requires { EachRow (λ key _. is_order_id key.o_id) (table.from_entries {R = order_cmp} self.now) }
         ensures { result ≡ smallest (numbers (rows_where (is_of_district home) (table.from_entries {R = order_cmp} self.now))) }
@@ -144,15 +145,15 @@ impl NewOrderRows {
         ensures new_order { table.from_entries {R = order_cmp} self.new ≡ put_row (table.from_entries self.old) key replaced.new_order }
         ensures lines { line_table lines.new ≡ put_lines key 1 replaced.lines.items (line_table lines.old) }
     {
-        // Rows of NEW-ORDER are alike: where one stood, it stands.
+        // All rows of NEW-ORDER are equal: a row that was stored before is still stored.
         if replaced.new_order.is_none() {
             self.remove(key);
         }
         take_back_order_and_lines(orders, lines, key, replaced);
     }
 
-    /// As `schema::deliver_order_rows`. It gives the row that stood there, and room in which that can come back. Want of
-    /// memory changes nothing.
+    /// As `schema::deliver_order_rows`. Returns the row that was stored, if any, and room to restore it.
+    /// Returns NoMemory if an allocation fails; the rows are unchanged then.
     pub(crate) fn deliver_order(
         &mut self,
         alloc: Global,
@@ -176,7 +177,7 @@ impl NewOrderRows {
         Ok((was, RowRoom { room }))
     }
 
-    /// Puts back what stood at the key, a row or none. It takes no memory.
+    /// Restores what was stored at the key: a row or none. Never allocates.
     pub(crate) fn put_back(&mut self, key: OrderKey, was: Option<NewOrder>, room: RowRoom)
         ensures { table.from_entries {R = order_cmp} self.new ≡ put_row (table.from_entries self.old) key was }
     {
@@ -190,7 +191,7 @@ impl NewOrderRows {
         }
     }
 
-    // Takes the row at the key away, if there is one. It takes no memory.
+    // Deletes the row at the key, if there is one. Never allocates.
     fn remove(&mut self, key: OrderKey)
         ensures { table.from_entries {R = order_cmp} self.new ≡ table.remove (table.from_entries self.old) key }
     {
@@ -199,7 +200,7 @@ impl NewOrderRows {
     }
 }
 
-// Moves the rows that came back into the map. The rows are the same together, also after an error.
+// Moves the restored rows into the map. The rows of both together stay the same, also after an error.
 fn settle(rows: &mut BTreeMap<OrderKey, NewOrder>, returned: &mut Returned) -> Result<(), NoMemory>
     ensures same { with_returned returned.new (table_of order_cmp rows.new) ≡ with_returned returned.old (table_of order_cmp rows.old) }
     ensures all { OnOk result ((rows : table.FinMap order_cmp new_order.NewOrder) → with_returned returned.new rows ≡ rows) }
@@ -212,7 +213,7 @@ fn settle(rows: &mut BTreeMap<OrderKey, NewOrder>, returned: &mut Returned) -> R
     Ok(())
 }
 
-// Puts the rows that came back into a map. After an error some are left out.
+// Inserts the restored rows into a map. After an error some rows are left out.
 fn put_all(returned: &Returned, rows: &mut BTreeMap<OrderKey, NewOrder>) -> Result<(), NoMemory>
     ensures { OnOk result (table_of order_cmp rows.new ≡ with_returned returned.now (table_of order_cmp rows.old)) }
 {
@@ -223,7 +224,7 @@ fn put_all(returned: &Returned, rows: &mut BTreeMap<OrderKey, NewOrder>) -> Resu
     Ok(())
 }
 
-// Takes the row at the key out of those that came back. It takes no memory.
+// Removes the row at the key from the restored rows. Never allocates.
 fn forget(returned: &mut Returned, key: OrderKey)
     ensures { (rows : table.FinMap order_cmp new_order.NewOrder) → with_returned returned.new (table.remove rows key) ≡ table.remove (with_returned returned.old rows) key }
 {
@@ -236,7 +237,8 @@ fn forget(returned: &mut Returned, key: OrderKey)
     }
 }
 
-// The number of the district's oldest order among those that came back and the others, of which this is the oldest.
+// Returns the number of the district's oldest order among the restored rows and other rows, whose oldest
+// is `other`.
 fn oldest_with(returned: &Returned, home: DistrictKey, other: Option<u32>) -> Option<u32>
     ensures { (rows : table.FinMap order_cmp new_order.NewOrder) → other ≡ smallest (numbers (rows_where (is_of_district home) rows))
         → result ≡ smallest (numbers (rows_where (is_of_district home) (with_returned returned.now rows))) }
@@ -252,7 +254,7 @@ fn oldest_with(returned: &Returned, home: DistrictKey, other: Option<u32>) -> Op
     }
 }
 
-// The lesser of a number and another, where there is one.
+// Returns the lesser of the two numbers, or `number` if there is no other.
 fn lesser(number: u32, other: Option<u32>) -> u32
     ensures { result ≡ lesser_of number other }
 {

@@ -21,8 +21,8 @@ use schema::{
 use std::marker::Model;
 use std::mem;
 
-/// The rows of one warehouse, and what all partitions share: seen as tables that have no rows of other
-/// warehouses.
+/// The rows of one warehouse, and what all partitions share. In contracts: tables that have no rows of
+/// other warehouses.
 #[derive(Drop)]
 pub struct Partition {
     pub(crate) catalog: Catalog,
@@ -51,7 +51,8 @@ impl Model for Partition {
 }
 
 impl Partition {
-    /// An equal partition, which shares the items. Want of memory leaves nothing behind.
+    /// Returns an equal copy, which shares the items. Returns NoMemory if an allocation fails; nothing
+    /// stays allocated then.
     pub fn try_clone(&self) -> Result<Partition, NoMemory>
         ensures { IfOk result (λ copy. copy ≡ self.now) }
     {
@@ -64,7 +65,7 @@ impl Partition {
         })
     }
 
-    /// The W_ID of the warehouse whose rows these are.
+    /// Returns the W_ID of the warehouse to which the rows belong.
     pub fn home(&self) -> u32
         ensures home { result ≡ self.now.home }
         ensures part { IsPart self.now }
@@ -72,7 +73,7 @@ impl Partition {
         self.home
     }
 
-    /// The scale of the tables that this is a part of.
+    /// Returns the scale of the tables of which this is a part.
     pub fn scale(&self) -> Scale
         ensures value { result ≡ self.now.tables.scale }
         ensures part { IsPart self.now }
@@ -80,14 +81,15 @@ impl Partition {
         self.catalog.scale()
     }
 
-    /// The row of the item, `None` where there is none.
+    /// Returns the item's row, `None` if there is none.
     pub fn item(&self, i_id: u32) -> Option<&Item>
         ensures { option_copied result ≡ map.get self.now.tables.items i_id }
     {
         self.catalog.item(i_id)
     }
 
-    /// The row of the warehouse; `None` for other warehouses. So for the other tables.
+    /// Returns the warehouse's row, `None` for other warehouses. The other look-ups also return `None`
+    /// there.
     pub fn warehouse(&self, w_id: u32) -> Option<&Warehouse>
         ensures { option_copied result ≡ map.get self.now.tables.warehouses w_id }
     {
@@ -116,14 +118,14 @@ impl Partition {
         self.rows.customers.get(self.slot_of_customer(key)?)
     }
 
-    /// The row of the order, `None` where there is none here.
+    /// Returns the order's row, `None` if there is none here.
     pub fn order(&self, key: OrderKey) -> Option<&Order>
         ensures { option_copied result ≡ map.get self.now.tables.orders key }
     {
         self.rows.orders.get(&key)
     }
 
-    /// All orders of the warehouse, by their keys.
+    /// Returns all orders of the warehouse, by key.
     pub fn orders(&self) -> Orders<'_>
         ensures rows { result ≡ map.entries self.now.tables.orders }
         ensures fits { length result < 2 ^ 63 }
@@ -131,7 +133,7 @@ impl Partition {
         Entries::of_map(self.rows.orders.range(..))
     }
 
-    /// The lines of the order, by OL_NUMBER.
+    /// Returns the lines of the order, by OL_NUMBER.
     pub fn lines_of(&self, order: OrderKey) -> Lines<'_>
         ensures rows { result ≡ rows_where (is_of_order order) self.now.tables.lines }
         ensures fits { length result < 2 ^ 63 }
@@ -139,8 +141,8 @@ impl Partition {
         self.rows.lines.of_order(order)
     }
 
-    /// The lines of the district's orders numbered from `from` up to, but without, `to`, by O_ID and then by
-    /// OL_NUMBER.
+    /// Returns the lines of the district's orders with numbers from `from` up to but excluding `to`, by
+    /// O_ID and then by OL_NUMBER.
     pub fn lines_of_span(&self, home: DistrictKey, from: u32, to: u32) -> Lines<'_>
         ensures rows { result ≡ rows_where (is_in_span home from to) self.now.tables.lines }
         ensures fits { length result < 2 ^ 63 }
@@ -148,7 +150,8 @@ impl Partition {
         self.rows.lines.in_span(home, from, to)
     }
 
-    /// The customers of the district, by C_ID from 1; `None` where it is none of the warehouse's.
+    /// Returns the customers of the district, by C_ID from 1; `None` if the district is not one of the
+    /// warehouse's.
     pub fn customers_of(&self, home: DistrictKey) -> Option<&[Customer]>
         ensures district { is_some result ≡ has_district_of self.now.home home }
         ensures rows { IfSome result (λ rows. (c : ℕ) → slice_get rows.now c ≡ map.get self.now.tables.customers (customer_key home (c + 1))) }
@@ -160,7 +163,8 @@ impl Partition {
             .get(slot * customers..(slot + 1) * customers)
     }
 
-    /// Puts a row in place of the warehouse's, and gives that. So for the next three tables.
+    /// Replaces the warehouse's row, and returns the old row. The next three functions do the same for
+    /// their tables.
     pub fn replace_warehouse(&mut self, w_id: u32, row: Warehouse) -> Option<Warehouse>
         requires { IsTrue (map.contains_key self.old.tables.warehouses w_id) }
         ensures tables { self.new ≡ record self.old { tables = record self.old.tables { warehouses = map.insert self.old.tables.warehouses w_id row } } }
@@ -200,7 +204,7 @@ impl Partition {
         Some(mem::replace(&mut self.rows.customers[slot], row))
     }
 
-    /// Adds a payment at the end of the district's list; an error changes nothing. The payer may belong to
+    /// Appends a payment to the district's list. An error changes nothing. The payer may belong to
     /// another warehouse.
     pub fn push_history(&mut self, key: DistrictKey, row: History) -> Result<(), NoMemory>
         requires district { IsTrue (map.contains_key self.old.tables.districts key) }
@@ -214,7 +218,7 @@ impl Partition {
         }
     }
 
-    /// Takes the last payment of the district's list away, if there is one. It takes no memory.
+    /// Removes the last payment of the district's list, if there is one. Never allocates.
     pub fn pop_history(&mut self, key: DistrictKey)
         requires { IsTrue (map.contains_key self.old.tables.districts key) }
         ensures { self.new ≡ record self.old { tables = record self.old.tables { histories = without_payment self.old.tables.histories key } } }
@@ -224,8 +228,9 @@ impl Partition {
         }
     }
 
-    /// Adds an order of one of the warehouse's districts, its row of NEW-ORDER and its lines, which are numbered from
-    /// 1 (clause 2.4.2.2), and gives what stood in their places. Want of memory changes nothing.
+    /// Adds an order of one of the warehouse's districts, its row of NEW-ORDER and its lines, which are
+    /// numbered from 1 (clause 2.4.2.2). Returns the rows that were stored at these keys. Returns
+    /// NoMemory if an allocation fails; the partition is unchanged then.
     pub fn add_order(
         &mut self,
         key: OrderKey,
@@ -250,8 +255,8 @@ impl Partition {
         )
     }
 
-    /// Takes an order back that was added: puts back what stood in the places of its rows, or nothing where nothing
-    /// stood. It takes no memory.
+    /// Undoes `add_order`: at each of the order's keys the replaced row is stored again, or none if
+    /// there was none. Never allocates.
     pub fn take_back_order(&mut self, key: OrderKey, replaced: Replaced)
         requires few { length replaced.lines.items ≤ 15 }
         requires order { IsTrue (map.contains_key self.old.tables.orders key) }
@@ -265,15 +270,17 @@ impl Partition {
             .take_back_order(&mut self.rows.orders, &mut self.rows.lines, key, replaced);
     }
 
-    /// The number of the district's oldest new order, `None` where it has none here (clause 2.7.4.2). It reads one row.
+    /// Returns the number of the district's oldest new order, `None` if it has none here (clause
+    /// 2.7.4.2). Reads one row.
     pub fn oldest_new_order(&self, home: DistrictKey) -> Option<u32>
         ensures { result ≡ oldest_new_order self.now.tables home }
     {
         self.rows.new_orders.oldest_number(home)
     }
 
-    /// Delivers an order: it is new no more, it gets the carrier, and its lines get the moment (clause 2.7.4.2). It gives
-    /// what stood there before. Want of memory changes nothing.
+    /// Delivers an order: deletes its row of NEW-ORDER, and sets its carrier and the delivery moment of
+    /// its lines (clause 2.7.4.2). Returns what was stored before. Returns NoMemory if an allocation
+    /// fails; the partition is unchanged then.
     pub fn deliver_order(
         &mut self,
         key: OrderKey,
@@ -303,7 +310,7 @@ impl Partition {
         })
     }
 
-    /// Takes a delivery back: what stood there before it is there again. It takes no memory.
+    /// Undoes `deliver_order`: restores what was stored before it. Never allocates.
     pub fn take_back_delivery(&mut self, key: OrderKey, before: BeforeDelivery)
         requires order { IsTrue (map.contains_key self.old.tables.orders key) }
         requires fifteen { length before.moments ≡ 15 }
@@ -316,7 +323,8 @@ impl Partition {
             .put_back(key, before.new_order, before.room);
     }
 
-    /// The place of the district's row among the warehouse's, from 0; `None` where it is none of the warehouse's.
+    /// Returns the place of the district's row among the warehouse's, from 0; `None` if the district is
+    /// not one of the warehouse's.
     pub(crate) fn slot_of_district(&self, key: DistrictKey) -> Option<usize>
         ensures { result ≡ home_slot self.now.home key }
     {
@@ -327,7 +335,7 @@ impl Partition {
         }
     }
 
-    // The place of the row of the warehouse's stock of an item, likewise.
+    // Returns the place of the row of the warehouse's stock of an item, likewise.
     fn slot_of_stock(&self, key: StockKey) -> Option<usize>
         ensures { result ≡ home_stock_slot self.now.tables.scale self.now.home key }
     {
@@ -338,7 +346,7 @@ impl Partition {
         }
     }
 
-    // The place of the customer's row, likewise.
+    // Returns the place of the customer's row, likewise.
     fn slot_of_customer(&self, key: CustomerKey) -> Option<usize>
         ensures { result ≡ customer_slot_by (home_slot self.now.home) self.now.tables.scale.customers key }
     {

@@ -4,7 +4,7 @@ use schema::{
     StockKey,
 };
 
-/// The rows of one warehouse: of its ten districts.
+/// The rows of one warehouse, which has ten districts.
 impl Rows for Partition {
     ghost use Rattle.partitions.specs.Slots.{home_slot};
 
@@ -62,7 +62,7 @@ impl Rows for Partition {
     }
 
     fn lines_of_span(&self, home: DistrictKey, from: u32, to: u32) -> Lines<'_> {
-        // The lines of a part are numbered.
+        // For the contract: the lines of a part are numbered from 1 to 15.
         let _ = self.home();
         Partition::lines_of_span(self, home, from, to)
     }

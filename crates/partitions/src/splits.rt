@@ -1,4 +1,5 @@
-//! Rows of all warehouses, split into those of each: moved, from the last warehouse to the first.
+//! Splitting the rows of all warehouses by warehouse, from the last warehouse to the first. The rows are
+//! moved.
 ghost use Rattle.std.specs.Prelude.{◌≡◌, ℕ, ◌*◌, ◌≤◌, length, IfOk};
 ghost use Rattle.partitions.specs.Splits.{chunk, entries_at, AreOfWarehouses, AreLastFirst};
 
@@ -6,8 +7,8 @@ use schema::{NoMemory, OrderKey, OrderLine, OrderLineKey, OrderLines};
 use std::alloc::Global;
 use std::collections::BTreeMap;
 
-/// Rows that stand in order, so many for each part, split into these parts, the last first. The first part keeps
-/// what is left. An error drops the rows.
+/// Splits rows in order into parts of `each` rows, the last part first. The first part keeps the vector.
+/// An error drops the rows.
 pub(crate) fn split<T: Drop>(
     alloc: Global,
     rows: Vec<T>,
@@ -32,7 +33,7 @@ pub(crate) fn split<T: Drop>(
     Ok(split)
 }
 
-/// Rows with their keys, of which those of the warehouses from one on can be split off.
+/// Rows with their keys. The rows of all warehouses from a given one on can be split off.
 pub(crate) trait ByWarehouse: Drop + Sized {
     ghost use Rattle.std.specs.Prelude.{◌≡◌, ℕ, List, nat_le, nat_lt, IfOk, OnOk};
     ghost use Rattle.std.specs.List.{filter};
@@ -46,7 +47,8 @@ pub(crate) trait ByWarehouse: Drop + Sized {
     /// The warehouse of a key.
     ghost warehouse_of: { Self.Key → ℕ };
 
-    /// Takes the rows of the warehouses from this one on away, and gives them. After an error some may be lost.
+    /// Removes and returns the rows of this and all later warehouses. After an error some rows may be
+    /// lost.
     fn split_off_from(&mut self, warehouse: u32) -> Result<Self, NoMemory>
         ensures from { IfOk result (λ later. entries later ≡ filter (λ e. nat_le warehouse (warehouse_of e.0)) (entries self.old)) }
         ensures below { OnOk result (entries self.new ≡ filter (λ e. nat_lt (warehouse_of e.0) warehouse) (entries self.old)) };
@@ -84,8 +86,8 @@ impl ByWarehouse for OrderLines {
     }
 }
 
-/// Rows of so many warehouses, split into those of each, the last first. The first warehouse keeps what is left.
-/// An error drops the rows.
+/// Splits the rows of all warehouses by warehouse, the last warehouse first. The first warehouse keeps
+/// what is left. An error drops the rows.
 pub(crate) fn split_by_warehouse<R: ByWarehouse>(
     alloc: Global,
     rows: R,

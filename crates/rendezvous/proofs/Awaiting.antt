@@ -122,7 +122,7 @@ pub turned : {X : Type 0} (old new : List X) (last : Option X) → old ≡ new +
 turned old new None is = ap reverse (is ∙ append-nil new)
 turned old new (Some x) is = ap reverse is ∙ reverse-append new (x ∷ [])
 
--- Where no result is told of those that were left, none is left.
+-- If no result is returned of those that were left, none was left.
 pub none_left : {X : Type 0} (results : List X) (recorded : Option X) → recorded ≡ None → (IsSome recorded ↔ (0 < length results)) → results ≡ []
 none_left [] recorded none some = refl
 none_left {X} (x ∷ results) recorded none some = let there : IsSome {T = X} None = subst (λ (o : Option X). IsSome o) none (some.1 (omega arith)) in absurd (cc)

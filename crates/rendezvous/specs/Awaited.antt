@@ -1,4 +1,4 @@
--- Who has not reported yet.
+-- The places that have not reported yet.
 use Rattle.std.specs.Prelude.{ℕ, ◌+◌, List, [], ◌∷◌, Option, Some, None}
 
 -- the numbers, from n on, of the places that have not reported
@@ -7,7 +7,7 @@ awaited_from n [] = []
 awaited_from n (None ∷ places) = n ∷ awaited_from (n + 1) places
 awaited_from n (Some report ∷ places) = awaited_from (n + 1) places
 
--- what has been reported, by place
+-- the reports so far, by place
 abbrev pub reported : {R : Type 0} → List (Option R) → List R
 reported [] = []
 reported (None ∷ places) = reported places

@@ -1,6 +1,6 @@
-//! A meeting: each of several places reports once, and who reports last gets what all have reported.
+//! A meeting: each of several places reports once, and the last one to report gets all reports.
 //!
-//! Nothing here waits, and only `Meeting::open` takes memory.
+//! No function waits, and only `Meeting::open` allocates.
 #![tactic(auto)]
 
 mod laws;

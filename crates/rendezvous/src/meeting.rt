@@ -7,13 +7,13 @@ use std::alloc::{AllocError, Global};
 use std::marker::Model;
 use std::mem;
 
-/// A meeting of so many places, each of which reports once.
+/// A meeting of several places, each of which reports once.
 ///
-/// Contracts see what each place has reported, if it has, and nothing once all have.
+/// In contracts: each place's report, if it has reported; the empty list once all have.
 #[derive(Drop)]
 pub struct Meeting<R> {
     reports: Vec<Option<R>>,
-    // How many have not reported.
+    // The number of places that have not reported.
     awaited: usize,
 }
 
@@ -33,17 +33,17 @@ impl<R> Model for Meeting<R> {
     ghost invariant = { λ m. m.awaited ≡ length (awaited_from 0 m.reports.items) };
 }
 
-/// What a place is told that reports.
+/// The result of a report.
 #[derive(Drop)]
 pub enum Reported<R> {
     /// Another place has not reported yet.
     NotLast,
-    /// All have reported. The meeting is over.
+    /// All places have reported. The meeting is over.
     Last(Results<R>),
 }
 
 impl<R> Meeting<R> {
-    /// A meeting of this many places.
+    /// Opens a meeting of this many places. Returns AllocError if an allocation fails.
     pub fn open(alloc: Global, places: usize) -> Result<Meeting<R>, AllocError>
         requires { 1 ≤ places }
         ensures { IfOk result (λ meeting. meeting ≡ replicate places None) }
@@ -58,15 +58,15 @@ impl<R> Meeting<R> {
         })
     }
 
-    /// Whether there is such a place, and it has not reported.
+    /// Returns whether there is such a place and it has not reported.
     pub fn awaits(&self, place: usize) -> bool
         ensures { IsTrue result ↔ (slice_get self.now place ≡ Some None) }
     {
         matches!(self.reports.get(place), Some(None))
     }
 
-    /// A place reports. It gets all results, and the meeting is over, exactly where no other is awaited.
-    /// It takes no memory.
+    /// Reports for a place, which has not reported yet. Returns all results exactly if no other place is
+    /// awaited; the meeting is over then. Never allocates.
     pub fn report(&mut self, place: usize, own: R) -> Reported<R>
         requires { slice_get self.old place ≡ Some None }
         ensures last { IsLast result ↔ (awaited_from 0 (slice_set self.old place (Some own)) ≡ []) }

@@ -2,12 +2,12 @@ ghost use Rattle.std.specs.Prelude.{◌≡◌, ◌<◌, ◌++◌, ◌↔◌, len
 
 use std::marker::Model;
 
-/// What all places of a meeting have reported.
+/// The reports of all places of a meeting.
 ///
-/// Contracts see the results by place.
+/// In contracts: the results that are left, by place.
 #[derive(Drop)]
 pub struct Results<R> {
-    // Each place has a result. The first place's lies last, and so is the next to go.
+    // Each place has a result. The first place's is at the end, and is returned next.
     pub(crate) reports: Vec<Option<R>>,
 }
 
@@ -28,14 +28,14 @@ impl<R> Model for Results<R> {
 }
 
 impl<R> Results<R> {
-    /// How many results are left.
+    /// Returns the number of results that are left.
     pub fn len(&self) -> usize
         ensures { result ≡ length self.now }
     {
         self.reports.len()
     }
 
-    /// The result of the first place of which there is one left. It takes no memory.
+    /// Removes and returns the result of the first place that has one left. Never allocates.
     pub fn next(&mut self) -> Option<R>
         ensures results { self.old ≡ option_to_list result ++ self.new }
         ensures some { IsSome result ↔ (0 < length self.old) }

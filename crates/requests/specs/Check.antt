@@ -1,4 +1,4 @@
--- Which requests are refused by themselves, and why.
+-- Which requests the check refuses, and why.
 use Rattle.std.specs.Prelude.{◌≡◌, Bool, List, [], ◌∷◌, Option, Some, None, Result, Ok, Err, find}
 use Rattle.schema.specs.declared.scale.Scale.{Scale}
 use Rattle.requests.specs.declared.request.Request.{Request}
@@ -11,7 +11,7 @@ use Rattle.requests.specs.OrderStatus.{order_status_applies}
 use Rattle.requests.specs.Delivery.{delivery_applies}
 use Rattle.requests.specs.StockLevel.{stock_level_applies}
 
--- the refusals of a request by itself, in the order in which they are looked for
+-- the refusals of the check, in the order in which they are tried
 abbrev pub refusals : List Refusal
 refusals = BadWarehouse ∷ BadDistrict ∷ BadLines ∷ BadQuantity ∷ BadSupply ∷ BadAmount ∷ BadThreshold ∷ BadCarrier ∷ []
 
@@ -23,12 +23,12 @@ applies scale (OrderStatus o) refusal = order_status_applies scale o refusal
 applies scale (Delivery d) refusal = delivery_applies scale d refusal
 applies scale (StockLevel s) refusal = stock_level_applies scale s refusal
 
--- the refusal, if there is one
+-- `Err` of the refusal, `Ok` if there is none
 abbrev pub refused_by : Option Refusal → Result (Unit {0}) Refusal
 refused_by None = Ok tt
 refused_by (Some refusal) = Err refusal
 
--- what the check of a request answers: the first refusal that applies to it
+-- the result of a request's check: the first refusal that applies to it
 abbrev pub check_of : Scale → Request → Result (Unit {0}) Refusal
 check_of scale request = refused_by (find (applies scale request) refusals)
 

@@ -1,4 +1,4 @@
--- When a New-Order is refused by itself.
+-- When the check refuses a New-Order.
 use Rattle.std.specs.Prelude.{Bool, false, not, length}
 use Rattle.std.specs.List.{list_all}
 use Rattle.rows.specs.Ranged.{is_between}

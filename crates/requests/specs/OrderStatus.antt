@@ -1,4 +1,4 @@
--- When an Order-Status is refused by itself.
+-- When the check refuses an Order-Status.
 use Rattle.std.specs.Prelude.{Bool, false, not}
 use Rattle.rows.specs.Ranged.{is_between}
 use Rattle.schema.specs.declared.scale.Scale.{Scale}

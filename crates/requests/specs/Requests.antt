@@ -3,7 +3,7 @@ use Rattle.requests.specs.declared.request.Request.{Request}
 use Rattle.requests.specs.declared.request.Request.TheVariants.{Payment}
 use Rattle.requests.specs.declared.request.Choice.TheVariants.{Number}
 
--- what stands for a request where there is none: a payment of nothing to nobody, which no check accepts
+-- the default in place of a missing request: a payment of 0 cents by no customer, which no check accepts
 abbrev pub no_request : Request
 no_request = Payment record {
   home = record { w_id = 0; d_id = 0 };

@@ -1,6 +1,6 @@
 use crate::{Refusal, Reply};
 
-/// What becomes of a request.
+/// The answer to a request.
 #[derive(Clone, Debug, PartialEq, Eq, Drop)]
 pub enum Answer {
     /// It was carried out. `place` is the place of its log entry, from 0 to 16,777,215.

@@ -6,8 +6,8 @@ ghost use Rattle.requests.specs.Refusal.{refusal_number};
 use crate::{Refusal, Request, delivery, new_order, order_status, payment, stock_level};
 use schema::{DistrictKey, Scale};
 
-/// The first of the refusals `BadWarehouse` to `BadCarrier` that applies to the request, in this
-/// order; `Ok` exactly where none does. It takes no memory.
+/// Returns the first of the refusals `BadWarehouse` to `BadCarrier` that applies to the request, in this
+/// order; `Ok` exactly if none does. Never allocates.
 pub fn check(scale: &Scale, request: &Request) -> Result<(), Refusal>
     ensures first { result ≡ check_of scale.now request.now }
     ensures by_itself { IfErr result (λ refusal. refusal_number refusal ≤ 8) }
@@ -21,7 +21,7 @@ pub fn check(scale: &Scale, request: &Request) -> Result<(), Refusal>
     }
 }
 
-/// Whether the district's number is one, whatever its warehouse.
+/// Returns whether the district's number is 1 to 10, whatever its warehouse.
 pub(crate) fn is_district(key: DistrictKey) -> bool
     ensures { result ≡ is_between 1 10 key.d_id }
 {

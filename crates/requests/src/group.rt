@@ -1,6 +1,6 @@
 use std::fmt;
 
-/// The rows that are locked as one. Groups are ordered by kind, then by warehouse, then by number.
+/// Rows that are locked together. Groups are ordered by kind, then by warehouse, then by number.
 #[derive(Clone, Copy, Debug, PartialEq, Eq, PartialOrd, Ord, Hash)]
 pub enum Group {
     /// The warehouse's row.
@@ -17,7 +17,7 @@ pub enum Group {
     Stock { w_id: u32, residue: u32 },
 }
 
-/// Two letters for the kind and then the numbers, as `WH.1` and `OR.1.10`.
+/// Two letters for the kind, and then the numbers, such as `WH.1` and `OR.1.10`.
 impl fmt::Display for Group {
     ghost use Rattle.std.specs.Prelude.{Some};
     ghost use Rattle.requests.specs.Group.{group_text};

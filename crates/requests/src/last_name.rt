@@ -7,8 +7,8 @@ ghost use Rattle.requests.specs.LastName.{begins_with_hash, unless_hash};
 use schema::Text;
 use std::marker::Model;
 
-/// A C_LAST by which a customer can be chosen: a text of at most 16 bytes that doesn't begin with `#`,
-/// which is what numbers begin with where requests are written.
+/// A C_LAST by which a customer can be selected: a text of at most 16 bytes that doesn't begin with `#`.
+/// Where requests are written, `#` begins a number.
 #[derive(Clone, Debug, Drop)]
 pub struct LastName {
     name: Text<16>,
@@ -26,7 +26,7 @@ impl Model for LastName {
 }
 
 impl LastName {
-    /// The name, or `None` where it begins with `#`. It takes no memory.
+    /// Returns the name, or `None` if it begins with `#`. Never allocates.
     pub fn checked_new(name: Text<16>) -> Option<LastName>
         ensures { result ≡ unless_hash name }
     {
@@ -37,7 +37,7 @@ impl LastName {
         }
     }
 
-    /// The bytes of the name, which are printable ASCII, at most 16 of them.
+    /// Returns the bytes of the name: at most 16, printable ASCII.
     pub fn as_str(&self) -> &str
         ensures bytes { result.now ≡ self.now }
         ensures no_hash { begins_with_hash self.now ≡ false }

@@ -1,5 +1,4 @@
-//! The requests of terminals, their check, and the answers that they get. Clauses are those of
-//! TPC-C 5.11.
+//! The requests of terminals, their check, and their answers. Clauses are those of TPC-C 5.11.
 #![tactic(auto)]
 
 mod answer;

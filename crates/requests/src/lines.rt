@@ -17,14 +17,14 @@ impl<T: Drop> Model for Lines<T> {
 }
 
 impl<T: Drop> Lines<T> {
-    /// These lines. It takes no memory.
+    /// Makes a value of these lines. Never allocates.
     pub fn new(lines: Vec<T>) -> Self
         ensures { result ≡ lines.items }
     {
         Lines { lines }
     }
 
-    /// The lines, in order.
+    /// Returns the lines, in order.
     pub fn as_slice(&self) -> &[T]
         ensures { result.now ≡ self.now }
     {

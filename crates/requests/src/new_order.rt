@@ -1,4 +1,4 @@
-//! New-Order (clause 2.4), and what is shown of it.
+//! New-Order (clause 2.4), and its reply.
 ghost use Rattle.std.specs.Prelude.{◌≡◌};
 ghost use Rattle.std.specs.List.{list_all};
 ghost use Rattle.rows.specs.Ranged.{is_between};
@@ -13,24 +13,25 @@ use schema::{
     StockQuantity, Text,
 };
 
-/// A customer orders items (clause 2.4.1). As it comes, any number may be out of its range: `check` tells.
+/// A customer orders items (clause 2.4.1). Before `check`, any number may be out of its range.
 #[derive(Clone, Debug, PartialEq, Eq, Drop)]
 pub struct NewOrder {
-    /// W_ID and D_ID, where the order is placed and the customer belongs: a warehouse of the scale, and 1 to
-    /// 10.
+    /// W_ID and D_ID of the district where the order is placed and to which the customer belongs: a
+    /// warehouse of the scale, and 1 to 10.
     pub home: DistrictKey,
-    /// C_ID of who orders. That nobody there has it is no fault of the request: it is found when it runs.
+    /// C_ID of the customer who orders. `check` does not test that the customer exists: the transaction
+    /// does.
     pub c_id: u32,
-    /// O_ENTRY_D, which comes with the request.
+    /// O_ENTRY_D, which the request contains.
     pub moment: Moment,
-    /// By OL_NUMBER, 5 to 15 of them.
+    /// By OL_NUMBER: 5 to 15 lines.
     pub lines: Lines<OrderedLine>,
 }
 
 /// A line of an order that is placed (clause 2.4.1.5).
 #[derive(Clone, Copy, Debug, PartialEq, Eq)]
 pub struct OrderedLine {
-    /// OL_I_ID. That there is no such item is no fault of the request: it is found when it runs.
+    /// OL_I_ID. `check` does not test that the item exists: the transaction does.
     pub i_id: u32,
     /// OL_SUPPLY_W_ID: a warehouse of the scale.
     pub supply_w_id: u32,
@@ -48,10 +49,10 @@ pub struct NewOrderReply {
     /// W_TAX and D_TAX.
     pub warehouse_tax: Rate,
     pub district_tax: Rate,
-    /// The number that the order got.
+    /// O_ID of the order.
     pub o_id: u32,
     pub entry_d: Moment,
-    /// What the lines come to, less the discount and with both taxes, in cents.
+    /// The sum of the lines' amounts, less the discount and with both taxes, in cents.
     pub total: Cents,
     /// By OL_NUMBER.
     pub lines: Lines<NewOrderLine>,
@@ -65,7 +66,7 @@ pub struct NewOrderLine {
     /// I_NAME.
     pub name: Text<24>,
     pub quantity: LineQuantity,
-    /// S_QUANTITY once the line was taken.
+    /// S_QUANTITY after the line.
     pub stock_quantity: StockQuantity,
     pub brand: BrandGeneric,
     pub price: Price,
@@ -73,7 +74,7 @@ pub struct NewOrderLine {
     pub amount: LineAmount,
 }
 
-/// The first refusal that applies to a New-Order.
+/// Returns the first refusal that applies to a New-Order.
 pub(crate) fn check(scale: Scale, order: &NewOrder) -> Result<(), Refusal>
     ensures { result ≡ check_of scale (Request.NewOrder order.now) }
 {
@@ -96,7 +97,7 @@ pub(crate) fn check(scale: Scale, order: &NewOrder) -> Result<(), Refusal>
     Ok(())
 }
 
-// Whether each line orders 1 to 10.
+// Returns whether each line's quantity is 1 to 10.
 fn are_quantities(lines: &[OrderedLine]) -> bool
     ensures { result ≡ list_all (λ line. is_between 1 10 line.quantity) lines.now }
 {
@@ -108,7 +109,7 @@ fn are_quantities(lines: &[OrderedLine]) -> bool
     true
 }
 
-// Whether a warehouse of the scale supplies each line.
+// Returns whether each line's supply warehouse is one of the scale.
 fn are_suppliers(scale: Scale, lines: &[OrderedLine]) -> bool
     ensures { result ≡ list_all (λ line. has_warehouse scale line.supply_w_id) lines.now }
 {

@@ -1,4 +1,4 @@
-//! Order-Status (clause 2.6), and what is shown of it.
+//! Order-Status (clause 2.6), and its reply.
 ghost use Rattle.std.specs.Prelude.{◌≡◌};
 ghost use Rattle.requests.specs.Check.{check_of};
 
@@ -7,13 +7,13 @@ use crate::{Choice, Lines, Refusal, Request};
 use amounts::Cents;
 use schema::{CarrierId, DistrictKey, LineAmount, LineQuantity, Moment, Scale, Text};
 
-/// A customer asks for the state of the last order (clause 2.6.1). As it comes, any number may be out of
-/// its range: `check` tells.
+/// A customer asks for the state of the last order (clause 2.6.1). Before `check`, any number may be out
+/// of its range.
 #[derive(Clone, Debug, PartialEq, Eq, Drop)]
 pub struct OrderStatus {
-    /// W_ID and D_ID, where the customer belongs: a warehouse of the scale, and 1 to 10.
+    /// W_ID and D_ID of the customer's district: a warehouse of the scale, and 1 to 10.
     pub home: DistrictKey,
-    /// Who asks.
+    /// The customer who asks.
     pub customer: Choice,
 }
 
@@ -26,7 +26,7 @@ pub struct OrderStatusReply {
     pub last: Text<16>,
     /// C_BALANCE, in cents: -10^15 to 10^15.
     pub balance: Cents,
-    /// The customer's last order; `None` where there is none.
+    /// The customer's last order; `None` if there is none.
     pub order: Option<StatusOrder>,
 }
 
@@ -52,7 +52,7 @@ pub struct StatusLine {
     pub delivery_d: Option<Moment>,
 }
 
-/// The first refusal that applies to an Order-Status.
+/// Returns the first refusal that applies to an Order-Status.
 pub(crate) fn check(scale: Scale, asked: &OrderStatus) -> Result<(), Refusal>
     ensures { result ≡ check_of scale (Request.OrderStatus asked.now) }
 {

@@ -1,4 +1,4 @@
-//! A payment (clause 2.5), and what is shown of it.
+//! Payment (clause 2.5), and its reply.
 ghost use Rattle.std.specs.Prelude.{◌≡◌};
 ghost use Rattle.requests.specs.Check.{check_of};
 
@@ -7,23 +7,23 @@ use crate::{Choice, Refusal, Request, ShownData};
 use amounts::{Cents, Rate};
 use schema::{Credit, DistrictKey, Moment, Scale, Text};
 
-/// A payment that a customer makes at a district (clause 2.5.1). As it comes, any number may be out
-/// of its range: `check` tells.
+/// A customer's payment at a district (clause 2.5.1). Before `check`, any number may be out of its
+/// range.
 #[derive(Clone, Debug, PartialEq, Eq, Drop)]
 pub struct Payment {
-    /// W_ID and D_ID, where the payment is taken: a warehouse of the scale, and 1 to 10.
+    /// W_ID and D_ID of the district where the payment is taken: a warehouse of the scale, and 1 to 10.
     pub home: DistrictKey,
-    /// C_W_ID and C_D_ID, where the customer belongs: a warehouse of the scale, and 1 to 10.
+    /// C_W_ID and C_D_ID of the customer's district: a warehouse of the scale, and 1 to 10.
     pub customer_home: DistrictKey,
-    /// Who pays.
+    /// The customer who pays.
     pub customer: Choice,
     /// H_AMOUNT, in cents: 100 to 500,000.
     pub amount: u32,
-    /// H_DATE, which comes with the request.
+    /// H_DATE, which the request contains.
     pub moment: Moment,
 }
 
-/// What a payment shows of its customer (clause 2.5.3), as the row stands after it.
+/// What a payment shows of its customer (clause 2.5.3), after the payment.
 #[derive(Clone, Debug, PartialEq, Eq, Drop)]
 pub struct PaymentReply {
     pub c_id: u32,
@@ -35,11 +35,11 @@ pub struct PaymentReply {
     pub discount: Rate,
     /// C_BALANCE, in cents: -10^15 to 10^15.
     pub balance: Cents,
-    /// The first 200 bytes of C_DATA for bad credit, else nothing.
+    /// The first 200 bytes of C_DATA if the customer has bad credit, else empty.
     pub data: ShownData,
 }
 
-/// The first refusal that applies to a payment.
+/// Returns the first refusal that applies to a payment.
 pub(crate) fn check(scale: Scale, payment: &Payment) -> Result<(), Refusal>
     ensures { result ≡ check_of scale (Request.Payment payment.now) }
 {

@@ -2,7 +2,7 @@ ghost use Rattle.std.specs.Prelude.{◌≡◌};
 
 use crate::Group;
 
-/// Why a request was not carried out. Nothing was logged, and no table has changed.
+/// The reason why a request was not carried out. It was not logged, and no table has changed.
 #[derive(Clone, Copy, Debug, PartialEq, Eq)]
 pub enum Refusal {
     /// The home warehouse or the customer's is not in the scale.
@@ -21,14 +21,14 @@ pub enum Refusal {
     BadThreshold,
     /// The carrier is not 1 to 10.
     BadCarrier,
-    /// As many transactions are active as may be.
+    /// The maximum number of transactions is active.
     Busy,
     /// The session's last request has no answer yet.
     SessionBusy,
     /// An older transaction, or one as old, holds the group. `holder` is its age: the number of
     /// transactions admitted before it.
     Died { group: Group, holder: u64 },
-    /// A growth of memory was refused.
+    /// An allocation failed.
     NoMemory,
     /// The engine was closed.
     Closed,
@@ -39,7 +39,7 @@ pub enum Refusal {
 impl Refusal {
     ghost use Rattle.requests.specs.Refusal.{refusal_number};
 
-    /// The number by which terminals know the refusal, 1 to 14.
+    /// Returns the refusal's number at terminals, 1 to 14.
     pub fn number(self) -> u8
         ensures { result ≡ refusal_number self }
     {

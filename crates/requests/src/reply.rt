@@ -3,13 +3,13 @@ ghost use Rattle.std.specs.Prelude.{◌≡◌, ◌↔◌, IsTrue};
 use crate::{DeliveryReply, NewOrderReply, OrderStatusReply, PaymentReply, StockLevelReply};
 use schema::{Credit, Text};
 
-/// Why a transaction that was carried out and logged changed nothing.
+/// The reason why a transaction that was carried out and logged changed no table.
 #[derive(Clone, Debug, PartialEq, Eq, Drop)]
 pub enum Fault {
-    /// The district has no customer of that choice.
+    /// The district has no such customer.
     NoCustomer,
-    /// The item of a line of an order is not in ITEM (clause 2.4.1.4): C_LAST and C_CREDIT of the customer, and the
-    /// number that the order would have had, 1 to 10,000,000 (clause 2.4.3.4).
+    /// The item of an order's line is not in ITEM (clause 2.4.1.4). Contains C_LAST and C_CREDIT of the
+    /// customer, and the number that the order would have had, 1 to 10,000,000 (clause 2.4.3.4).
     NoItem {
         last: Text<16>,
         credit: Credit,
@@ -39,7 +39,7 @@ pub enum Reply {
 }
 
 impl Reply {
-    /// Whether the two are the same reply.
+    /// Returns whether the two are the same reply.
     pub fn is(&self, other: &Reply) -> bool
         ensures { IsTrue result ↔ (self.now ≡ other.now) }
     {

@@ -3,18 +3,18 @@ ghost use Rattle.std.specs.Prelude.{◌≡◌, IfOk};
 use crate::{Delivery, LastName, NewOrder, OrderStatus, Payment, StockLevel};
 use schema::NoMemory;
 
-/// How a request names a customer of a district. That nobody there has the number or the name is no
-/// fault of the request: it is found when the request runs.
+/// How a request selects a customer of a district. `check` does not test that a customer there has the
+/// number or the name: the transaction does.
 #[derive(Clone, Debug, PartialEq, Eq, Drop)]
 pub enum Choice {
     /// By C_ID.
     Number(u32),
-    /// By C_LAST: of the customers who have it, ordered by C_FIRST and then by C_ID, the middle one
+    /// By C_LAST: the middle one of the customers with that name, ordered by C_FIRST and then by C_ID
     /// (clauses 2.5.2.2 and 2.6.2.2).
     LastName(LastName),
 }
 
-/// What a terminal asks of the database.
+/// A terminal's request.
 #[derive(Clone, Debug, PartialEq, Eq, Drop)]
 pub enum Request {
     NewOrder(NewOrder),
@@ -25,7 +25,7 @@ pub enum Request {
 }
 
 impl Request {
-    /// An equal request. `NoMemory` leaves nothing behind.
+    /// Returns an equal request. Returns NoMemory if an allocation fails; nothing stays allocated then.
     pub fn try_clone(&self) -> Result<Self, NoMemory>
         ensures { IfOk result (λ copy. copy ≡ self.now) }
     {

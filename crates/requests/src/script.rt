@@ -3,10 +3,10 @@ ghost use Rattle.std.specs.Prelude.{◌≡◌, ◌↔◌, ◌≤◌, length, IsS
 use crate::Request;
 use std::marker::Model;
 
-/// The most requests that a script has, so that a `u32` numbers each.
+/// The maximum number of requests in a script, so that a `u32` numbers each.
 pub const MOST_REQUESTS: usize = 4_294_967_296;
 
-/// The requests of one session, which asks them in turn. The number of a request is its place, from 0.
+/// The requests of one session, submitted in turn. The number of a request is its place, from 0.
 #[derive(Drop)]
 pub struct Script {
     requests: Vec<Request>,
@@ -28,8 +28,8 @@ impl Model for Script {
 }
 
 impl Script {
-    /// A script of these requests; `None` exactly where they are more than `MOST_REQUESTS`. It takes no
-    /// memory.
+    /// Makes a script of these requests; `None` exactly if there are more than `MOST_REQUESTS`. Never
+    /// allocates.
     pub fn checked_new(requests: Vec<Request>) -> Option<Script>
         ensures value { IfSome result (λ script. script ≡ requests.items) }
         ensures fits { IsSome result ↔ (length requests.items ≤ MOST_REQUESTS) }
@@ -40,7 +40,7 @@ impl Script {
         Some(Script { requests })
     }
 
-    /// The requests, by their numbers.
+    /// Returns the requests, by number.
     pub fn requests(&self) -> &[Request]
         ensures value { result.now ≡ self.now }
         ensures most { length self.now ≤ MOST_REQUESTS }

@@ -7,8 +7,8 @@ use schema::{NoMemory, Text};
 use std::alloc::Global;
 use std::marker::Model;
 
-/// What a payment shows of C_DATA (clause 2.5.3.4): a text of at most 200 bytes, which is empty for good credit. It is as
-/// large as a pointer, and takes memory only where it is not empty.
+/// What a payment shows of C_DATA (clause 2.5.3.4): a text of at most 200 bytes, empty for good credit.
+/// It has the size of a pointer, and allocates only if it is not empty.
 #[derive(Clone, Debug, Drop)]
 pub struct ShownData {
     text: Option<Box<Text<200>>>,
@@ -26,14 +26,15 @@ impl Model for ShownData {
 }
 
 impl ShownData {
-    /// The empty text. It takes no memory.
+    /// The empty text. Never allocates.
     pub fn empty() -> Self
         ensures { result ≡ [] }
     {
         ShownData { text: None }
     }
 
-    /// This text. `NoMemory` leaves nothing behind, and an empty text takes no memory.
+    /// Makes a value of this text. Returns NoMemory if an allocation fails; nothing stays allocated
+    /// then. An empty text allocates nothing.
     pub fn new(alloc: Global, text: Text<200>) -> Result<Self, NoMemory>
         ensures shown { IfOk result (λ shown. shown ≡ text) }
         ensures err { OnErr result (text ≢ []) }
@@ -46,7 +47,7 @@ impl ShownData {
         })
     }
 
-    /// The bytes of the text, which are printable ASCII, at most 200 of them.
+    /// Returns the bytes of the text: at most 200, printable ASCII.
     pub fn as_str(&self) -> &str
         ensures bytes { result.now ≡ self.now }
         ensures is_text { IsText 200 self.now }

@@ -1,4 +1,4 @@
-//! Stock-Level (clause 2.8), and what is shown of it.
+//! Stock-Level (clause 2.8), and its reply.
 ghost use Rattle.std.specs.Prelude.{◌≡◌};
 ghost use Rattle.requests.specs.Check.{check_of};
 
@@ -6,24 +6,24 @@ use crate::checks::is_district;
 use crate::{Refusal, Request};
 use schema::{DistrictKey, Scale};
 
-/// How many of the items that were ordered lately in a district are low on stock (clause 2.8.1). As it comes, any number may
-/// be out of its range.
+/// Counts the items recently ordered in a district that are low on stock (clause 2.8.1). Before `check`,
+/// any number may be out of its range.
 #[derive(Clone, Copy, Debug, PartialEq, Eq)]
 pub struct StockLevel {
-    /// W_ID and D_ID, of the terminal: a warehouse of the scale, and 1 to 10.
+    /// W_ID and D_ID of the terminal: a warehouse of the scale, and 1 to 10.
     pub home: DistrictKey,
-    /// 10 to 20: below it, S_QUANTITY is low.
+    /// 10 to 20. An S_QUANTITY below it is low.
     pub threshold: u32,
 }
 
 /// What Stock-Level shows (clause 2.8.3.3).
 #[derive(Clone, Copy, Debug, PartialEq, Eq)]
 pub struct StockLevelReply {
-    /// How many items are low on stock.
+    /// The number of items that are low on stock.
     pub count: u32,
 }
 
-/// The first refusal that applies to a Stock-Level.
+/// Returns the first refusal that applies to a Stock-Level.
 pub(crate) fn check(scale: Scale, asked: &StockLevel) -> Result<(), Refusal>
     ensures { result ≡ check_of scale (Request.StockLevel asked.now) }
 {

@@ -1,5 +1,5 @@
-//! Which executor has the rows of which warehouse: as they are dealt out at the opening, and as they are read and changed by many
-//! threads. Nothing here takes memory but the opening of what threads share.
+//! The executor that has each warehouse's rows: as dealt out at the opening, and as many threads read
+//! and change it. Only `SharedRouting::open` allocates.
 #![tactic(auto)]
 
 mod routing;

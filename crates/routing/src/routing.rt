@@ -4,12 +4,12 @@ ghost use Rattle.routing.specs.Routes.{executor_of};
 use schema::Scale;
 use std::marker::Model;
 
-/// The most executors that there may be.
+/// The maximum number of executors.
 pub const MOST_EXECUTORS: u32 = 16;
 
-/// To which executor the warehouses of a scale belong.
+/// The assignment of a scale's warehouses to executors.
 ///
-/// Contracts see how many warehouses and executors there are.
+/// In contracts: the numbers of warehouses and of executors.
 #[derive(Drop)]
 pub struct Routing {
     pub(crate) warehouses: u32,
@@ -28,7 +28,8 @@ impl Model for Routing {
 }
 
 impl Routing {
-    /// Deals the warehouses of the scale out to so many executors, in order and as evenly as they go.
+    /// Deals out the warehouses of the scale to this number of executors, in order and as evenly as
+    /// possible.
     pub fn opening(scale: &Scale, executors: u32) -> Routing
         requires { 1 ≤ executors }
         ensures { result ≡ record { warehouses = scale.now.warehouses; executors = executors } }
@@ -39,14 +40,14 @@ impl Routing {
         }
     }
 
-    /// How many executors there are.
+    /// Returns the number of executors.
     pub fn executors(&self) -> u32
         ensures { result ≡ self.now.executors }
     {
         self.executors
     }
 
-    /// The executor, from 0, that has a warehouse; 0 where there is no such warehouse.
+    /// Returns the executor, from 0, that has a warehouse; 0 if there is no such warehouse.
     pub fn route(&self, warehouse: u32) -> u32
         ensures executor { result ≡ executor_of self.now warehouse }
         ensures below { result < self.now.executors }

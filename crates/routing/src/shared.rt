@@ -6,14 +6,15 @@ use std::alloc::Global;
 use std::marker::Model;
 use std::sync::atomic::{AtomicU32, Ordering};
 
-/// Which executor has which warehouse, where warehouses may go from one to another while messages are sent. It is read and changed
-/// by many threads at a time; nobody waits for another, and nothing is made after the opening.
+/// The executor of each warehouse, where warehouses may be moved between executors while messages are
+/// sent. Many threads read and change it at the same time; no thread waits for another, and nothing is
+/// allocated after the opening.
 ///
-/// Contracts see how many warehouses and executors there are.
+/// In contracts: the numbers of warehouses and of executors.
 #[derive(Drop)]
 pub struct SharedRouting {
     executors: u32,
-    // The executor of each warehouse, by the warehouses' numbers.
+    // The executor of each warehouse, by warehouse number.
     words: Vec<AtomicU32>,
 }
 
@@ -29,7 +30,8 @@ impl Model for SharedRouting {
 }
 
 impl SharedRouting {
-    /// Each warehouse is at the executor to which it is dealt out. Nothing is left after an error.
+    /// Opens the routing with each warehouse at the executor to which it is dealt out. Returns NoMemory
+    /// if an allocation fails; nothing stays allocated then.
     pub fn open(alloc: Global, routing: &Routing) -> Result<SharedRouting, NoMemory>
         ensures { IfOk result (λ shared. shared ≡ routing.now) }
     {
@@ -44,7 +46,8 @@ impl SharedRouting {
         })
     }
 
-    /// The executor, from 0, to which messages for a warehouse are sent; 0 where there is no such warehouse.
+    /// Returns the executor, from 0, to which messages for a warehouse are sent; 0 if there is no such
+    /// warehouse.
     pub fn route(&self, warehouse: u32) -> u32
         ensures below { result < self.now.executors }
     {
@@ -59,8 +62,8 @@ impl SharedRouting {
         }
     }
 
-    /// From now on messages for a warehouse are sent to this executor. Where there is no such warehouse or no such executor, nothing
-    /// changes.
+    /// Sends messages for a warehouse to this executor from now on. Changes nothing if there is no such
+    /// warehouse or no such executor.
     pub fn redirect(&self, warehouse: u32, to: u32) {
         if to < self.executors
             && let Some(word) = self.words.get(place_of(warehouse))
@@ -70,7 +73,8 @@ impl SharedRouting {
     }
 }
 
-// The place of a warehouse among all; there is none for a number that no warehouse has.
+// Returns the place of a warehouse's word. A number that no warehouse has gives a place that has no
+// word.
 fn place_of(warehouse: u32) -> usize {
     warehouse.wrapping_sub(1) as usize
 }

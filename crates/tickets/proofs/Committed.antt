@@ -145,7 +145,7 @@ module _ (here : Group → Bool) where
       (λ away. AreCommitted-elsewhere tables new claim others away
       (AreCommitted-same tables tables old new others (λ _ _. refl) (λ group _. grant.rows group) (λ group near. grant.others group (far group claim away near)) h))
 
-  -- ---- what stands in an exclusively claimed group changes
+  -- ---- the content of an exclusively claimed group changes
 
   write_here : (tables : Group → Content) (old new : GroupsOfSlice) (was now : ClaimView) (claims : List ClaimView) → IsWrite was now old new → IsTrue (here was.group) → AreCommitted here tables old (was ∷ claims) → AreCommitted here tables new (now ∷ claims)
   write_here tables old new was now claims write near h =

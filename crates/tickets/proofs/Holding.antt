@@ -1,4 +1,4 @@
--- What a box and a claim hold, from what each of their seats tells.
+-- What a box and a claim hold, from the value of each of their seats.
 use Rattle.std.proofs.Common.{◌≡◌, ℕ, ◌+◌, ◌-◌, sym, ap, ◌∙◌, subst, arith}
 use Rattle.atomic_table.specs.Seated.{TableId}
 use Rattle.agreement.specs.SeatView.{Agreement, SeatView, seat_view, with_share}
@@ -22,7 +22,7 @@ module _ {V : Type 0} where
   pub reshared : (a : Agreement) (value : V) (k share m : ℕ) (was now : SeatView V) → was ≡ seat_view a value k → now ≡ with_share was share → share ≡ m → now ≡ seat_view a value m
   reshared a value k share m was now is changed same = changed ∙ ap (λ t. with_share t share) is ∙ ap (seat_view a value) same
 
--- a seat of the committed content tells what it tells
+-- a seat of the committed content has the value that it records
 pub records_own : (table : TableId) (content : Content) (share : ℕ) (seat : SeatView CommittedContent) → seat ≡ committed_seat table content share → seat ≡ committed_seat table seat.value.content share
 records_own table content share seat is = is ∙ ap (λ c. committed_seat table c share) (sym (ap (λ t. t.value.content) is))
 
@@ -50,7 +50,7 @@ holds_sharing committed done content mode shared tickets work spare is_shared is
       all,
     )
 
--- what a box's seats tell of the mode
+-- the mode by a box's seats
 pub mode_recorded : (committed done : TableId) (mode : Mode) (shared : ℕ) (tickets : SeatView CommittedContent) (work : SeatView Work) (spare : ℕ) → HoldsBox committed done mode shared tickets work spare → work.value.mode ≡ mode
 mode_recorded committed done Shared shared tickets work spare holds = ap (λ t. t.value.mode) holds.1
 mode_recorded committed done Exclusive shared tickets work spare holds = holds.1.1

@@ -11,7 +11,7 @@ use Rattle.tickets.specs.Claims.{ClaimView, settled, all_claims}
 use Rattle.tickets.specs.Committed.{content_after, contents_after, after_claims, all_settled, Records}
 use Rattle.tickets.specs.LogSeats.{CommittedGroup, committed, with_content, after_one, after_all, IsRecordedIn, SeatsRecord}
 
--- a claim that was looked at is told in the seats
+-- a claim that was looked at is recorded in the seats
 pub recorded_at : (seats now : List CommittedGroup) (claims looked : List ClaimView) (k : ℕ) (x : ClaimView) → now ≡ seats → looked ≡ claims → k < length claims → IsRecordedIn now (get_or looked k x) → HoldsAt (IsRecordedIn seats) claims k
 recorded_at seats now claims looked k x same_seats same_claims here recorded = λ d.
     subst (λ s. IsRecordedIn s (get_or claims k d)) same_seats
@@ -50,7 +50,7 @@ settle_turn seats now new claims before claim after k here are_now are_before at
 
 -- ---- the claims of several actions
 
--- the claims of an action that were looked at are told in the seats
+-- the claims of an action that were looked at are recorded in the seats
 pub action_recorded : (seats now : List CommittedGroup) (held looked : List (List ClaimView)) (k : ℕ) (x : List ClaimView) → now ≡ seats → looked ≡ held → k < length held → All (IsRecordedIn now) (get_or looked k x) → HoldsAt (All (IsRecordedIn seats)) held k
 action_recorded seats now held looked k x same_seats same_held here recorded = λ d.
     subst (λ s. All (IsRecordedIn s) (get_or held k d)) same_seats
@@ -77,14 +77,14 @@ settle_action_turn seats now new held before claims after k here are_now are_bef
       ap (set before k) are_after ∙ map_over_more all_settled held before k claims here are_before at,
     )
 
--- ---- what the seats tell
+-- ---- what the seats record
 
--- claims that are told in the seats tell what the tables have that the seats tell
+-- claims that are recorded in the seats record the tables' contents, if the seats do
 pub recorded_records : (tables : Group → Content) (seats : List CommittedGroup) (claims : List ClaimView) → SeatsRecord tables seats → All (IsRecordedIn seats) claims → Records tables claims
 recorded_records tables seats claims records recorded = λ k d in'.
     All-contains (λ (seat : CommittedGroup). tables seat.group ≡ seat.content) seats (committed (get_or claims k d).group (get_or claims k d).recorded) records (recorded k d in')
 
--- once claims are settled, the seats tell the next tables
+-- after claims are settled, the seats record the next tables
 pub settled_record : (tables : Group → Content) (seats : List CommittedGroup) (claims : List ClaimView) → SeatsRecord tables seats → SeatsRecord (after_claims tables claims) (map (after_all claims) seats)
 settled_record tables seats claims records =
     All-map (λ (seat : CommittedGroup). after_claims tables claims seat.group ≡ seat.content) (after_all claims) seats

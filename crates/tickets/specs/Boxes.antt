@@ -1,4 +1,4 @@
--- The slice's side of a group's tickets: what a contract sees of it, and what it holds.
+-- The slice's side of a group's tickets: its view in contracts, and the seats that it holds.
 use Rattle.std.specs.Prelude.{◌≡◌, ◌+◌, ◌-◌, ℕ, List, [], ◌∷◌, if◌then◌else◌}
 use Rattle.atomic_table.specs.Seated.{TableId}
 use Rattle.agreement.specs.SeatView.{SeatView, IsSpent}
@@ -14,8 +14,8 @@ use Rattle.tickets.specs.Committed.{GroupsOfSlice, KeepsCommitted}
 use Rattle.tickets.specs.Unset.{nothing}
 use Rattle.tickets.specs.Seats.{committed_seat, work_seat, untouched}
 
--- The group; exclusive while an exclusive claim is out; how many shared claims are out; what is in the group now, and
--- what is there again once all that was done under the exclusive claim is taken back.
+-- The group; exclusive while an exclusive claim is out; the number of shared claims that are out; the group's content
+-- now, and its content after an undo of all that was done under the exclusive claim.
 pub record TicketBoxView : Type 0 where
   pub group : Group
   pub mode : Mode
@@ -23,23 +23,23 @@ pub record TicketBoxView : Type 0 where
   pub left : Content
   pub back : Content
 
--- the slice's side of a group: so many shared claims are out, or an exclusive one, and this is done there
+-- the view of a group's box: this number of shared claims is out, or an exclusive one, and this work is done there
 abbrev pub ticket_box_view : Group → Mode → ℕ → Work → TicketBoxView
 ticket_box_view group mode shared work = record { group = group; mode = mode; shared = shared; left = work.left; back = work.back }
 
--- the box of a group with this content, of which so many shared claims and no exclusive one are out
+-- the box of a group with this content, with this number of shared claims out and no exclusive one
 abbrev pub sharing : Group → Content → ℕ → TicketBoxView
 sharing group content shared = record { group = group; mode = Shared; shared = shared; left = content; back = content }
 
--- the box of a group with this content whose exclusive claim has gone out
+-- the box of a group with this content, just after an exclusive claim was granted
 abbrev pub lent : Group → Content → TicketBoxView
 lent group content = record { group = group; mode = Exclusive; shared = 0; left = content; back = content }
 
--- the box once this is left in the group
+-- the box after this is left in the group
 abbrev pub with_left : TicketBoxView → Content → TicketBoxView
 with_left b content = record { group = b.group; mode = b.mode; shared = b.shared; left = content; back = b.back }
 
--- the box once a claim is back: the shared claims are one fewer, or no claim is out
+-- the box after a claim is given back: there is one shared claim fewer, or no claim is out
 abbrev pub taken_back : TicketBoxView → TicketBoxView
 taken_back b = sharing b.group b.left (b.shared - 1)
 
@@ -48,13 +48,13 @@ abbrev pub IsSpentPair : TableId → TableId → SeatView CommittedContent × Se
 IsSpentPair committed done pair =
     IsSpent (record { table = committed; count = 10 }) pair.0 × IsSpent (record { table = done; count = 9 }) pair.1
 
--- so are all of these pairs
+-- all of these pairs are spent
 abbrev pub AreSpent : TableId → TableId → List (SeatView CommittedContent × SeatView Work) → Type 0
 AreSpent committed done [] = Unit {0}
 AreSpent committed done (pair ∷ pairs) = IsSpentPair committed done pair × AreSpent committed done pairs
 
--- The seats of the box. The shares that are not out are here, and there is a pair of spent seats for each claim that
--- may go out.
+-- The seats of the box. It has the shares that are not out, and a pair of spent seats for each claim that it can
+-- still grant.
 abbrev pub HoldsBox : TableId → TableId → Mode → ℕ → SeatView CommittedContent → SeatView Work → ℕ → Type 0
 HoldsBox committed done Shared shared tickets work spare =
     (tickets ≡ committed_seat committed tickets.value.content (9 - shared))
@@ -67,7 +67,7 @@ HoldsBox committed done Exclusive shared tickets work spare =
 
 -- ---- the box as a slice
 
--- how many of a group's tickets are at home
+-- the number of a group's tickets that are not out
 abbrev pub tickets_home : Mode → ℕ → ℕ
 tickets_home Shared shared = 8 - shared
 tickets_home Exclusive shared = 0
@@ -79,6 +79,6 @@ standing b = record {
   free = λ group. if is_same b.group group then tickets_home b.mode b.shared else 0;
 }
 
--- with these claims where those were, the box keeps what is committed in its group
+-- replacing the claims `before` by `after`, the box keeps what is committed in its group
 abbrev pub BoxKeepsCommitted : List ClaimView → TicketBoxView → List ClaimView → TicketBoxView → Type 0
 BoxKeepsCommitted before old after new = KeepsCommitted (is_same old.group) before (standing old) after (standing new)

@@ -1,4 +1,4 @@
--- What holds of what is committed in a slice, whatever the slice does.
+-- Laws of what is committed in a slice, for each step of the slice.
 use Rattle.std.specs.Prelude.{◌≡◌, ◌≢◌, ◌↔◌, ◌+◌, List, [], ◌∷◌, ◌++◌, Bool, false, IsTrue, All, map}
 use Rattle.std.specs.List.Sorted.{IsPermutation}
 use Rattle.requests.specs.declared.group.Group.{Group}
@@ -10,7 +10,7 @@ use Rattle.tickets.specs.Committed.{tickets_held, Records, RecordsHere, GroupsOf
 
 -- ---- the steps of a slice
 
--- A claim is granted: its tickets go out, and it tells and leaves what stands in its group.
+-- A claim is granted: its tickets go out, and what it records and leaves is the content of its group.
 pub record IsGrant (claim : ClaimView) (old new : GroupsOfSlice) : Type 0 where
   pub tickets : new.free claim.group + tickets_held claim.mode ≡ old.free claim.group
   pub recorded : claim.recorded ≡ old.rows claim.group
@@ -26,7 +26,7 @@ pub record IsWrite (was now : ClaimView) (old new : GroupsOfSlice) : Type 0 wher
   pub others : (group : Group) → group ≢ was.group → new.rows group ≡ old.rows group
   pub free : (group : Group) → new.free group ≡ old.free group
 
--- A claim is given back, which tells what it left where it is exclusive: its tickets come home.
+-- A claim is given back. If it is exclusive, its recorded content is what it left. Its tickets come home.
 pub record IsGivenBack (claim : ClaimView) (old new : GroupsOfSlice) : Type 0 where
   pub settled : claim.mode ≡ Exclusive → claim.recorded ≡ claim.left
   pub tickets : new.free claim.group ≡ old.free claim.group + tickets_held claim.mode
@@ -45,19 +45,19 @@ OrderDoesNotMatter =
     (here : Group → Bool) (tables : Group → Content) (slice : GroupsOfSlice) (claims others : List ClaimView)
     → IsPermutation claims others → AreCommitted here tables slice claims → AreCommitted here tables slice others
 
--- A claim on a group of another slice may be among the claims or not.
+-- A claim on a group of another slice may be among the claims or not: it makes no difference.
 abbrev pub ClaimElsewhereSaysNothing : Type 0
 ClaimElsewhereSaysNothing =
     (here : Group → Bool) (tables : Group → Content) (slice : GroupsOfSlice) (claim : ClaimView) (claims : List ClaimView)
     → IsElsewhere here claim → AreCommitted here tables slice claims ↔ AreCommitted here tables slice (claim ∷ claims)
 
--- Whatever becomes of claims on groups of other slices, this slice keeps what is committed.
+-- If only claims on groups of other slices change, this slice keeps what is committed.
 abbrev pub StepElsewhereKeepsCommitted : Type 0
 StepElsewhereKeepsCommitted =
     (here : Group → Bool) (before after : List ClaimView) (slice : GroupsOfSlice)
     → All (IsElsewhere here) before → All (IsElsewhere here) after → KeepsCommitted here before slice after slice
 
--- Tables and slices that have the same in the groups that are here, are here as good as one another.
+-- What is committed depends only on the tables, rows and tickets of the groups that are here.
 abbrev pub OnlyWhatIsHereCounts : Type 0
 OnlyWhatIsHereCounts =
     (here : Group → Bool) (tables next : Group → Content) (old new : GroupsOfSlice) (claims : List ClaimView)
@@ -66,29 +66,29 @@ OnlyWhatIsHereCounts =
     → ((group : Group) → IsTrue (here group) → new.free group ≡ old.free group)
     → AreCommitted here tables old claims → AreCommitted here next new claims
 
--- A grant, shared or exclusive, leaves what is committed.
+-- A grant, shared or exclusive, keeps what is committed.
 abbrev pub GrantKeepsCommitted : Type 0
 GrantKeepsCommitted =
     (here : Group → Bool) (claim : ClaimView) (old new : GroupsOfSlice) → IsGrant claim old new → KeepsCommitted here [] old (claim ∷ []) new
 
--- A write under an exclusive claim does.
+-- A write under an exclusive claim keeps what is committed.
 abbrev pub WriteKeepsCommitted : Type 0
 WriteKeepsCommitted =
     (here : Group → Bool) (was now : ClaimView) (old new : GroupsOfSlice) → IsWrite was now old new → KeepsCommitted here (was ∷ []) old (now ∷ []) new
 
--- So does taking back all that was done under an exclusive claim.
+-- Undoing all that was done under an exclusive claim keeps what is committed.
 abbrev pub UndoKeepsCommitted : Type 0
 UndoKeepsCommitted =
     (here : Group → Bool) (claim : ClaimView) (old new : GroupsOfSlice)
     → IsWrite claim (leaving claim claim.back) old new → KeepsCommitted here (claim ∷ []) old (leaving claim claim.back ∷ []) new
 
--- So does giving back a claim that tells what it left.
+-- Giving back a claim whose recorded content is what it left keeps what is committed.
 abbrev pub GiveBackKeepsCommitted : Type 0
 GiveBackKeepsCommitted =
     (here : Group → Bool) (claim : ClaimView) (old new : GroupsOfSlice) → IsGivenBack claim old new → KeepsCommitted here (claim ∷ []) old [] new
 
--- A commit of some claims makes the next tables, in which each group has what its exclusive claim left, and changes no
--- slice: its claims tell what they left, and all others stay as they are.
+-- A commit of some claims makes the next tables, in which each group has what its exclusive claim left. The slice is
+-- unchanged; the settled claims record what they left, and the other claims are unchanged.
 abbrev pub CommitMakesTheNextTables : Type 0
 CommitMakesTheNextTables =
     (here : Group → Bool) (tables : Group → Content) (slice : GroupsOfSlice) (own others : List ClaimView)
@@ -96,7 +96,7 @@ CommitMakesTheNextTables =
 
 -- ---- what follows from the claims that are out
 
--- Claims on groups that are here tell what is committed.
+-- Claims on groups that are here record what is committed.
 abbrev pub ClaimsRecordWhatIsCommitted : Type 0
 ClaimsRecordWhatIsCommitted =
     (here : Group → Bool) (tables : Group → Content) (slice : GroupsOfSlice) (own others : List ClaimView)
@@ -126,26 +126,26 @@ RestIsCommitted =
 abbrev pub StayingKeepsCommitted : Type 0
 StayingKeepsCommitted = (here : Group → Bool) (claims : List ClaimView) (slice : GroupsOfSlice) → KeepsCommitted here claims slice claims slice
 
--- and so do two steps that do, one after the other
+-- two steps that each keep what is committed keep it one after the other
 abbrev pub TwoStepsKeepCommitted : Type 0
 TwoStepsKeepCommitted =
     (here : Group → Bool) (first between last : List ClaimView) (old slice new : GroupsOfSlice)
     → KeepsCommitted here first old between slice → KeepsCommitted here between slice last new → KeepsCommitted here first old last new
 
--- a step may be taken while more claims are out
+-- a step also keeps what is committed while more claims are out
 abbrev pub StepsKeepBesideOthers : Type 0
 StepsKeepBesideOthers =
     (here : Group → Bool) (before after more : List ClaimView) (old new : GroupsOfSlice)
     → KeepsCommitted here before old after new → KeepsCommitted here (before ++ more) old (after ++ more) new
 
--- in whatever order its claims are
+-- a step keeps what is committed for any order of its claims
 abbrev pub StepsKeepInAnyOrder : Type 0
 StepsKeepInAnyOrder =
     (here : Group → Bool) (before first after last : List ClaimView) (old new : GroupsOfSlice)
     → IsPermutation first before → IsPermutation after last
     → KeepsCommitted here before old after new → KeepsCommitted here first old last new
 
--- claims that are out are so after a step as what it made of them
+-- claims that are out before a step are out after it, as the step left them
 abbrev pub StepsKeepClaimsOut : Type 0
 StepsKeepClaimsOut =
     (here : Group → Bool) (before after : List ClaimView) (old new : GroupsOfSlice)
@@ -153,13 +153,13 @@ StepsKeepClaimsOut =
 
 -- ---- the log's seats
 
--- Claims that are told in the seats tell what the tables have that the seats tell.
+-- Claims that are recorded in the seats record the tables' contents, if the seats do.
 abbrev pub SeatsRecordClaims : Type 0
 SeatsRecordClaims =
     (tables : Group → Content) (seats : List CommittedGroup) (claims : List ClaimView)
     → SeatsRecord tables seats → All (IsRecordedIn seats) claims → Records tables claims
 
--- Seats that tell these tables, tell the next ones once claims are settled.
+-- If the seats record these tables, the settled seats record the next tables.
 abbrev pub SettledSeatsRecordTheNextTables : Type 0
 SettledSeatsRecordTheNextTables =
     (tables : Group → Content) (seats : List CommittedGroup) (claims : List ClaimView)

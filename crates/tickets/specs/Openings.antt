@@ -1,4 +1,4 @@
--- What a contract sees of the seats of a new group, and what they are.
+-- The view of the seats of a new group in contracts, and their shares.
 use Rattle.std.specs.Prelude.{◌≡◌, ℕ, List, map, slice_index_or}
 use Rattle.atomic_table.specs.Seated.{TableId}
 use Rattle.agreement.specs.SeatView.{SeatView}
@@ -22,7 +22,7 @@ pub record OpenedGroup : Type 0 where
 abbrev pub opened : TableId → TableId → Content → OpenedGroup
 opened committed work content = record { committed = committed; work = work; content = content }
 
--- the log's seat, the box's seats, and how many pairs of spent seats there are
+-- the log's seat, the box's seats, and the number of pairs of spent seats
 abbrev pub AreOpened : TableId → TableId → Content → SeatView CommittedContent → SeatView CommittedContent → SeatView Work → ℕ → Type 0
 AreOpened committed done content log tickets work spare =
     (log ≡ committed_seat committed content 1)
@@ -32,21 +32,21 @@ AreOpened committed done content log tickets work spare =
 
 -- ---- the openings of all groups
 
--- The agreements of each group of so many warehouses are those that were opened for its place.
+-- The agreements of each group of this number of warehouses are those that were opened for its place.
 abbrev pub AreNamed : ℕ → (Group → TableId) → (Group → TableId) → List OpenedGroup → Type 0
 AreNamed warehouses committed work openings =
     (group : Group) (d : OpenedGroup) → IsGroupOf warehouses group
     → (committed group ≡ (slice_index_or openings (place_of group) d).committed) × (work group ≡ (slice_index_or openings (place_of group) d).work)
 
--- the contents that were opened, and those of seats
+-- the contents of the openings, in order
 abbrev pub contents_opened : List OpenedGroup → List Content
 contents_opened openings = map (λ (o : OpenedGroup). o.content) openings
 
--- what the log's seats have, in order
+-- the contents of the log's seats, in order
 abbrev pub contents_committed : List CommittedGroup → List Content
 contents_committed seats = map (λ (seat : CommittedGroup). seat.content) seats
 
--- the box of a seat's group with the seat's content, while no claim is out
+-- the box of a seat's group with the seat's content, with no claim out
 abbrev pub box_beside : CommittedGroup → TicketBoxView
 box_beside seat = sharing seat.group seat.content 0
 

@@ -1,15 +1,15 @@
--- The groups of so many warehouses, and the places of the log's seats.
+-- The groups of a number of warehouses, and the places of the log's seats.
 use Rattle.std.specs.Prelude.{◌≡◌, ℕ, ◌+◌, ◌-◌, ◌*◌, ◌<◌, ◌≤◌, List, length, slice_index_or}
 use Rattle.requests.specs.declared.group.Group.{Group}
 use Rattle.requests.specs.declared.group.Group.TheVariants.{Warehouse, District, Customers, Orders, History, Stock}
 use Rattle.groups.specs.Groups.{warehouse_of}
 use Rattle.tickets.specs.LogSeats.{CommittedGroup}
 
--- from low to high, both included
+-- from `low` to `high`, both included
 abbrev pub IsBetween : ℕ → ℕ → ℕ → Type 0
 IsBetween low high number = (low ≤ number) × (number ≤ high)
 
--- There are so many warehouses, and the group is one of theirs: a warehouse has ten districts, and its stock 64 parts.
+-- The group belongs to one of this number of warehouses. A warehouse has ten districts, and its stock has 64 parts.
 abbrev pub IsGroupOf : ℕ → Group → Type 0
 IsGroupOf warehouses (Warehouse w_id) = IsBetween 1 warehouses w_id
 IsGroupOf warehouses (District w_id d_id) = IsBetween 1 warehouses w_id × IsBetween 1 10 d_id
@@ -32,12 +32,12 @@ place_in_warehouse (Stock w_id residue) = 41 + residue
 abbrev pub place_of : Group → ℕ
 place_of group = 105 * (warehouse_of group - 1) + place_in_warehouse group
 
--- each seat is of one of these groups, and stands at its place
+-- each seat is of one of these groups, and is at its group's place
 pub record AreAtPlaces (warehouses : ℕ) (seats : List CommittedGroup) : Type 0 where
   pub groups : (place : ℕ) (d : CommittedGroup) → place < length seats → IsGroupOf warehouses (slice_index_or seats place d).group
   pub places : (place : ℕ) (d : CommittedGroup) → place < length seats → place_of (slice_index_or seats place d).group ≡ place
 
--- there is a seat for each group of so many warehouses, at its place
+-- there is a seat for each group of this number of warehouses, at its place
 pub record AreInPlace (warehouses : ℕ) (seats : List CommittedGroup) : Type 0 where
   pub all_there : length seats ≡ 105 * warehouses
   pub at_places : AreAtPlaces warehouses seats

@@ -12,20 +12,20 @@ use Rattle.tickets.specs.declared.work.Work.{Work}
 abbrev pub committed_seat : TableId → Content → ℕ → SeatView CommittedContent
 committed_seat table content share = seat_view (record { table = table; count = 10 }) (record { content = content }) share
 
--- A seat of the agreement on what is done in a group. Its nine shares are one beside each ticket, and the slice's.
+-- A seat of the agreement on the work in a group. Its nine shares are one for each ticket, and the slice's.
 abbrev pub work_seat : TableId → Work → ℕ → SeatView Work
 work_seat table work share = seat_view (record { table = table; count = 9 }) work share
 
--- what is agreed while nothing is done in a group with this content
+-- the agreed work while nothing is done in a group with this content
 abbrev pub untouched : Mode → Content → Work
 untouched mode content = record { mode = mode; left = content; back = content }
 
--- how many shares of the committed content a claim holds: a ticket, or all tickets and the slice's share
+-- the number of shares of the committed content that a claim holds: a ticket, or all tickets and the slice's share
 abbrev pub recorded_shares : Mode → ℕ
 recorded_shares Shared = 1
 recorded_shares Exclusive = 9
 
--- how many shares of what is done it holds
+-- the number of shares of the agreement on the work that a claim holds
 abbrev pub work_shares : Mode → ℕ
 work_shares Shared = 1
 work_shares Exclusive = 8

@@ -1,4 +1,4 @@
--- What stands before anything is agreed.
+-- Defaults before anything is agreed.
 use Rattle.std.specs.Prelude.{[], None}
 use Rattle.atomic_table.specs.Seated.{TableId}
 use Rattle.groups.specs.Content.{Content}
@@ -8,6 +8,6 @@ use Rattle.groups.specs.Content.Content.{OfWarehouse}
 abbrev pub nothing : Content
 nothing = OfWarehouse None
 
--- the name of no table
+-- a table identity that no table has
 abbrev pub no_table : TableId
 no_table = record { words = 0; slots = 0; views_name = 0; atom = 0; block = 0; offset = 0; slot_names = [] }

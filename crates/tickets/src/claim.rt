@@ -11,11 +11,12 @@ use requests::Group;
 use std::marker::{Model, PhantomData};
 use wait_die::Holder;
 
-/// A claim on a group. What it tells as committed can't change while it is held but by itself.
+/// A claim on a group. While it is held, only the claim itself can change the committed content that it
+/// records.
 ///
 /// A shared claim holds one of the group's eight tickets, and an exclusive claim all eight with the
-/// slice's seat. It tells which action it was granted to, from then on. It can't be copied, and goes back to
-/// the `TicketBox` that gave it. The group of a claim that is dropped stays held for good.
+/// slice's seat. It records the action to which it was granted. It can't be copied, and is given back to
+/// the `TicketBox` that granted it. If a claim is dropped, its group stays held for good.
 #[derive(Drop)]
 pub struct Claim<J: GroupNames> {
     pub(crate) by: Holder,
@@ -44,21 +45,21 @@ impl<J: GroupNames> Model for Claim<J> {
 }
 
 impl<J: GroupNames> Claim<J> {
-    /// The action that it was granted to.
+    /// Returns the action to which the claim was granted.
     pub fn by(&self) -> Holder
         ensures { result ≡ self.now.by }
     {
         self.by
     }
 
-    /// The group that is claimed.
+    /// Returns the group that is claimed.
     pub fn group(&self) -> Group
         ensures { result ≡ self.now.group }
     {
         self.group
     }
 
-    /// The warehouse of its group, 1 to the number of warehouses.
+    /// Returns the warehouse of the claim's group, 1 to the number of warehouses.
     pub fn home(&self) -> u32
         ensures home { result ≡ warehouse_of self.now.group }
         ensures known { IsBetween 1 J.warehouses result }
@@ -66,7 +67,7 @@ impl<J: GroupNames> Claim<J> {
         warehouse_of(self.group)
     }
 
-    /// The place of its group among those of all warehouses.
+    /// Returns the place of the claim's group among those of all warehouses.
     pub fn place(&self) -> usize
         ensures known { IsGroupOf J.warehouses self.now.group }
         ensures place { result ≡ place_of self.now.group }
@@ -74,14 +75,15 @@ impl<J: GroupNames> Claim<J> {
         places::place_of::<J>(self.group)
     }
 
-    /// How it is claimed.
+    /// Returns the mode of the claim.
     pub fn mode(&self) -> Mode
         ensures { result ≡ self.now.mode }
     {
         self.mode
     }
 
-    /// Learns of a shared claim that it left, and leaves once all is taken back, what it tells.
+    /// Shows that a shared claim left its committed content unchanged, and leaves the same after an
+    /// undo.
     pub fn look_untouched(&self)
         ensures left { self.now.mode ≡ Shared → self.now.left ≡ self.now.recorded }
         ensures back { self.now.mode ≡ Shared → self.now.back ≡ self.now.recorded }

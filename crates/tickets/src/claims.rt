@@ -6,9 +6,7 @@ ghost use Rattle.tickets.specs.Places.{IsBetween};
 use crate::{Claim, GroupNames};
 use std::marker::Model;
 
-/// The claims of one action.
-///
-/// Contracts see them in order.
+/// The claims of one action. In contracts: the list of the claims, in order.
 #[derive(Drop)]
 pub struct Claims<J: GroupNames> {
     pub(crate) claims: Vec<Claim<J>>,
@@ -28,21 +26,21 @@ impl<J: GroupNames> Model for Claims<J> {
 }
 
 impl<J: GroupNames> Claims<J> {
-    /// These claims, as those of one action.
+    /// Makes the claims of one action from these claims.
     pub fn new(claims: Vec<Claim<J>>) -> Claims<J>
         ensures { result ≡ claims.items }
     {
         Claims { claims }
     }
 
-    /// The claims, one by one.
+    /// Returns the claims, in order.
     pub fn into_vec(self) -> Vec<Claim<J>>
         ensures { result.items ≡ self }
     {
         self.claims
     }
 
-    /// The warehouse of the first one's group, 1 to the number of warehouses.
+    /// Returns the warehouse of the first claim's group, 1 to the number of warehouses.
     pub fn home(&self) -> u32
         requires some { 1 ≤ length self.now }
         ensures home { (d : ClaimView) → result ≡ warehouse_of (slice_index_or self.now 0 d).group }

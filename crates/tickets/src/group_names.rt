@@ -1,17 +1,17 @@
 use std::marker::Brand;
 
-/// Says which groups there are, and names the agreements of each. That is no data of the program: the
-/// call that opens an engine picks it.
+/// The groups that exist, and names of the agreements of each. Ghost data only: the call that opens an
+/// engine picks it.
 pub trait GroupNames {
     ghost use Rattle.requests.specs.declared.group.Group.{Group};
     ghost use Rattle.atomic_table.specs.Seated.{TableId};
     ghost use Rattle.std.specs.Prelude.{ℕ};
 
-    /// How many warehouses there are. Theirs are all groups.
+    /// The number of warehouses. All groups are theirs.
     ghost warehouses: { ℕ };
     /// The agreement on a group's committed content.
     ghost committed: { Group → TableId };
-    /// The agreement of the slice and the claims on what is done in a group.
+    /// The agreement of the slice and the claims on a group's uncommitted work.
     ghost work: { Group → TableId };
 }
 

@@ -1,12 +1,13 @@
-//! Tickets: the tokens by which what is committed in a group of rows is told. A group has eight tickets, a
-//! seat of the log and a seat of the slice, which are ten shares of one agreement on the group's committed
-//! content. A claim on the group holds one ticket, and then what it tells can't change; or it holds all
-//! eight with the slice's seat, and then it alone, beside the log, can change it.
+//! Tickets: claims on groups as shares of agreements (strict locking). A group has eight tickets, a seat
+//! of the log and a seat of the slice, which together are ten shares of one agreement on the group's
+//! committed content. A shared claim holds one ticket, and the content that it records can't change
+//! meanwhile. An exclusive claim holds all eight tickets and the slice's seat, and the content changes
+//! only by that claim and the log together.
 //!
-//! What is committed in the groups of a slice while claims are out, and what each step does to it, is told
-//! by `specs/Committed.antt`; its laws are proved in `src/laws.rt`.
+//! `specs/Committed.antt` defines what is committed in a slice's groups while claims are out, and how
+//! each step changes it. `src/laws.rt` has the proved laws.
 //!
-//! Nothing here waits, and only the opening takes memory.
+//! No function waits, and only the opening allocates.
 #![tactic(auto)]
 
 mod claim;

@@ -9,7 +9,7 @@ use groups::Mode;
 use requests::Group;
 use std::marker::{Model, PhantomData};
 
-/// The log's seat of a group. It tells the group's committed content, and no one changes that without it.
+/// The log's seat of a group. It records the group's committed content, which can't change without it.
 #[derive(Drop)]
 pub struct LogSeat<J: GroupNames> {
     pub(crate) group: Group,
@@ -37,14 +37,14 @@ impl<J: GroupNames> Model for LogSeat<J> {
 }
 
 impl<J: GroupNames> LogSeat<J> {
-    /// The group.
+    /// Returns the group.
     pub fn group(&self) -> Group
         ensures { result ≡ self.now.group }
     {
         self.group
     }
 
-    /// Learns that a claim on the group tells what is committed.
+    /// Shows that a claim on the group records the committed content. Changes nothing.
     pub fn look(&mut self, claim: &mut Claim<J>)
         requires group { claim.old.group ≡ self.old.group }
         ensures recorded { claim.old.recorded ≡ self.old.content }
@@ -53,7 +53,7 @@ impl<J: GroupNames> LogSeat<J> {
         self.seat.look(&mut claim.tickets);
     }
 
-    /// What an exclusive claim left in the group is committed from now on. A shared claim changes nothing.
+    /// Commits what an exclusive claim left in the group. A shared claim changes nothing.
     pub fn settle(&mut self, claim: &mut Claim<J>)
         requires group { claim.old.group ≡ self.old.group }
         ensures recorded { claim.old.recorded ≡ self.old.content }

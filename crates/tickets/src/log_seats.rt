@@ -9,10 +9,10 @@ use crate::places::place_of;
 use crate::{Claim, Claims, GroupNames, LogSeat};
 use std::marker::Model;
 
-/// The log's seats of all groups there are.
+/// The log's seats of all groups that exist.
 ///
-/// Contracts see each group with its committed content. A claim is always on one of the groups, so that
-/// nothing is asked of a call. A group's seat is found by its place.
+/// In contracts: each group with its committed content. A claim is always on one of these groups, so
+/// calls have no requirement. A group's seat is found by its place.
 #[derive(Drop)]
 pub struct LogSeats<J: GroupNames> {
     seats: Vec<LogSeat<J>>,
@@ -36,7 +36,7 @@ impl<J: GroupNames> Model for LogSeats<J> {
 }
 
 impl<J: GroupNames> LogSeats<J> {
-    /// The seats of all groups, each at its group's place.
+    /// Makes the log's seats from the seats of all groups, each at its group's place.
     pub fn new(seats: Vec<LogSeat<J>>) -> LogSeats<J>
         requires { spec.AreInPlace J.warehouses seats.items }
         ensures { result ≡ seats.items }
@@ -44,7 +44,7 @@ impl<J: GroupNames> LogSeats<J> {
         LogSeats { seats }
     }
 
-    /// Learns that a claim tells what is committed in its group.
+    /// Shows that a claim records the committed content of its group. Changes nothing.
     pub fn look(&mut self, claim: &mut Claim<J>)
         ensures recorded { IsRecordedIn self.old claim.old }
         ensures same { (self.new ≡ self.old) × (claim.new ≡ claim.old) }
@@ -53,7 +53,7 @@ impl<J: GroupNames> LogSeats<J> {
         self.seats[place].look(claim);
     }
 
-    /// What an exclusive claim left in its group is committed from now on. A shared claim changes nothing.
+    /// Commits what an exclusive claim left in its group. A shared claim changes nothing.
     pub fn settle(&mut self, claim: &mut Claim<J>)
         ensures recorded { IsRecordedIn self.old claim.old }
         ensures contents { self.new ≡ map (after_one claim.old) self.old }
@@ -63,7 +63,7 @@ impl<J: GroupNames> LogSeats<J> {
         self.seats[place].settle(claim);
     }
 
-    /// Learns that claims tell what is committed in their groups.
+    /// Shows that the claims record the committed contents of their groups. Changes nothing.
     pub fn look_all(&mut self, claims: &mut [Claim<J>])
         ensures recorded { All (IsRecordedIn self.old) claims.old }
         ensures same { (self.new ≡ self.old) × (claims.new ≡ claims.old) }
@@ -73,7 +73,7 @@ impl<J: GroupNames> LogSeats<J> {
         }
     }
 
-    /// What the exclusive ones among the claims left in their groups is committed from now on.
+    /// Commits what the exclusive claims among these left in their groups.
     pub fn settle_all(&mut self, claims: &mut [Claim<J>])
         ensures contents { self.new ≡ map (after_all claims.old) self.old }
         ensures claims { claims.new ≡ all_settled claims.old }
@@ -84,7 +84,8 @@ impl<J: GroupNames> LogSeats<J> {
         }
     }
 
-    /// Learns that the claims of these actions tell what is committed in their groups.
+    /// Shows that the claims of these actions record the committed contents of their groups. Changes
+    /// nothing.
     pub fn look_each(&mut self, held: &mut [Claims<J>])
         ensures recorded { All (IsRecordedIn self.old) (all_claims held.old) }
         ensures same { (self.new ≡ self.old) × (held.new ≡ held.old) }
@@ -94,7 +95,7 @@ impl<J: GroupNames> LogSeats<J> {
         }
     }
 
-    /// What the exclusive ones among the claims of these actions left in their groups is committed from now on.
+    /// Commits what the exclusive claims of these actions left in their groups.
     pub fn settle_each(&mut self, held: &mut [Claims<J>])
         ensures contents { self.new ≡ map (after_all (all_claims held.old)) self.old }
         ensures claims { held.new ≡ map all_settled held.old }

@@ -13,7 +13,7 @@ use requests::Group;
 use std::alloc::{AllocError, Global};
 use std::marker::{Model, PhantomData};
 
-/// The seats of a new group, before its agreements have a name.
+/// The seats of a new group, before `GroupNames` names its agreements.
 #[derive(Drop)]
 pub struct GroupSeats {
     log: Seat<CommittedContent>,
@@ -42,7 +42,8 @@ impl Model for GroupSeats {
 }
 
 impl GroupSeats {
-    /// The seats of a group whose content is what the change makes of a group without rows.
+    /// Opens the seats of a group. Its content is what `content` makes of a group without rows. Returns
+    /// AllocError if an allocation fails.
     pub fn open<C: Change<Content>>(alloc: Global, content: &C) -> Result<GroupSeats, AllocError>
         ensures { IfOk result (λ seats. seats.content ≡ C.changed content.now nothing) }
     {
@@ -62,7 +63,7 @@ impl GroupSeats {
         })
     }
 
-    /// The slice's side of the group's tickets and the log's seat, under the names of their agreements.
+    /// Returns the group's ticket box and the log's seat, with the names of their agreements.
     pub fn named<J: GroupNames>(self, group: Group) -> (TicketBox<J>, LogSeat<J>)
         requires known { IsGroupOf J.warehouses group }
         requires committed { J.committed group ≡ self.committed }
@@ -94,8 +95,8 @@ impl GroupSeats {
     }
 }
 
-/// The boxes and the log's seats of all groups there are, from those opened for each place. Nothing is
-/// left after an error.
+/// Returns the ticket boxes and the log's seats of all groups, from the seats opened for each place.
+/// Returns AllocError if an allocation fails; nothing stays allocated then.
 pub fn named_all<J: GroupNames>(
     alloc: Global,
     warehouses: u32,
@@ -119,7 +120,7 @@ pub fn named_all<J: GroupNames>(
     Ok((boxes, LogSeats::new(seats)))
 }
 
-// A pair of spent seats for each ticket.
+// Returns eight pairs of spent seats, one for each ticket.
 fn spent_pairs(
     alloc: Global,
     tickets: &mut Seat<CommittedContent>,

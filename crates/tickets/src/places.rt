@@ -6,11 +6,11 @@ ghost use Rattle.tickets.specs.Places.{IsGroupOf};
 use crate::GroupNames;
 use requests::Group;
 
-/// How many groups a warehouse has: its row, the rows, customers, orders and payments of its ten
-/// districts, and the 64 parts of its stock.
+/// The number of groups of a warehouse: its row; the rows, customers, orders and payments of its ten
+/// districts; and the 64 parts of its stock.
 pub const GROUPS_PER_WAREHOUSE: usize = 105;
 
-/// The group at a place, among those of so many warehouses.
+/// Returns the group at a place, among those of all warehouses.
 pub fn group_at(warehouses: u32, place: usize) -> Group
     requires { place < 105 * warehouses }
     ensures known { IsGroupOf warehouses result }
@@ -45,7 +45,7 @@ pub fn group_at(warehouses: u32, place: usize) -> Group
     }
 }
 
-/// The place of a group.
+/// Returns the place of a group.
 pub fn place_of<J: GroupNames>(group: Group) -> usize
     requires { IsGroupOf J.warehouses group }
     ensures { result ≡ spec.place_of group }
@@ -60,7 +60,7 @@ pub fn place_of<J: GroupNames>(group: Group) -> usize
     }
 }
 
-// A place in the block of a warehouse.
+// Returns the place in the block of a warehouse.
 fn place_in(w_id: u32, place: u32) -> usize
     requires { 1 ≤ w_id }
     ensures { result ≡ 105 * (w_id - 1) + place }

@@ -11,13 +11,14 @@ use requests::Group;
 use std::marker::{Model, PhantomData};
 use wait_die::Holder;
 
-/// How many shared claims on a group can be out: a ticket each.
+/// The maximum number of shared claims on a group at a time: one for each ticket.
 pub const TICKETS: u32 = 8;
 
-/// The slice's side of a group's tickets. It gives claims on the group, and takes them back.
+/// The slice's side of a group's tickets. It grants claims on the group, and takes them back.
 ///
-/// Contracts see the group, whether an exclusive claim is out, how many shared claims are out, what is in
-/// the group now, and what is there again once all that was done under the exclusive claim is taken back.
+/// In contracts: the group, whether an exclusive claim is out, the number of shared claims that are out,
+/// the group's content now, and its content after an undo of all that was done under the exclusive
+/// claim.
 #[derive(Drop)]
 pub struct TicketBox<J: GroupNames> {
     pub(crate) group: Group,
@@ -50,21 +51,22 @@ impl<J: GroupNames> Model for TicketBox<J> {
 }
 
 impl<J: GroupNames> TicketBox<J> {
-    /// The group.
+    /// Returns the group.
     pub fn group(&self) -> Group
         ensures { result ≡ self.now.group }
     {
         self.group
     }
 
-    /// `Exclusive` while an exclusive claim is out, and else `Shared`.
+    /// Returns `Exclusive` while an exclusive claim is out, else `Shared`.
     pub fn mode(&self) -> Mode
         ensures { result ≡ self.now.mode }
     {
         self.mode
     }
 
-    /// A shared claim for this one, unless an exclusive claim or eight shared ones are out.
+    /// Grants a shared claim to `by`. Returns `None`, and changes nothing, if an exclusive claim or
+    /// eight shared ones are out.
     pub fn share(&mut self, by: Holder) -> Option<Claim<J>>
         ensures free { IfSome result (λ _. (self.old.mode ≡ Shared) × (self.old.shared < 8)) }
         ensures claim { IfSome result (λ c. c ≡ fresh by self.old.group Shared self.old.left) }
@@ -92,7 +94,7 @@ impl<J: GroupNames> TicketBox<J> {
         })
     }
 
-    /// An exclusive claim for this one, unless any claim is out.
+    /// Grants an exclusive claim to `by`. Returns `None`, and changes nothing, if any claim is out.
     pub fn grant(&mut self, by: Holder) -> Option<Claim<J>>
         ensures free { IfSome result (λ _. (self.old.mode ≡ Shared) × (self.old.shared ≡ 0)) }
         ensures claim { IfSome result (λ c. c ≡ fresh by self.old.group Exclusive self.old.left) }
@@ -121,8 +123,8 @@ impl<J: GroupNames> TicketBox<J> {
         })
     }
 
-    /// Learns that a claim on the group is one of those that are out, and that what it tells as left is in
-    /// the group.
+    /// Shows that a claim on the group is one of those that are out, and that what it records as left is
+    /// the group's content. Changes nothing.
     pub fn look(&mut self, claim: &mut Claim<J>)
         requires group { claim.old.group ≡ self.old.group }
         ensures mode { claim.old.mode ≡ self.old.mode }
@@ -148,7 +150,7 @@ impl<J: GroupNames> TicketBox<J> {
             .change_together(&mut claim.work, &Leaves { change });
     }
 
-    /// Takes back all that was done under an exclusive claim.
+    /// Undoes all that was done under an exclusive claim.
     pub fn undo(&mut self, claim: &mut Claim<J>)
         requires group { claim.old.group ≡ self.old.group }
         requires exclusive { claim.old.mode ≡ Exclusive }
@@ -162,7 +164,8 @@ impl<J: GroupNames> TicketBox<J> {
         self.work.change_together(&mut claim.work, &Undone);
     }
 
-    /// Takes a claim on the group back, once what it left is committed. A shared claim left nothing.
+    /// Takes a claim on the group back. What an exclusive claim left must be committed; a shared claim
+    /// left nothing.
     pub fn take_back(&mut self, claim: Claim<J>)
         requires group { claim.group ≡ self.old.group }
         requires committed { claim.mode ≡ Exclusive → claim.recorded ≡ claim.left }

@@ -1,7 +1,7 @@
 use agreement::{Change, Seat, Value};
 use groups::{Content, Mode};
 
-/// What the tickets of a group tell. No value of it is made.
+/// The value of the agreement on a group's committed content. Ghost data: none is ever made.
 pub struct CommittedContent {
     /// What is committed in the group.
     pub content: Content,
@@ -13,13 +13,13 @@ impl Value for CommittedContent {
     ghost initial = { record { content = nothing } };
 }
 
-/// What the slice and the claims on a group agree on. No value of it is made.
+/// The value of the agreement of the slice and the claims on a group. Ghost data: none is ever made.
 pub struct Work {
     /// Exclusive while an exclusive claim is out.
     pub mode: Mode,
-    /// What the claim has left in the group.
+    /// What the claim left in the group.
     pub left: Content,
-    /// What is in the group again once all that was done under the claim is taken back.
+    /// The content of the group after an undo of all that was done under the claim.
     pub back: Content,
 }
 
@@ -30,17 +30,17 @@ impl Value for Work {
     ghost initial = { record { mode = Shared; left = nothing; back = nothing } };
 }
 
-/// What a claim left is committed.
+/// Commits what a claim left.
 impl Change<CommittedContent> for Seat<Work> {
     ghost changed = { λ seat before. record { content = seat.value.left } };
 }
 
-/// Nothing was done yet under claims of this mode.
+/// Starts claims of this mode, under which nothing was done yet.
 impl Change<Work> for Mode {
     ghost changed = { λ mode before. record { mode = mode; left = before.left; back = before.left } };
 }
 
-/// What a change makes of what is left. What is there once all is taken back stays.
+/// Changes what is left in the group. The content after an undo is unchanged.
 #[derive(Drop)]
 pub struct Leaves<'a, C> {
     pub change: &'a C,
@@ -50,7 +50,7 @@ impl<C: Change<Content>> Change<Work> for Leaves<'_, C> {
     ghost changed = { λ leaves before. record { mode = before.mode; left = C.changed leaves.change.now before.left; back = before.back } };
 }
 
-/// All that was done is taken back.
+/// Undoes all that was done.
 #[derive(Drop)]
 pub struct Undone;
 

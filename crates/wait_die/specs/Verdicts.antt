@@ -1,4 +1,4 @@
--- What is said to a want of a transaction, by the holders that conflict with it.
+-- The decision on a want of a transaction, by the holders that conflict with it.
 use Rattle.std.specs.Prelude.{◌≡◌, ◌≢◌, ℕ, ◌<◌, ◌≤◌, List, [], All, Any}
 use Rattle.wait_die.specs.declared.deciding.Holder.{Holder}
 use Rattle.wait_die.specs.declared.deciding.Decision.{Decision}
@@ -8,7 +8,7 @@ use Rattle.wait_die.specs.declared.deciding.Decision.TheVariants.{Free, Waits, D
 abbrev pub IsOldest : List Holder → ℕ → Type 0
 IsOldest holders oldest = Any (λ holder. holder.age ≡ oldest) holders × All (λ holder. oldest ≤ holder.age) holders
 
--- It is free without a holder. It dies of the oldest holder, where that is not younger than it. It waits where there are
+-- A want is free if there is no holder. It dies if the oldest holder is not younger than it. It waits if there are
 -- holders, and all are younger.
 abbrev pub IsVerdict : ℕ → List Holder → Decision → Type 0
 IsVerdict age holders Free = holders ≡ []

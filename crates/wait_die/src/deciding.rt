@@ -1,7 +1,7 @@
 ghost use Rattle.std.specs.Prelude.{◌≡◌, ◌≢◌, MatchOption, [], All, Any, ◌≤◌};
 ghost use Rattle.wait_die.specs.Verdicts.{IsOldest, IsVerdict};
 
-/// The age of a transaction: how many were admitted before it. Of two ages the lesser is the older.
+/// The age of a transaction: the number of transactions admitted before it. The lesser age is the older.
 pub type Age = u64;
 
 /// An action that holds a claim: its transaction's age, and its place among the transaction's actions.
@@ -11,18 +11,19 @@ pub struct Holder {
     pub place: usize,
 }
 
-/// What is said to a want.
+/// The decision on a want.
 #[derive(Clone, Copy, Debug, PartialEq, Eq)]
 pub enum Decision {
-    /// It is granted.
+    /// The want is granted.
     Free,
-    /// It waits, for younger holders alone.
+    /// The want waits; all conflicting holders are younger.
     Waits,
-    /// It dies of the oldest holder, which has this age and is not younger.
+    /// The want dies. The oldest conflicting holder has this age, and is not younger.
     Dies(Age),
 }
 
-/// What is said to a want of a transaction of this age, by the holders that conflict with it.
+/// Decides on a want of a transaction of this age, by the holders that conflict with it. Never
+/// allocates.
 pub fn verdict(age: Age, conflicting: &[Holder]) -> Decision
     ensures { IsVerdict age conflicting.now result }
 {
@@ -33,7 +34,7 @@ pub fn verdict(age: Age, conflicting: &[Holder]) -> Decision
     }
 }
 
-// The age of the oldest holder.
+// Returns the age of the oldest holder, `None` if there is no holder.
 fn oldest(holders: &[Holder]) -> Option<Age>
     ensures { MatchOption result (holders.now ≡ []) (IsOldest holders.now) }
 {

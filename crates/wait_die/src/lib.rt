@@ -1,7 +1,7 @@
-//! Wait-die: a want waits only for younger holders, and dies where one that conflicts with it is not
-//! younger. So ages rise along who waits for whom, and nobody waits for itself, through any others.
+//! Wait-die: a want waits only for younger holders, and dies if a conflicting holder is not younger. So
+//! ages rise along each chain of waits, and no transaction waits for itself, even through others.
 //!
-//! Nothing here waits itself, and nothing takes memory.
+//! No function waits or allocates.
 #![tactic(auto)]
 
 mod deciding;

@@ -1,4 +1,4 @@
-//! What stands in a group that was claimed, changed, and given back.
+//! The content of a group that was claimed, changed and given back.
 ghost use Rattle.std.specs.Prelude.{◌≡◌, [], All, IfOk, None, vec_len};
 ghost use Rattle.requests.specs.declared.group.Group.TheVariants.{History};
 ghost use Rattle.groups.specs.Content.Content.{OfHistory};
@@ -17,7 +17,7 @@ const WRITER: Holder = Holder { age: 1, place: 0 };
 
 const READER: Holder = Holder { age: 0, place: 0 };
 
-// The list of payments is gone.
+// The list of payments is removed.
 struct NoList;
 
 impl Change<Content> for NoList {
@@ -42,7 +42,7 @@ fn opened<J: GroupNames>(
     Ok((LockTable::open(alloc, 1, boxes)?, seats))
 }
 
-// A shared claim tells what stands in its group, whatever was done there before.
+// A shared claim records the content of its group, whatever was done there before.
 fn look<J: GroupNames>(table: &mut LockTable<J>, claim: &mut Claim<J>)
     requires here { warehouse_of claim.old.group ≡ table.old.w_id }
     requires shared { claim.old.mode ≡ Shared }
@@ -53,7 +53,8 @@ fn look<J: GroupNames>(table: &mut LockTable<J>, claim: &mut Claim<J>)
     claim.look_untouched();
 }
 
-// Who reads waits for one who writes. Once what that one left is committed and back, a shared claim tells it.
+// A reader waits for a writer. After what the writer left is committed and its claim is back, a shared
+// claim records it.
 fn read_after_write<J: GroupNames>(
     alloc: Global,
     openings: Vec<GroupSeats>,
@@ -109,7 +110,7 @@ fn a_reader_is_recorded_what_was_left_once_it_is_back(rt: HostRuntime) -> Result
     Ok(())
 }
 
-// What one who writes did is taken back, and nothing is committed. A shared claim tells what stood there before.
+// What a writer did is undone, and nothing is committed. A shared claim records the content from before.
 fn read_after_undo<J: GroupNames>(
     alloc: Global,
     table: &mut LockTable<J>,

@@ -16,7 +16,7 @@ there : (holders : List Holder) (found : Option ℕ) (index : ℕ) → index ≡
 there holders (Some k) index is inside some = omega (arith, is, inside)
 there holders None index is inside some = omega (arith, is, some)
 
--- and where this one is one of the holders, it stands at the place
+-- and if this one is one of the holders, it is at the place
 stands : (holders : List Holder) (by : Holder) (found : Option ℕ) (index : ℕ) → index ≡ unwrap_or found 0 → IfSome found (λ k. get_or holders k by ≡ by) → IfNone found (Contains holders by → ⊥) → Contains holders by → get_or holders index by ≡ by
 stands holders by (Some k) index is at none here = ap (λ (n : ℕ). get_or holders n by) is ∙ at
 stands holders by None index is at none here = absurd (none here)

@@ -18,7 +18,7 @@ on_err : {T E : Type 0} (r : Result T E) (P : Type 0) → P → OnErr r P
 on_err (Ok x) P p = tt
 on_err (Err e) P p = p
 
--- who has to wait is told so, and nothing has changed
+-- an action that has to wait gets `Waits`, and nothing has changed
 recorded_to_wait : {J : Type 0} (by : Holder) (wants : List Want) (old new : LockTableView) (answered : Asked J) → answered ≡ Waits → AnswersAtOnce by wants old answered new → MustWait old.holdings by.age wants × (new ≡ old)
 recorded_to_wait {J} by wants old new answered is answers = subst (λ (a : Asked J). AnswersAtOnce by wants old a new) is answers
 
@@ -26,7 +26,7 @@ recorded_to_wait {J} by wants old new answered is answers = subst (λ (a : Asked
 still_own : (warehouses w_id : ℕ) (old new : LockTableView) (wants : List Want) → w_id ≡ new.w_id → new ≡ old → CanAsk warehouses old.w_id wants → CanAsk warehouses w_id wants
 still_own warehouses w_id old new wants here same can = subst (λ (w : ℕ). CanAsk warehouses w wants) (sym (here ∙ ap (λ (t : LockTableView). t.w_id) same)) can
 
--- one more stands last
+-- one more is last
 put_last : (old new : List WaiterView) (waiter : WaiterView) (by : Holder) (wants : List Want) (count : ℕ) → new ≡ old ++ waiter ∷ [] → waiter ≡ waiter_view by wants count → new ≡ old ++ waiter_view by wants count ∷ []
 put_last old new waiter by wants count put is = put ∙ ap (λ (w : WaiterView). old ++ w ∷ []) is
 

@@ -3,7 +3,7 @@ use Rattle.std.specs.List.{All, AllWithin}
 use Rattle.tickets.specs.LogSeats.{IsRecordedIn}
 use Rattle.tickets.proofs.log_seats.LogSeats.look_each.Given as goal
 
--- nothing has changed, and the claims of each action so far are told
+-- nothing has changed, and the claims of each action so far are recorded in the seats
 abbrev pub invariant-loop-k : goal.invariant-loop-k
 invariant-loop-k g l = record {
   seats : l.self ≡ l.initial.self;
