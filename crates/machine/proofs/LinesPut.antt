@@ -20,7 +20,7 @@ module _ (order : OrderKey) where
   abbrev pub with_lines : ℕ → List OrderLine → LineTable → LineTable
   with_lines low rows lines = put_lines order low (map Some rows) lines
 
-  -- no line of the order stands in the table
+  -- no line of the order is stored in the table
   abbrev pub HasNone : LineTable → Type 0
   HasNone lines = (number : ℕ) → get lines (line_key order number) ≡ None
 

@@ -54,7 +54,7 @@ other_order other order number apart =
       | false ↦ λ e. refl
     ] refl
 
--- weights that differ only where no row stands sum up alike
+-- weights that differ only where no row is stored have the same sum
 same_weights : {K X : Type 0} (test : K → Bool) (v w : K → X → ℤ) → ((k : K) (x : X) → test k ≡ false → v k x ≡ w k x)
     → (es : List (K × X)) → filter (λ e. test e.0) es ≡ [] → sum_entries v es ≡ sum_entries w es
 same_weights test v w same [] none = refl
@@ -64,7 +64,7 @@ same_weights test v w same (e ∷ es) none =
       | false ↦ λ t f. ap (λ z. z +ℤ sum_entries v es) (same e.0 e.1 t) ∙ ap (λ z. w e.0 e.1 +ℤ z) (same_weights test v w same es f)
     ] refl none
 
--- whether a customer has ordered an order is told by its row alone
+-- whether a customer has ordered an order depends on its row alone
 has_ordered-same : (s t : Database) (customer : CustomerKey) (key : OrderKey) → table.get s.orders key ≡ table.get t.orders key → has_ordered s customer key ≡ has_ordered t customer key
 has_ordered-same s t customer key same =
     elim (table.get t.orders key) as (λ r. table.get t.orders key ≡ r → has_ordered s customer key ≡ has_ordered t customer key) [
