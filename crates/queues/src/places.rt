@@ -38,7 +38,7 @@ pub fn one_more<T>(board: &Board<T>, place: &mut Place<T>) -> Place<T>
     board.another::<OneMore>(place)
 }
 
-/// A place that may do nothing, to stand where another was.
+/// Returns one more place at the queue, a placeholder for another place.
 pub fn spare<T>(board: &Board<T>, place: &mut Place<T>) -> Place<T>
     requires place { IsPassOf (arc_value board.now) place.old }
     ensures place { IsPassOf (arc_value board.now) place.new }
@@ -48,7 +48,7 @@ pub fn spare<T>(board: &Board<T>, place: &mut Place<T>) -> Place<T>
     board.another::<Spare>(place)
 }
 
-/// The taker takes in a sender.
+/// The taker's place absorbs the place of a sender.
 pub fn take_in<T>(board: &Board<T>, place: &mut Place<T>, sender: Place<T>)
     requires place { IsPassOf (arc_value board.now) place.old }
     requires beside { IsPassOf (arc_value board.now) sender }
@@ -60,7 +60,7 @@ pub fn take_in<T>(board: &Board<T>, place: &mut Place<T>, sender: Place<T>)
     board.absorb::<TakeIn>(place, sender);
 }
 
-/// The sender that was taken in goes to a place of its own.
+/// The absorbed sender gets a place of its own again, which is returned.
 pub fn hand_back<T>(board: &Board<T>, place: &mut Place<T>) -> Place<T>
     requires place { IsPassOf (arc_value board.now) place.old }
     requires both { ((view place.old).takes ≡ true) × ((view place.old).sends ≡ true) }
