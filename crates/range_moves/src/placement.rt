@@ -2,7 +2,7 @@
 ghost use Rattle.std.specs.Prelude.{◌≡◌, ◌<◌, ◌↔◌, IsTrue, length};
 ghost use Rattle.range_moves.specs.Placements.{comes_to, fetched_from, found_in, placement_installed, placement_moved, placement_taken, is_at};
 
-/// Where the slice of a warehouse is.
+/// The place of the slice of a warehouse.
 #[derive(Clone, Copy, Debug, PartialEq, Eq)]
 pub enum Whereabouts {
     /// At this executor.
