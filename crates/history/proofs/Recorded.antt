@@ -382,7 +382,7 @@ same_order : (recorded : Option Acknowledgement) (es : List ℕ) (b c : Transact
 same_order None es b c s e h = tt
 same_order (Some recorded) es b c s e h = λ later'. subst (λ ys. Precedes es ys) (sym e) (h (subst (λ n. recorded.at < n) s later'))
 
--- what was told is what was told before, or now
+-- the answer that is recorded now
 recorded_now : ℕ → Result ℕ Refusal → Option Acknowledgement
 recorded_now at answer = Some (record { at = at; answer = answer })
 

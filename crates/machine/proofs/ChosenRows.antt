@@ -1,4 +1,4 @@
--- Who is chosen, by what the index and the tables tell.
+-- The chosen customer, from the index and the tables.
 use Rattle.std.proofs.Common.{◌≡◌, ℕ, suc, ◌<◌, Bool, true, false, cond, List, [], ◌∷◌, length, Contains, Option, Some, None, MatchOption, sym, ap, ◌∙◌, arith}
 use Rattle.std.specs.List.{find}
 use Rattle.std.specs.Option.{option_map}

@@ -98,7 +98,7 @@ module _ (t : Database) (n : NewOrder) (d new_d : District) (rows : List OrderLi
   elsewhere : (q : DistrictKey) → q ≢ n.home → is_of_district q key ≡ false
   elsewhere q apart = other_district q n.home d.next_o_id apart
 
-  -- ---- nothing stood at the key
+  -- ---- no row was stored at the key
 
   follows : NextOrderFollows t n.home d
   follows = h.next_orders_follow n.home d d_is
@@ -264,7 +264,7 @@ module _ (t : Database) (n : NewOrder) (d new_d : District) (rows : List OrderLi
       let same : table.contains_key left.new_orders q ≡ table.contains_key t.new_orders q = ap is_some (get-insert_elsewhere orders_total orders_exact t.new_orders key mark q apart) in
       (λ unset. same ∙ was.0 unset, λ listed. was.1 (sym same ∙ listed)))
 
-  -- a line that stood there is of another order
+  -- a line that was stored is of another order
   line_apart : (q : OrderLineKey) → is_of_order key q ≡ false → order_of_line q ≢ key
   line_apart q fails e =
       let own : is_of_order (order_of_line q) q ≡ true = own_order (order_of_line q) q.number in

@@ -23,7 +23,7 @@ use Rattle.range_moves.proofs.Sendings.{all_begun, all_right, bringing, few_repo
 
 -- ---- another order, and other messages
 
--- what is in flight and what is parked may stand in any order
+-- the messages in flight and those that are parked may be listed in any order
 pub located_same : (more : ℕ) (h : PlacementsView) (going going' : List MessageToSlice) (sent sent' : List Dispatch) (moved : ℕ) (parked parked' : List ℕ)
     → IsPermutation going going' → IsPermutation sent sent' → IsPermutation parked parked'
     → IsLocatedWith more h going sent moved parked → IsLocatedWith more h going' sent' moved parked'

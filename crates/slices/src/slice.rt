@@ -176,8 +176,9 @@ impl<J: GroupNames> Slice<J> {
         Some(claims)
     }
 
-    /// Grants or kills the oldest of the waiters that need not wait any longer; among those of the same age, the one
-    /// with the least place. Returns `None` if all waiters have to wait; nothing changes then. Never allocates.
+    /// Gives the oldest of the waiters that need not wait any longer its turn: it is granted its claims, or dies. Among
+    /// waiters of the same age, the one with the least place comes first. Returns `None` if all waiters have to wait;
+    /// nothing changes then. Never allocates.
     pub fn next_grant(&mut self) -> Option<Turn<J>>
         ensures turn { IfSome result (λ turn. TakesTurnIn self.old turn self.new) }
         ensures kept { IfSome result (λ turn. SliceKeeps [] (with_waiters self.new.waiters self.old) (claims_of_turn turn) self.new) }
