@@ -65,7 +65,7 @@ book_more length_table mine_tables entries word seats book entry seat longer sma
           (at_set seats entry.session session seat other at);
     }
 
--- what the log's seat of a session tells
+-- the value of the log's seat of a session
 pub recorded : (length_table : TableId) (mine_tables : ℕ → TableId) (entries : List Entry) (word : LengthView) (seats : List (SeatView Mine)) → IsBookOf length_table mine_tables entries word seats
     → (session : ℕ) (seat : SeatView Mine) → session < 64 → seat ≡ get_or seats session seat → seat ≡ seat_at (mine_tables session) (mine_of (items_of session entries))
 recorded length_table mine_tables entries word seats book session seat small at = let many = book.seat_each in book.each_records session seat (at_index seats session seat (omega arith) at)

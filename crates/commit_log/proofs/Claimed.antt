@@ -20,7 +20,7 @@ use Rattle.commit_log.specs.Items.{entry_of}
 use Rattle.commit_log.specs.Claimed.{contents_logged, claims_logged, seats_logged, IsCarriedOut, IsKept}
 use Rattle.commit_log.proofs.Legal.{replies-append, tables_after-append, map_push}
 
--- the seats tell what is committed then
+-- the seats record what is committed then
 seats_record : (reply : Reply) (tables : Group → Content) (claims : List ClaimView) (seats : List CommittedGroup) → SeatsRecord tables seats → SeatsRecord (contents_logged reply tables claims) (seats_logged reply claims seats)
 seats_record (Done shown) tables claims seats records = settled_record tables seats claims records
 seats_record (RolledBack fault) tables claims seats records = records

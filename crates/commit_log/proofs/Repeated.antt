@@ -12,7 +12,7 @@ use Rattle.commit_log.specs.Log.{requests_of}
 use Rattle.commit_log.specs.Replay.{IsReplied, tables_before, Stands, IsReplayOf}
 use Rattle.commit_log.proofs.Legal.{tables_after-append, map_push}
 
--- the entries before this place stand, and the engine has carried out their requests
+-- the entries before this place repeat, and the engine has carried out their requests
 pub record SoFar (opening : Database) (entries : List Entry) (place : ℕ) (tables : Database) : Type 0 where
   pub left : tables ≡ tables_before opening entries place
   pub stood : (before : ℕ) → before < place → Stands opening entries before
@@ -56,7 +56,7 @@ all_stand opening entries place tables last whole h is = (
     take_all (x ∷ xs) zero h = absurd (omega (arith, h))
     take_all (x ∷ xs) (suc n) h = ap (λ l. x ∷ l) (take_all xs n (omega (arith, h)))
 
--- an entry that doesn't stand is the first one
+-- an entry that doesn't repeat is the first one
 pub differs_here : (opening : Database) (entries : List Entry) (place : ℕ) (tables : Database) (entry : Entry)
     → slice_get entries place ≡ Some entry → place < length entries → SoFar opening entries place tables → (IsReplied tables entry → ⊥)
     → IsReplayOf opening entries (Differs place)

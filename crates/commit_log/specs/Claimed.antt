@@ -1,4 +1,4 @@
--- What a log of claims keeps, and when a request that was carried out under claims may be logged.
+-- The invariant of a log of claims, and the condition for logging a request that was carried out under claims.
 use Rattle.std.specs.Prelude.{◌≡◌, List, All, map}
 use Rattle.schema.specs.Database.{Database}
 use Rattle.requests.specs.declared.group.Group.{Group}
@@ -14,39 +14,39 @@ use Rattle.tickets.specs.LogSeats.{CommittedGroup, SeatsRecord, after_all}
 use Rattle.commit_log.specs.declared.entry.Entry.{Entry}
 use Rattle.commit_log.specs.Log.{requests_of, replies_of}
 
--- ---- what a transaction leaves committed
+-- ---- the contents that a transaction commits
 
--- what is committed once a transaction with this reply is logged: a rolled back one changes nothing, and another leaves
--- in each group what its exclusive claim left there
+-- The committed contents after a transaction with this reply is logged. A rollback changes nothing; otherwise each
+-- group has what its exclusive claim left there.
 abbrev pub contents_logged : Reply → (Group → Content) → List ClaimView → Group → Content
 contents_logged (Done shown) contents claims = after_claims contents claims
 contents_logged (RolledBack fault) contents claims = contents
 
--- its claims then: those of a transaction that was not rolled back tell what they left
+-- its claims after that: unless the transaction was rolled back, they record what they left
 abbrev pub claims_logged : Reply → List ClaimView → List ClaimView
 claims_logged (Done shown) claims = all_settled claims
 claims_logged (RolledBack fault) claims = claims
 
--- the seats of the log then
+-- the seats of the log after that
 abbrev pub seats_logged : Reply → List ClaimView → List CommittedGroup → List CommittedGroup
 seats_logged (Done shown) claims seats = map (after_all claims) seats
 seats_logged (RolledBack fault) claims seats = seats
 
--- ---- when a request was carried out
+-- ---- the condition that a request was carried out
 
--- From every tables with these items and of this scale that the claims tell, the machine gives the reply to the request,
--- and leaves what the claims leave: in the group of each exclusive claim what it left, and in every other group what was
--- there.
+-- From any tables with these items and this scale whose contents the claims record, the machine gives this reply to the
+-- request, and leaves what the claims leave: in the group of each exclusive claim what it left, and in every other
+-- group the contents from before.
 abbrev pub IsCarriedOut : Database → Request → List ClaimView → Reply → Type 0
 IsCarriedOut opening request claims reply =
     (t : Database) → t.scale ≡ opening.scale → t.items ≡ opening.items → Records (content t) claims
     → ((transaction t request).reply ≡ reply)
     × ((group : Group) → content (transaction t request).tables group ≡ contents_logged reply (content t) claims group)
 
--- ---- what the log keeps
+-- ---- the invariant of the log
 
--- Every request is one that its check accepts, the replies are those of a machine that carries the requests out one at a
--- time, in log order, from the opening, and the seats tell what the groups of its last tables have.
+-- The check accepts every request, the replies are those of a machine that carries out the requests one at a time, in
+-- log order, from the opening tables, and the seats record the contents of the groups in the machine's last tables.
 pub record IsKept (opening : Database) (entries : List Entry) (seats : List CommittedGroup) : Type 0 where
   pub accepted : All (λ (entry : Entry). IsAccepted opening.scale entry.request) entries
   pub replied : replies_of entries ≡ replies opening (requests_of entries)

@@ -1,4 +1,4 @@
--- What a log's book, a pass and a session's seat keep.
+-- The invariants of a log's book, a pass and a session's seat.
 use Rattle.std.specs.Prelude.{◌≡◌, ℕ, ◌<◌, ◌≤◌, List, length, All}
 use mathlib.Core.Option.{some}
 use lib.ListN.{get_elem?}
@@ -10,20 +10,20 @@ use Rattle.commit_log.specs.declared.entry.Entry.{Entry}
 use Rattle.commit_log.specs.declared.mine.Mine.{Mine}
 use Rattle.commit_log.specs.Items.{items_of, mine_of}
 
--- one of the two seats of the agreement at this table, which tells this
+-- one of the two seats of the agreement at this table, with this value
 abbrev pub seat_at : {V : Type 0} → TableId → V → SeatView V
 seat_at table value = seat_view (record { table = table; count = 2 }) value 1
 
--- the two seats of an agreement on this
+-- the two seats of an agreement on this value
 abbrev pub IsPair : {V : Type 0} → V → SeatView V → SeatView V → Type 0
 IsPair value one other = (one ≡ seat_at one.agreement.table value) × (other ≡ one)
 
--- each session's seat tells what the session has logged
+-- each session's seat records what the session has logged
 abbrev pub EachRecords : (ℕ → TableId) → List Entry → List (SeatView Mine) → Type 0
 EachRecords tables entries seats =
     (session : ℕ) (seat : SeatView Mine) → get_elem? seats session ≡ some seat → seat ≡ seat_at (tables session) (mine_of (items_of session entries))
 
--- a book of these entries, with this length and these seats of the sessions
+-- the book has these entries, this length and these seats of the sessions
 pub record IsBookOf (length_table : TableId) (mine_tables : ℕ → TableId) (entries : List Entry) (word : LengthView) (seats : List (SeatView Mine)) : Type 0 where
   pub recorded_length : word ≡ length_view length_table (length entries)
   pub most : length entries ≤ 16777216
@@ -31,7 +31,7 @@ pub record IsBookOf (length_table : TableId) (mine_tables : ℕ → TableId) (en
   pub seat_each : length seats ≡ 64
   pub each_records : EachRecords mine_tables entries seats
 
--- a pass of this session, which has seen so many entries, with this mark and these seats
+-- the pass of this session has seen `seen` entries, and has this mark and these seats
 pub record IsPassOf (length_table mine_table asks_table : TableId) (session seen : ℕ) (mark : LengthView) (mine : SeatView Mine) (asks : SeatView Asking) : Type 0 where
   pub some_session : session < 64
   pub marked : seen ≤ mark.entries
@@ -39,7 +39,7 @@ pub record IsPassOf (length_table mine_table asks_table : TableId) (session seen
   pub mine_of_session : mine ≡ seat_at mine_table mine.value
   pub asks_of_session : asks ≡ seat_at asks_table asks.value
 
--- a seat of this session on what it asks
+-- the session's seat of the agreement on its request
 pub record IsSeatOf (asks_table : TableId) (session : ℕ) (asks : SeatView Asking) : Type 0 where
   pub some_session : session < 64
   pub asks_of_session : asks ≡ seat_at asks_table asks.value

@@ -14,7 +14,7 @@ use Rattle.commit_log.specs.LogTables.{LogTables}
 abbrev pub mine_table : Lane → TableId
 mine_table lane = lane.mine.agreement.table
 
--- the table of the agreement on what the session asks
+-- the table of the agreement on the session's request
 abbrev pub asks_table : Lane → TableId
 asks_table lane = lane.asks.agreement.table
 
@@ -22,7 +22,7 @@ asks_table lane = lane.asks.agreement.table
 abbrev pub tables_of : LengthView → List Lane → LogTables
 tables_of word lanes = record { length = word.table; mine = map mine_table lanes; asks = map asks_table lanes }
 
--- what a session has at these tables that has seen, logged and asked nothing
+-- the parts of a session at these tables, which has seen, logged and asked nothing
 pub record IsLaneOf (length_table mine_table asks_table : TableId) (lane : Lane) : Type 0 where
   pub mark : lane.mark ≡ length_view length_table 0
   pub mine : lane.mine ≡ seat_at mine_table (mine_of [])
@@ -33,7 +33,7 @@ pub record IsLaneOf (length_table mine_table asks_table : TableId) (lane : Lane)
 abbrev pub IsNewLane : TableId → Lane → Type 0
 IsNewLane length_table lane = IsLaneOf length_table (mine_table lane) (asks_table lane) lane
 
--- what this many sessions have, with the length of an empty log, and its seats
+-- the parts of this many sessions, with the length of an empty log and the log's seats
 pub record AreLanes (sessions : ℕ) (word : LengthView) (seats : List (SeatView Mine)) (lanes : List Lane) : Type 0 where
   pub empty : word.entries ≡ 0
   pub many : length lanes ≡ sessions

@@ -1,11 +1,11 @@
--- Tables without a row, and a table of no log, which name nothing: what a name has where none was picked.
+-- Empty tables, and a table of no log: the values of names where none are chosen.
 use Rattle.std.specs.Prelude.{[]}
 use Rattle.std.proofs.Common.{lit≤}
 use Rattle.std.specs.FinMap as map
 use Rattle.atomic_table.specs.Seated.{TableId}
 use Rattle.schema.specs.Database.{Database}
 
--- tables of the least scale without a row: where a name has to name some, and none is meant
+-- tables of the smallest scale without a row, where a value is needed but not used
 abbrev pub no_tables : Database
 no_tables = record {
   scale = record {
@@ -32,6 +32,6 @@ no_tables = record {
   lines = map.empty;
 }
 
--- no table of an agreement
+-- the table of no agreement
 abbrev pub no_table : TableId
 no_table = record { words = 0; slots = 0; views_name = 0; atom = 0; block = 0; offset = 0; slot_names = [] }

@@ -3,15 +3,15 @@ use agreement::{Change, Seat, Value};
 use requests::Request;
 use std::collections::LinkedList;
 
-/// What a session asks, and what its pass was when it asked: its pass and the session agree on it. No
-/// value of it is made.
+/// A session's request, and the state of its pass when it made the request: the value on which its pass and the session
+/// agree. Ghost data only; no value of it is made.
 pub struct Asking {
     /// The number of the request in its session.
     pub number: u32,
     pub request: Request,
-    /// How many entries the pass had seen.
+    /// The number of entries that the pass had seen.
     pub seen: u32,
-    /// What the session had logged.
+    /// The items that the session had logged.
     pub mine: LinkedList<Item>,
 }
 
@@ -21,7 +21,7 @@ impl Value for Asking {
     ghost initial = { nothing_asked };
 }
 
-/// The session asks this, with a pass that has seen and logged so much.
+/// The change that the session makes this request, with a pass in this state.
 #[derive(Drop)]
 pub(crate) struct Asks<'a> {
     pub(crate) number: u32,

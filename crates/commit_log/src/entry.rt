@@ -1,6 +1,6 @@
 use requests::{Reply, Request};
 
-/// A transaction that was carried out: who asked for it, what was asked, and what was replied.
+/// A transaction that was carried out: its session, its request and its reply.
 #[derive(Clone, Debug, PartialEq, Eq, Drop)]
 pub struct Entry {
     /// The session, 0 to 63.

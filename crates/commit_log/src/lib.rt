@@ -1,6 +1,6 @@
-//! The commit log: which transactions were carried out, in which order, and what each replied; and the
-//! passes of its sessions. A pass goes where its session's request goes. It tells what the session has
-//! logged, and how far the log had reached when it was last there, without a look at the log.
+//! The commit log: the transactions that were carried out, in order, and the reply to each; and the passes of its
+//! sessions. A pass travels with its session's request. It records what the session has logged, and how far the log had
+//! reached when the pass was last there, without access to the log.
 #![tactic(auto)]
 
 mod asking;

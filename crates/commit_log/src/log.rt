@@ -16,8 +16,8 @@ use schema::NoMemory;
 use std::marker::Model;
 use tickets::{Claims, LogSeats};
 
-/// A log of transactions that were carried out under claims, in any hands. It has no tables: its seats
-/// tell what is committed in each group.
+/// A log of transactions that were carried out under claims, by any executors. It has no tables; its seats record the
+/// committed contents of each group.
 #[derive(Drop)]
 pub struct Log<J: Names> {
     book: LogBook<J>,
@@ -41,7 +41,7 @@ impl<J: Names> Model for Log<J> {
 }
 
 impl<J: Names> Log<J> {
-    /// A log without entries, whose seats tell what the groups have in the tables of its opening.
+    /// Returns a log without entries, whose seats record the contents of the groups in the tables of its opening.
     pub fn new(book: LogBook<J>, seats: LogSeats<J>) -> Log<J>
         requires empty { book.entries ≡ [] }
         requires opening { SeatsRecord (content J.opening) seats }
@@ -50,8 +50,8 @@ impl<J: Names> Log<J> {
         Log { book, seats }
     }
 
-    /// The entries, in log order. The replies are those of a machine that carries their requests out one
-    /// at a time from the opening.
+    /// Returns the entries, in log order. The replies are those of a machine that carries out their requests one at a
+    /// time from the opening tables.
     pub fn entries(&self) -> &[Entry]
         ensures entries { result.now ≡ self.now }
         ensures legal { replies_of self.now ≡ replies J.opening (requests_of self.now) }
@@ -62,17 +62,18 @@ impl<J: Names> Log<J> {
         self.book.entries()
     }
 
-    /// The entries, in log order. It takes no memory.
+    /// Returns the entries, in log order. Never allocates.
     pub fn into_entries(self) -> Vec<Entry>
         ensures { result.items ≡ self }
     {
         self.book.into_entries()
     }
 
-    /// Logs a request that was carried out by actions under these claims, those of each action together:
-    /// the log has this entry more, at the place that is given, behind all that the pass has seen. What the
-    /// claims left is committed from then on, unless the transaction was rolled back. An error changes
-    /// nothing but that, where the log is full, the pass's mark knows its length.
+    /// Logs a request that actions carried out under these claims; `held` has the claims of each action together.
+    /// Returns the entry's place, from 0, which is after all entries that the pass has seen. From then on the contents
+    /// left by the claims are committed, unless the transaction was rolled back. Returns NoMemory if an allocation
+    /// fails, and LogFull exactly if the log has `MOST_ENTRIES` entries. After an error the log and the claims are
+    /// unchanged; after LogFull the pass's mark has the log's length.
     pub fn append(
         &mut self,
         held: &mut [Claims<J>],
@@ -108,16 +109,16 @@ impl<J: Names> Log<J> {
         Ok((place, pass))
     }
 
-    /// Makes room for so many entries more, as far as a log has them: they take no memory then. An error
-    /// changes nothing.
+    /// Reserves memory for `entries` more entries, as far as the log can have them; appending them doesn't allocate
+    /// then. The entries are unchanged, also after an error.
     pub fn reserve(&mut self, entries: usize) -> Result<(), NoMemory>
         ensures { self.new ≡ self.old }
     {
         self.book.reserve(entries)
     }
 
-    /// Learns that the log has reached what the pass knows, and that the pass tells exactly what its
-    /// session has logged. Both stay as they were.
+    /// Establishes for contracts that the log has reached the pass's mark, and that the pass records exactly what its
+    /// session has logged. Both are unchanged.
     pub fn audit(&mut self, pass: &mut Pass<J>)
         ensures seen { pass.old.seen ≤ pass.old.reached }
         ensures reached { pass.old.reached ≤ length self.old }
@@ -127,8 +128,8 @@ impl<J: Names> Log<J> {
         self.book.audit(pass);
     }
 
-    /// Learns that claims, those of each action together, tell what the tables have that the log's
-    /// transactions have left. Both stay as they were.
+    /// Establishes for contracts that the claims, those of each action together, record the contents of the tables
+    /// after the log's transactions. Both are unchanged.
     pub fn look(&mut self, claims: &mut [Claims<J>])
         ensures recorded { Records (content (tables_after J.opening (requests_of self.old))) (all_claims claims.old) }
         ensures same { (self.new ≡ self.old) × (claims.new ≡ claims.old) }
@@ -137,8 +138,8 @@ impl<J: Names> Log<J> {
     }
 }
 
-// Learns that the claims tell what is committed, and commits what they left, unless the transaction was
-// rolled back.
+// Establishes that the claims record the committed contents. Commits the contents they leave, unless the transaction
+// was rolled back.
 fn commit<J: Names>(seats: &mut LogSeats<J>, held: &mut [Claims<J>], reply: &Reply)
     ensures recorded { All (IsRecordedIn seats.old) (all_claims held.old) }
     ensures seats { seats.new ≡ seats_logged reply.now (all_claims held.old) seats.old }

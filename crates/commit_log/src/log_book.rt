@@ -14,24 +14,24 @@ use schema::NoMemory;
 use std::alloc::Global;
 use std::marker::{Model, PhantomData};
 
-/// The most entries that a log has.
+/// The greatest number of entries of a log.
 pub const MOST_ENTRIES: usize = 16_777_216;
 
-/// Why a request was not carried out and logged.
+/// Why a request was not logged.
 #[derive(Clone, Copy, Debug, PartialEq, Eq)]
 pub enum AppendFault {
     NoMemory,
-    /// The log has its most entries.
+    /// The log has `MOST_ENTRIES` entries.
     LogFull,
 }
 
-/// The entries of a log, which tell each session what it has logged and how far the log has reached.
-/// It knows nothing of the engine that carries out what is logged.
+/// The entries of a log, their number, and what each session has logged. Independent of the engine that carries out the
+/// requests.
 #[derive(Drop)]
 pub struct LogBook<J: LogNames> {
     entries: Vec<Entry>,
     length: Length,
-    /// What each session has logged, by its number.
+    /// The items that each session has logged, by session number.
     mine: Vec<Seat<Mine>>,
     names: PhantomData<J>,
 }
@@ -53,8 +53,8 @@ impl<J: LogNames> Model for LogBook<J> {
 }
 
 impl<J: LogNames> LogBook<J> {
-    /// A book without entries, and each session's pass and seat, in the order of the sessions. Nothing is
-    /// left after an error.
+    /// Returns a book without entries, and the pass and seat of each session, by session number. Nothing is left after
+    /// an error.
     pub fn open(
         alloc: Global,
         seats: UnnamedLog,
@@ -99,7 +99,7 @@ impl<J: LogNames> LogBook<J> {
         Ok((book, sessions))
     }
 
-    /// The entries, in log order.
+    /// Returns the entries, in log order.
     pub fn entries(&self) -> &[Entry]
         ensures entries { result.now ≡ self.now.entries }
         ensures most { length self.now.entries ≤ MOST_ENTRIES }
@@ -108,7 +108,7 @@ impl<J: LogNames> LogBook<J> {
         self.entries.as_slice()
     }
 
-    /// The entries, in log order. It takes no memory.
+    /// Returns the entries, in log order. Never allocates.
     pub fn into_entries(self) -> Vec<Entry>
         ensures entries { result.items ≡ self.entries }
         ensures most { length self.entries ≤ MOST_ENTRIES }
@@ -117,8 +117,9 @@ impl<J: LogNames> LogBook<J> {
         self.entries
     }
 
-    /// Makes room for an entry, and tells its place. Where the log is full, the pass's mark knows the
-    /// length from then on, while what the pass has seen stays as it was.
+    /// Reserves memory for one entry, and returns its place, from 0. Returns LogFull if the log has `MOST_ENTRIES`
+    /// entries: the pass's mark has the log's length then, and its number of seen entries is unchanged. Returns
+    /// NoMemory if an allocation fails; the pass is unchanged then. The entries are unchanged in any case.
     pub fn make_room(&mut self, pass: &mut Pass<J>) -> Result<u32, AppendFault>
         ensures entries { self.new.entries ≡ self.old.entries }
         ensures place { IfOk result (λ place. place ≡ length self.old.entries) }
@@ -140,7 +141,8 @@ impl<J: LogNames> LogBook<J> {
         }
     }
 
-    /// Makes room for so many entries more, as far as a log has them. An error changes nothing.
+    /// Reserves memory for `entries` more entries, as far as the log can have them. The entries are unchanged, also
+    /// after an error.
     pub fn reserve(&mut self, entries: usize) -> Result<(), NoMemory>
         ensures { self.new.entries ≡ self.old.entries }
     {
@@ -148,8 +150,8 @@ impl<J: LogNames> LogBook<J> {
         Ok(self.entries.reserve(entries.min(left))?)
     }
 
-    /// Logs what the pass asks with its reply, in the room that was made: the log has this entry more,
-    /// and the pass has seen it.
+    /// Logs the pass's request with its reply, in the reserved memory: the log has one entry more, and the pass has
+    /// seen it.
     pub fn log(&mut self, pass: &mut Pass<J>, number: u32, request: Request, reply: Reply)
         requires below { length self.old.entries < MOST_ENTRIES }
         requires spare { 0 < self.old.spare }
@@ -179,8 +181,8 @@ impl<J: LogNames> LogBook<J> {
         });
     }
 
-    /// Learns that the log has reached what the pass knows, and that the pass tells exactly what its
-    /// session has logged. Both stay as they were.
+    /// Establishes for contracts that the log has reached the pass's mark, and that the pass records exactly what its
+    /// session has logged. Both are unchanged.
     pub fn audit(&mut self, pass: &mut Pass<J>)
         ensures seen { pass.old.seen ≤ pass.old.reached }
         ensures reached { pass.old.reached ≤ length self.old.entries }
@@ -192,7 +194,7 @@ impl<J: LogNames> LogBook<J> {
     }
 }
 
-// The log is one entry longer, and the mark knows it. The mark knew no more than the length before.
+// Increases the log's length by one, and sets the mark to it. The mark was at most the length before.
 fn reach_one_more(length: &mut Length, mark: &mut Mark)
     requires table { mark.old.table ≡ length.old.table }
     requires room { length.old.entries + 1 < 2 ^ 32 }

@@ -1,13 +1,13 @@
 use std::marker::Brand;
 
-/// Names what a log, its passes and its sessions have in common. It is no data of the program: the call
-/// that opens a log picks it, and whatever belongs to that log has it as a type parameter.
+/// Identifies the data that a log, its passes and its sessions have in common. Ghost data only: the call that opens a
+/// log chooses it, and everything that belongs to the log has it as a type parameter.
 pub trait LogNames {
     ghost use Rattle.std.specs.Prelude.{ℕ};
     ghost use Rattle.atomic_table.specs.Seated.{TableId};
     ghost use Rattle.schema.specs.Database.{Database};
 
-    /// The tables with which the log was opened.
+    /// The tables at the opening of the log.
     ghost opening: { Database };
     /// The table of the log's length.
     ghost length: { TableId };

@@ -6,7 +6,7 @@ use agreement::{Change, Seat, Value};
 use requests::{Reply, Request};
 use std::collections::LinkedList;
 
-/// An entry of the log as its session sees it. Contracts alone speak of items: none is made.
+/// An entry of the log, for the contracts of its session. No value of it is made.
 pub struct Item {
     /// The place of the entry in the log, from 0.
     pub place: u32,
@@ -16,7 +16,8 @@ pub struct Item {
     pub reply: Reply,
 }
 
-/// What a session has logged, in log order: its pass and the log agree on it. No value of it is made.
+/// The items that a session has logged, in log order: the value on which its pass and the log agree. Ghost data only;
+/// no value of it is made.
 pub struct Mine {
     pub items: LinkedList<Item>,
 }
@@ -27,7 +28,7 @@ impl Value for Mine {
     ghost initial = { record { items = [] } };
 }
 
-/// A request of the session is logged with its reply.
+/// The change that a request of the session is logged with its reply.
 #[derive(Drop)]
 pub(crate) struct Logs<'a> {
     pub(crate) place: u32,
@@ -43,7 +44,7 @@ impl Change<Mine> for Logs<'_> {
     ghost changed = { λ logs mine. record { items = mine.items ++ item logs.place logs.number logs.request.now logs.reply.now ∷ [] } };
 }
 
-/// The log's seat of a session and its pass's seat tell one item more.
+/// Adds one item to what the log's seat of a session and the session's pass record.
 pub(crate) fn note(log: &mut Seat<Mine>, pass: &mut Seat<Mine>, logs: &Logs<'_>)
     requires log { log.old ≡ seat_at log.old.agreement.table log.old.value }
     requires pass { pass.old ≡ seat_at log.old.agreement.table pass.old.value }

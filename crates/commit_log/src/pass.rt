@@ -6,15 +6,15 @@ use agreement::Seat;
 use length_word::Mark;
 use std::marker::{Model, PhantomData};
 
-/// What a session knows of the log: how far it has reached, and what the session has logged. It goes
-/// with the session's request to the log, and comes back with the answer.
+/// A session's knowledge of the log: how far it has reached, and what the session has logged. It travels with the
+/// session's request to the log, and returns with the reply.
 #[derive(Drop)]
 pub struct Pass<J: LogNames> {
     /// The session, 0 to 63.
     pub(crate) session: u32,
-    /// How many entries the log had when the session, or one that it met, had an answer from it.
+    /// The number of entries of the log when the session, or one that it met, last got a reply from it.
     pub(crate) seen: u32,
-    /// A number of entries that the log has reached: the number seen, or more where the log was full.
+    /// A number of entries that the log has reached: the number seen, or more if the log was full.
     pub(crate) mark: Mark,
     pub(crate) mine: Seat<Mine>,
     pub(crate) asks: Seat<Asking>,
@@ -33,21 +33,21 @@ impl<J: LogNames> Model for Pass<J> {
 }
 
 impl<J: LogNames> Pass<J> {
-    /// The session whose pass it is, 0 to 63.
+    /// Returns the session of the pass, 0 to 63.
     pub fn session(&self) -> u32
         ensures { result ≡ self.now.session }
     {
         self.session
     }
 
-    /// How many entries it has seen.
+    /// Returns the number of entries that the pass has seen.
     pub fn seen(&self) -> u32
         ensures { result ≡ self.now.seen }
     {
         self.seen
     }
 
-    /// A number of entries that the log has reached, which is no less than what it has seen.
+    /// Returns a number of entries that the log has reached, at least the number seen.
     pub fn reached(&self) -> u32
         ensures { result ≡ self.now.reached }
     {
@@ -55,8 +55,7 @@ impl<J: LogNames> Pass<J> {
     }
 }
 
-/// Two sessions meet: both passes have seen the larger number of entries from then on. It waits for
-/// nobody.
+/// Two sessions meet: from then on both passes have seen the larger number of entries. Never blocks.
 pub fn meet<J: LogNames>(one: &mut Pass<J>, other: &mut Pass<J>)
     ensures one { one.new ≡ having_met one.old other.old }
     ensures other { other.new ≡ having_met other.old one.old }

@@ -8,8 +8,8 @@ use requests::check;
 use schema::{NoMemory, Tables};
 use std::alloc::Global;
 
-/// Carries out the entries' requests one at a time, in log order, from the opening tables, and compares
-/// the replies. After lack of memory nothing is given.
+/// Carries out the entries' requests one at a time, in log order, from the opening tables, and compares the replies.
+/// Returns NoMemory if an allocation fails.
 pub fn replay(alloc: Global, opening: Tables, entries: &[Entry]) -> Result<Replay, NoMemory>
     ensures { IfOk result (IsReplayOf opening entries.now) }
 {
@@ -22,7 +22,8 @@ pub fn replay(alloc: Global, opening: Tables, entries: &[Entry]) -> Result<Repla
     Ok(Replay::Equal(plain.into_tables()))
 }
 
-// Whether the entry is what the engine does next, and then it has done it.
+// Returns whether the check accepts the entry's request and the engine gives the entry's reply. If so, the engine has
+// carried out the request.
 fn repeats(plain: &mut Plain, entry: &Entry) -> Result<bool, NoMemory>
     ensures does { IfOk result (λ same. same ≡ true → IsReplied plain.old entry.now) }
     ensures done { IfOk result (λ same. same ≡ true → plain.new ≡ (transaction plain.old entry.now.request).tables) }

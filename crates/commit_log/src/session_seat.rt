@@ -8,7 +8,7 @@ use agreement::Seat;
 use requests::Request;
 use std::marker::{Model, PhantomData};
 
-/// What a session keeps while its pass is away: what it asked, and what its pass was when it asked.
+/// A session's record while its pass is away: its request, and the state of its pass when it made the request.
 #[derive(Drop)]
 pub struct SessionSeat<J: LogNames> {
     /// The session, 0 to 63.
@@ -29,15 +29,15 @@ impl<J: LogNames> Model for SessionSeat<J> {
 }
 
 impl<J: LogNames> SessionSeat<J> {
-    /// The session whose seat it is, 0 to 63.
+    /// Returns the session of the seat, 0 to 63.
     pub fn session(&self) -> u32
         ensures { result ≡ self.now.session }
     {
         self.session
     }
 
-    /// The session asks a request of this number with its pass: the pass and the seat tell it, and what
-    /// the pass has seen and logged by now.
+    /// Makes a request of this number with the session's pass. The pass and the seat record the request, and what the
+    /// pass has seen and logged so far.
     pub fn ask(&mut self, pass: &mut Pass<J>, number: u32, request: &Request)
         requires { pass.old.session ≡ self.old.session }
         ensures seat { self.new ≡ session_seat_view self.old.session (asking number request.now pass.old.seen pass.old.mine) }
@@ -52,7 +52,7 @@ impl<J: LogNames> SessionSeat<J> {
         self.asks.change_together(&mut pass.asks, &asks);
     }
 
-    /// Learns that a pass of the session tells what the seat tells. Both stay as they were.
+    /// Establishes for contracts that a pass of the session and the seat record the same request. Both are unchanged.
     pub fn look(&mut self, pass: &mut Pass<J>)
         requires { pass.old.session ≡ self.old.session }
         ensures equal { pass.old.asks ≡ self.old.asking }

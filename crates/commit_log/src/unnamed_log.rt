@@ -9,27 +9,27 @@ use std::alloc::Global;
 use std::collections::VecDeque;
 use std::marker::Model;
 
-/// How many sessions a log has: 0 to 63.
+/// The number of sessions of a log, numbered 0 to 63.
 pub const SESSIONS: u32 = 64;
 
-/// What a session's pass and seat are made of.
+/// The parts of a session's pass and seat.
 #[derive(Drop)]
 pub(crate) struct Lane {
     pub(crate) mark: Mark,
     pub(crate) mine: Seat<Mine>,
-    /// The pass's seat of the agreement on what the session asks, and the session's own.
+    /// The pass's seat of the agreement on the session's request, and the session's own seat.
     pub(crate) asks: Seat<Asking>,
     pub(crate) asked: Seat<Asking>,
 }
 
-/// The length and the agreements of a new log, before they have a name. Contracts see the tables of
-/// each: they are what a name is picked from.
+/// The length and the agreements of a new log, before its names are chosen. Contracts see the tables of each, from
+/// which the names are chosen.
 #[derive(Drop)]
 pub struct UnnamedLog {
     pub(crate) length: Length,
     /// The log's seats of the agreements on what each session has logged.
     pub(crate) mine: Vec<Seat<Mine>>,
-    /// For each session.
+    /// One for each session.
     pub(crate) lanes: VecDeque<Lane>,
 }
 
@@ -46,8 +46,8 @@ impl Model for UnnamedLog {
 }
 
 impl UnnamedLog {
-    /// Makes the length and the agreements of 64 sessions that have asked and logged nothing. Nothing is
-    /// left after an error.
+    /// Returns the length and the agreements of 64 sessions that have asked and logged nothing. Returns NoMemory if an
+    /// allocation fails; nothing is left then.
     pub fn open(alloc: Global) -> Result<UnnamedLog, NoMemory>
         ensures mine { IfOk result (λ seats. length seats.mine ≡ 64) }
         ensures asks { IfOk result (λ seats. length seats.asks ≡ 64) }
@@ -75,7 +75,7 @@ impl UnnamedLog {
     }
 }
 
-// The two seats of a new agreement.
+// Returns the two seats of a new agreement.
 fn two_seats<V: Value>(alloc: Global) -> Result<(Seat<V>, Seat<V>), NoMemory>
     ensures { IfOk result (λ seats. IsPair V.initial seats.0 seats.1) }
 {

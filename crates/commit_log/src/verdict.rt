@@ -1,11 +1,11 @@
 use schema::Tables;
 
-/// Whether a log can be replayed.
+/// The result of replaying a log.
 #[derive(Drop)]
 pub enum Replay {
-    /// Every entry is what a machine does that carries out the requests one at a time, in log order. These
-    /// are its last tables.
+    /// For every entry, the check accepts the request, and a machine that carries out the requests one at a time, in
+    /// log order, gives the reply. Contains the machine's last tables.
     Equal(Tables),
-    /// The first place, from 0, whose request is refused by its check, or has another reply.
+    /// The first place, from 0, at which the check refuses the request or the reply differs.
     Differs(usize),
 }

@@ -83,7 +83,7 @@ All-of_map P f (x ∷ xs) h = All-cons (λ x. P (f x)) x xs (All-head P (f x) (m
 open_is : (session : ℕ) (t : Transaction) → IsTrue (is_open session t) → (t.session ≡ session) × (t.recorded ≡ None)
 open_is session t h = let parts = and_parts (t.session == session) (is_none t.recorded) h in (eqb-true t.session session parts.0, none_is t.recorded parts.1)
 
--- the only one of its session is what the record tells of it
+-- the only transaction of its session is the one recorded of it
 the_one : (ts : List Transaction) (u : UnansweredTransaction) (rest : List UnansweredTransaction) → AreUnanswered (u ∷ rest) ts → AreOfDifferentSessions (u ∷ rest)
     → (filter (is_of u.session) rest ≡ []) × ((unanswered_of u.session ts ≡ u ∷ []) × ((count_by (is_open u.session) ts ≡ 1) × (All (λ t. IsTrue (is_open u.session t) → unanswered t ≡ u) ts)))
 the_one ts u rest recorded apart =
@@ -290,7 +290,7 @@ before_more session p (Some recorded) es b below h = λ later'. λ k d here. by_
     (λ open'. subst (λ ys. All (λ y. get_or es k d < y) ys) (sym (ap (λ (v : Bool). if v then b.entries ++ p ∷ [] else b.entries) open')) (All-push (λ y. get_or es k d < y) b.entries p (h later' k d here) (below k d here)))
     (λ closed. subst (λ ys. All (λ y. get_or es k d < y) ys) (sym (ap (λ (v : Bool). if v then b.entries ++ p ∷ [] else b.entries) closed)) (h later' k d here))
 
--- an entry of one session leaves what the record tells of the others
+-- an entry of one session does not change the record of the others
 other_entry : (session p s : ℕ) → session ≢ s → (ts : List Transaction) → unanswered_of s (map (with_entry session p) ts) ≡ unanswered_of s ts
 other_entry session p s apart [] = refl
 other_entry session p s apart (t ∷ ts) =
@@ -382,7 +382,7 @@ same_order : (recorded : Option Acknowledgement) (es : List ℕ) (b c : Transact
 same_order None es b c s e h = tt
 same_order (Some recorded) es b c s e h = λ later'. subst (λ ys. Precedes es ys) (sym e) (h (subst (λ n. recorded.at < n) s later'))
 
--- what was told is what was told before, or now
+-- the answer that is recorded now
 recorded_now : ℕ → Result ℕ Refusal → Option Acknowledgement
 recorded_now at answer = Some (record { at = at; answer = answer })
 

@@ -1,4 +1,4 @@
--- When a history fits an opening, a log, the tables that are committed, and the transactions in flight.
+-- When a history fits an opening, a log, the committed tables, and the transactions in flight.
 use Rattle.std.specs.Prelude.{◌≡◌, ℕ, ◌<◌, List, length, take, IfOk}
 use Rattle.std.specs.List.{All}
 use Rattle.schema.specs.Database.{Database}
@@ -10,31 +10,31 @@ use Rattle.history.specs.declared.event.EventAnswer.{EventAnswer}
 use Rattle.history.specs.declared.event.EventAnswer.TheVariants.{Logged, Answered}
 use Rattle.history.specs.History.{Step, Transaction, UnansweredTransaction, Whole, InLogOrder, AgesFrom, AreOfDifferentSessions, AreUnanswered, transactions}
 
--- where it tells a place of the log, it is one of these
+-- if the answer contains a place of the log, that place has an entry
 abbrev pub IsLoggedBelow : ℕ → EventAnswer → Type 0
 IsLoggedBelow n (Logged place) = place < n
 IsLoggedBelow n (Answered session number answer) = IfOk answer (λ place. place < n)
 IsLoggedBelow n answer = Unit {0}
 
--- each answer that names a place of the log names one of its entries
+-- each answer that contains a place of the log refers to one of its entries
 abbrev pub NamesEntries : List Entry → List Step → Type 0
 NamesEntries log history = All (λ s. IsLoggedBelow (length log) s.answer) history
 
--- What holds of the transactions that n events tell of.
+-- The properties of the transactions of `n` events.
 pub record Recorded (log : List Entry) (n : ℕ) (ts : List Transaction) (admitted : ℕ) (pending : List UnansweredTransaction) : Type 0 where
   pub whole : Whole log ts
   pub order : InLogOrder ts
   pub ages : AgesFrom 0 ts
-  -- so many transactions were admitted
+  -- the number of admitted transactions
   pub count : admitted ≡ length ts
   pub unanswered : AreUnanswered pending ts
   pub apart : AreOfDifferentSessions pending
   pub submitted : All (λ t. t.submitted < n) ts
 
--- A history fits: the log's replies are those of a machine that carries out its requests one at a time, in log order, from
--- the opening, and the committed tables are those that it leaves; the tables are consistent after every beginning of the
--- log; each transaction is whole, and who was answered first stands first; so many transactions were admitted, and these
--- are without an answer.
+-- A history fits. The log's replies are those of a machine that carries out its requests one at a time, in log order,
+-- from the opening, and the committed tables are the machine's last. The tables are consistent after every beginning of
+-- the log. Each transaction is whole, and a transaction that was answered before another was submitted is logged before
+-- it. `admitted` transactions were admitted, and `pending` are those without an answer.
 pub record Fits (opening : Database) (history : List Step) (log : List Entry) (tables : Database) (admitted : ℕ) (pending : List UnansweredTransaction) : Type 0 where
   pub legal : IsLegal opening log tables
   pub consistent : (n : ℕ) → Consistent (tables_after opening (requests_of (take n log)))

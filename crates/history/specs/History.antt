@@ -1,4 +1,4 @@
--- What a list of events with their answers tells of the transactions.
+-- The transactions that follow from a list of events with their answers.
 use Rattle.std.specs.Prelude.{◌≡◌, ℕ, ◌+◌, ◌<◌, ◌==◌, ◌&&◌, Bool, if◌then◌else◌, List, [], ◌∷◌, ◌++◌, map, length, count_by, Option, Some, None, is_none, Result, Ok, Err}
 use Rattle.std.specs.List.{All, slice_get, sum_by, filter}
 use Rattle.requests.specs.declared.request.Request.{Request}
@@ -20,14 +20,14 @@ step event answer = record { event = event; answer = answer }
 
 -- ---- transactions
 
--- when a transaction was answered, as the place in the history of the event that answered it, and how: with the place of its
--- entry in the log, or with why it was refused
+-- The answer to a transaction: the place in the history of the event that answered it, and the place of its log entry
+-- or the reason for its refusal.
 pub record Acknowledgement : Type 0 where
   pub at : ℕ
   pub answer : Result ℕ Refusal
 
--- A transaction, as a history tells of it: its age, whose it is, what was asked, the place in the history of the event
--- that opened it, the places in the log of its entries, and its answer.
+-- A transaction of a history: its age, its session, its request, the place in the history of the event that opened it,
+-- the places of its log entries, and its answer.
 pub record Transaction : Type 0 where
   pub age : ℕ
   pub session : ℕ
@@ -37,7 +37,7 @@ pub record Transaction : Type 0 where
   pub entries : List ℕ
   pub recorded : Option Acknowledgement
 
--- a transaction that was just admitted: it has no entry and no answer
+-- a transaction just admitted, without an entry and without an answer
 abbrev pub opened : ℕ → ℕ → ℕ → Request → ℕ → Transaction
 opened age session number request at = record {
   age = age;
@@ -49,33 +49,34 @@ opened age session number request at = record {
   recorded = None;
 }
 
--- it is of this session, and has no answer yet
+-- the transaction is of this session and has no answer yet
 abbrev pub is_open : ℕ → Transaction → Bool
 is_open session t = t.session == session && is_none t.recorded
 
--- an entry at this place is the open transaction's of the session
+-- the transaction after an entry at this place, which belongs to the open transaction of the session
 abbrev pub with_entry : ℕ → ℕ → Transaction → Transaction
 with_entry session place t = record t { entries = if is_open session t then t.entries ++ place ∷ [] else t.entries }
 
--- and so is this answer
+-- the transaction after this answer, which belongs to the open transaction of the session
 abbrev pub with_answer : ℕ → ℕ → Result ℕ Refusal → Transaction → Transaction
 with_answer session at answer t = record t { recorded = if is_open session t then Some (record { at = at; answer = answer }) else t.recorded }
 
--- the transactions once the log's entry at this place, where there is one, is that of its session's open transaction
+-- the transactions after the log's entry at this place, if there is one; it belongs to the open transaction of its
+-- session
 abbrev pub noted_entry : Option Entry → ℕ → List Transaction → List Transaction
 noted_entry None place ts = ts
 noted_entry (Some entry) place ts = map (with_entry entry.session place) ts
 
--- The transactions after one more event, which stands at this place in the history. A transaction is opened by the
--- event that is accepted. An entry is that of the open transaction of the session that it names, and an answer that is
--- sent is that of the session's open transaction.
+-- The transactions after one more event, which is at this place in the history. An accepted submission opens a
+-- transaction. An entry belongs to the open transaction of its session. An answer that is sent belongs to the session's
+-- open transaction.
 abbrev pub noted : List Entry → ℕ → Event → EventAnswer → List Transaction → List Transaction
 noted log at (Submit session number request) (Accepted age) ts = ts ++ opened age session number request at ∷ []
 noted log at (Send executor) (Logged place) ts = noted_entry (slice_get log place) place ts
 noted log at (Send executor) (Answered session number answer) ts = map (with_answer session at answer) ts
 noted log at event answer ts = ts
 
--- the transactions after these events, of which the first stands at this place in the history
+-- the transactions after these events, the first of which is at this place in the history
 abbrev pub noted_all : List Entry → ℕ → List Step → List Transaction → List Transaction
 noted_all log at [] ts = ts
 noted_all log at (s ∷ history) ts = noted_all log (at + 1) history (noted log at s.event s.answer ts)
@@ -86,60 +87,61 @@ transactions log history = noted_all log 0 history []
 
 -- ---- each transaction is whole
 
--- an entry stands at this place, with the session, the number and the request of the transaction
+-- the entry at this place has the session, the number and the request of the transaction
 abbrev pub HasEntry : List Entry → Transaction → ℕ → Type 0
 HasEntry log t place =
     (entry : Entry) × ((slice_get log place ≡ Some entry) × ((entry.session ≡ t.session) × ((entry.number ≡ t.number) × (entry.request ≡ t.request))))
 
--- these are the transaction's places: at most one, where an entry with its session, number and request stands
+-- the transaction has at most one place; the entry there has its session, number and request
 abbrev pub HasEntries : List Entry → Transaction → List ℕ → Type 0
 HasEntries log t [] = Unit {0}
 HasEntries log t (place ∷ []) = HasEntry log t place
 HasEntries log t (place ∷ other ∷ places) = ⊥
 
--- who is done has its one entry at the place that the answer names, and who is refused has none
+-- an answered transaction has exactly the entry at the place in the answer; a refused one has none
 abbrev pub IsAnswerOf : List ℕ → Result ℕ Refusal → Type 0
 IsAnswerOf entries (Ok place) = entries ≡ place ∷ []
 IsAnswerOf entries (Err refusal) = entries ≡ []
 
--- where a transaction has an answer, its entries are those that the answer calls for
+-- if a transaction has an answer, its entries are those that the answer requires
 abbrev pub IsRecorded : List ℕ → Option Acknowledgement → Type 0
 IsRecorded entries None = Unit {0}
 IsRecorded entries (Some recorded) = IsAnswerOf entries recorded.answer
 
--- how often a transaction has the entry at this place
+-- the number of times that a transaction has the entry at this place
 abbrev pub holds : ℕ → Transaction → ℕ
 holds place t = count_by (λ p. p == place) t.entries
 
--- Each entry is that of exactly one transaction, each transaction has at most one, and its answer is that entry's.
+-- Each entry belongs to exactly one transaction, each transaction has at most one entry, and its answer matches that
+-- entry.
 pub record Whole (log : List Entry) (ts : List Transaction) : Type 0 where
   pub entries : All (λ t. HasEntries log t t.entries) ts
   pub recorded : All (λ t. IsRecorded t.entries t.recorded) ts
   pub once : (place : ℕ) → place < length log → sum_by (holds place) ts ≡ 1
 
--- ---- who was answered first stands first
+-- ---- the order of answers is the order of the log
 
 -- each of these places is before each of those
 abbrev pub Precedes : List ℕ → List ℕ → Type 0
 Precedes xs ys = All (λ x. All (λ y. x < y) ys) xs
 
--- where this one was answered before the other was submitted, its entry is before the other's
+-- if this transaction was answered before the other was submitted, its entry is before the other's
 abbrev pub InOrder : Option Acknowledgement → List ℕ → Transaction → Type 0
 InOrder None entries b = Unit {0}
 InOrder (Some recorded) entries b = recorded.at < b.submitted → Precedes entries b.entries
 
--- a transaction that was answered before another was submitted stands before it in the log
+-- a transaction that was answered before another was submitted is before it in the log
 abbrev pub InLogOrder : List Transaction → Type 0
 InLogOrder ts = All (λ a. All (λ b. InOrder a.recorded a.entries b) ts) ts
 
--- ---- ages, and who has no answer yet
+-- ---- ages, and transactions without an answer
 
 -- each transaction's age is the number of those admitted before it
 abbrev pub AgesFrom : ℕ → List Transaction → Type 0
 AgesFrom age [] = Unit {0}
 AgesFrom age (t ∷ ts) = (t.age ≡ age) × AgesFrom (age + 1) ts
 
--- a transaction without an answer: its age, whose it is, what was asked, and the place of its entry, or none
+-- a transaction without an answer: its age, its session, its request, and the place of its entry, if there is one
 pub record UnansweredTransaction : Type 0 where
   pub age : ℕ
   pub session : ℕ
@@ -147,7 +149,7 @@ pub record UnansweredTransaction : Type 0 where
   pub request : Request
   pub entry : Option ℕ
 
--- the first of some places, where there is one
+-- the first of these places, if there is one
 abbrev pub first_of : List ℕ → Option ℕ
 first_of [] = None
 first_of (place ∷ places) = Some place
@@ -156,18 +158,18 @@ first_of (place ∷ places) = Some place
 abbrev pub unanswered : Transaction → UnansweredTransaction
 unanswered t = record { age = t.age; session = t.session; number = t.number; request = t.request; entry = first_of t.entries }
 
--- the session's transactions that have no answer
+-- the session's transactions without an answer
 abbrev pub unanswered_of : ℕ → List Transaction → List UnansweredTransaction
 unanswered_of session ts = map unanswered (filter (is_open session) ts)
 
--- it is of this session
+-- the transaction is of this session
 abbrev pub is_of : ℕ → UnansweredTransaction → Bool
 is_of session u = u.session == session
 
--- these are, session by session, the transactions that have no answer
+-- for each session, these are its transactions without an answer
 abbrev pub AreUnanswered : List UnansweredTransaction → List Transaction → Type 0
 AreUnanswered pending ts = (session : ℕ) → unanswered_of session ts ≡ filter (is_of session) pending
 
--- no session has two
+-- no session has two of them
 abbrev pub AreOfDifferentSessions : List UnansweredTransaction → Type 0
 AreOfDifferentSessions us = (session : ℕ) → count_by (is_of session) us < 2

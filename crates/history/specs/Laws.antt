@@ -1,4 +1,4 @@
--- What each event does to a history that fits.
+-- How each event changes a history that fits.
 use Rattle.std.specs.Prelude.{◌≡◌, ℕ, ◌+◌, List, [], ◌∷◌, ◌++◌, length, Some, None, Result, Ok, Err, count_by}
 use Rattle.std.specs.List.Sorted.{IsPermutation}
 use Rattle.schema.specs.Database.{Database}
@@ -14,18 +14,18 @@ use Rattle.history.specs.declared.event.EventAnswer.TheVariants.{Accepted, Order
 use Rattle.history.specs.History.{Step, step, UnansweredTransaction, is_of}
 use Rattle.history.specs.Fits.{Fits}
 
--- before any event, consistent tables and an empty log fit, with no transaction
+-- before any event, consistent tables and an empty log fit, without a transaction
 abbrev pub EmptyHistoryFits : Type 0
 EmptyHistoryFits = (opening : Database) → Consistent opening → Fits opening [] [] opening 0 []
 
--- in which order the transactions without an answer are listed doesn't matter
+-- the order in which the transactions without an answer are listed does not matter
 abbrev pub UnansweredInAnyOrder : Type 0
 UnansweredInAnyOrder =
     (opening : Database) (history : List Step) (log : List Entry) (tables : Database) (admitted : ℕ) (pending other : List UnansweredTransaction)
     → IsPermutation pending other → Fits opening history log tables admitted pending → Fits opening history log tables admitted other
 
--- An event tells nothing of a transaction where it is answered so: moves change nothing of what is told of transactions, and
--- an answer to a submission is a refusal of it, which is never admitted.
+-- An event with this answer concerns no transaction. Moves change no transaction, and an answer to a submission is a
+-- refusal: the request is never admitted.
 abbrev pub IsQuiet : Event → EventAnswer → Type 0
 IsQuiet event Ordered = Unit {0}
 IsQuiet event Took = Unit {0}
@@ -36,7 +36,7 @@ IsQuiet event Nothing = Unit {0}
 IsQuiet (Submit session number request) (Answered other n (Err refusal)) = Unit {0}
 IsQuiet event answer = ⊥
 
--- after an event that tells nothing of a transaction, what fitted still fits
+-- after an event that concerns no transaction, a history that fits still fits
 abbrev pub QuietEventFits : Type 0
 QuietEventFits =
     (opening : Database) (history : List Step) (log : List Entry) (tables : Database) (admitted : ℕ) (pending : List UnansweredTransaction)
@@ -44,11 +44,11 @@ QuietEventFits =
     → IsQuiet event answer → Fits opening history log tables admitted pending
     → Fits opening (history ++ step event answer ∷ []) log tables admitted pending
 
--- a transaction that was just admitted
+-- a transaction just admitted
 abbrev pub new_one : ℕ → ℕ → ℕ → Request → UnansweredTransaction
 new_one age session number request = record { age = age; session = session; number = number; request = request; entry = None }
 
--- after an admission of a session that has no transaction without an answer, there is one transaction more
+-- after an admission of a session without an unanswered transaction, there is one more transaction
 abbrev pub AdmissionFits : Type 0
 AdmissionFits =
     (opening : Database) (history : List Step) (log : List Entry) (tables : Database) (admitted : ℕ) (pending : List UnansweredTransaction)
@@ -57,11 +57,11 @@ AdmissionFits =
     → Fits opening (history ++ step (Submit session number request) (Accepted admitted) ∷ []) log tables (admitted + 1)
     (new_one admitted session number request ∷ pending)
 
--- the transaction once its entry stands at this place
+-- the transaction after an entry at this place
 abbrev pub with_place : ℕ → UnansweredTransaction → UnansweredTransaction
 with_place place u = record { age = u.age; session = u.session; number = u.number; request = u.request; entry = Some place }
 
--- the entry is that of the transaction, which has none yet, with the machine's reply from these tables
+-- the entry is the transaction's, which had none before, with the machine's reply from these tables
 pub record IsEntryOf (u : UnansweredTransaction) (tables : Database) (entry : Entry) : Type 0 where
   pub session : entry.session ≡ u.session
   pub number : entry.number ≡ u.number
@@ -69,8 +69,8 @@ pub record IsEntryOf (u : UnansweredTransaction) (tables : Database) (entry : En
   pub reply : entry.reply ≡ (transaction tables entry.request).reply
   pub none : u.entry ≡ None
 
--- after an entry at the end of the log, of a transaction without an answer and with the machine's reply, the tables are
--- the machine's next
+-- After an entry at the end of the log, of a transaction without an answer and with the machine's reply, the tables are
+-- the machine's next.
 abbrev pub EntryFits : Type 0
 EntryFits =
     (opening : Database) (history : List Step) (log : List Entry) (tables : Database) (admitted : ℕ) (pending : List UnansweredTransaction)
@@ -79,13 +79,13 @@ EntryFits =
     → Fits opening (history ++ step (Send executor) (Logged (length log)) ∷ []) (log ++ entry ∷ []) (transaction tables entry.request).tables admitted
     (with_place (length log) u ∷ pending)
 
--- the answer is the transaction's: the place of its entry, or a refusal where it has none
+-- the answer is the transaction's: the place of its entry, or a refusal if it has none
 abbrev pub IsAnswerTo : UnansweredTransaction → Result ℕ Refusal → Type 0
 IsAnswerTo u (Ok place) = u.entry ≡ Some place
 IsAnswerTo u (Err refusal) = u.entry ≡ None
 
--- after an answer with the place of the entry, or a refusal where there is none, the transaction is among those without an
--- answer no more
+-- after an answer with the place of its entry, or a refusal if it has none, the transaction is no longer among those
+-- without an answer
 abbrev pub AnswerFits : Type 0
 AnswerFits =
     (opening : Database) (history : List Step) (log : List Entry) (tables : Database) (admitted : ℕ) (pending : List UnansweredTransaction)

@@ -1,7 +1,7 @@
 use range_moves::MoveOrder;
 use requests::{Refusal, Request};
 
-/// What happens in the engine, one at a time. Each is one atomic step.
+/// An event of the engine. Each is one atomic step.
 #[derive(Clone, Debug, PartialEq, Eq, Drop)]
 pub enum Event {
     /// A session, 0 to 63, submits a request of its own number.
@@ -10,9 +10,9 @@ pub enum Event {
         number: u32,
         request: Request,
     },
-    /// A move of a range of warehouses is ordered, at the executor to which they go.
+    /// A move of a range of warehouses is ordered, at the executor that gets them.
     Order(MoveOrder),
-    /// An executor takes the first message of its inbox, and works on it.
+    /// An executor takes the first message of its inbox and handles it.
     Take {
         executor: u32,
     },
@@ -22,34 +22,34 @@ pub enum Event {
     },
 }
 
-/// What came of an event.
+/// The answer to an event.
 #[derive(Clone, Debug, PartialEq, Eq, Drop)]
 pub enum EventAnswer {
-    /// The request was admitted, as the transaction of this age: the number of transactions admitted before.
+    /// The request was admitted as a transaction of this age: the number of transactions admitted before it.
     Accepted {
         age: u64,
     },
-    /// The move is outstanding from here on.
+    /// The move was ordered; it is outstanding from now on.
     Ordered,
     /// A message was taken.
     Took,
     /// An item was sent.
     Sent,
-    /// The inbox to which the item goes is full: the item stands at the end of its outbox now.
+    /// The destination inbox is full; the item is now at the end of its outbox.
     Full,
-    /// A transaction was logged, at this place from 0.
+    /// A transaction was logged, at this place, counted from 0.
     Logged {
         place: u32,
     },
-    /// An item was sent: the last report of the move that was outstanding.
+    /// An item was sent: the last report of the outstanding move, which is complete now.
     Moved,
-    /// The session's request of this number was answered, at once or by its transaction: with the place of its entry in
-    /// the log, where its reply stands, or with why it was refused.
+    /// The session's request of this number was answered, at once or by its transaction. The answer is the place of its
+    /// log entry, which contains the reply, or the reason for its refusal.
     Answered {
         session: u32,
         number: u32,
         answer: Result<u32, Refusal>,
     },
-    /// The event can't happen, and nothing changed.
+    /// The event is impossible; nothing changed.
     Nothing,
 }

@@ -1,5 +1,5 @@
-//! Histories: which events there are, what a list of events with their answers tells of the
-//! transactions, and when it fits a log; and schedules, which say what is to happen.
+//! Histories: the events, the transactions that follow from a list of events with their answers, and when a history
+//! fits a log. Schedules: which events are to happen.
 #![tactic(auto)]
 
 mod event;

@@ -1,26 +1,26 @@
 use crate::{Event, EventAnswer};
 
-/// The most rounds of one item of a schedule.
+/// The greatest number of rounds of one item of a schedule.
 pub const MOST_ROUNDS: u32 = 100_000;
 
-/// What a schedule says next.
+/// An item of a schedule.
 #[derive(Clone, Debug, PartialEq, Eq, Drop)]
 pub enum Scheduled {
     /// One event.
     Event(Event),
-    /// Rounds, each a Take and a Send of each executor in turn, up to the first round in which nothing can
-    /// happen, or as many as [`MOST_ROUNDS`].
+    /// Rounds, each a Take and a Send of every executor in turn, up to the first round in which nothing can happen, but
+    /// at most [`MOST_ROUNDS`].
     Rounds,
 }
 
-/// What is printed of a schedule.
+/// An output of a schedule.
 #[derive(Clone, Debug, PartialEq, Eq, Drop)]
 pub enum Output {
-    /// What came of an event. Of rounds it is printed only where a transaction was logged or answered, or a
-    /// move was over.
+    /// The answer to an event. In rounds it is printed only if a transaction was logged or answered, or a move was
+    /// completed.
     Event(EventAnswer),
-    /// The rounds ended with one in which nothing could happen.
+    /// The rounds ended with a round in which nothing could happen.
     Quiet,
-    /// The rounds ended with the last that there may be.
+    /// The rounds ended with the last permitted round.
     Limit,
 }

@@ -1,4 +1,4 @@
--- Who is chosen, by what the index and the tables tell.
+-- The chosen customer, from the index and the tables.
 use Rattle.std.proofs.Common.{◌≡◌, ℕ, suc, ◌<◌, Bool, true, false, cond, List, [], ◌∷◌, length, Contains, Option, Some, None, MatchOption, sym, ap, ◌∙◌, arith}
 use Rattle.std.specs.List.{find}
 use Rattle.std.specs.Option.{option_map}
@@ -13,7 +13,7 @@ use Rattle.requests.specs.declared.request.Choice.TheVariants.{Number, LastName}
 use Rattle.machine.specs.Chosen.{chosen, keyed_at}
 
 module _ (customers : Customers) (home : DistrictKey) (choice : Choice) where
-  -- of a last name the index tells the number
+  -- the index contains the number of a last name
   pub by_name : (last word : List ℕ) (number : Option ℕ) → word ≡ last → choice ≡ LastName last
       → MatchOption number (namesakes customers home word ≡ []) (IsMiddleOf customers home word)
       → MatchOption number (chosen customers home choice ≡ None) (λ n. keyed_at customers (customer_key home n) ≡ chosen customers home choice)

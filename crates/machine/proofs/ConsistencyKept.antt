@@ -53,7 +53,7 @@ module _ (t : Database) (p : Payment) (payer : CustomerKey) (w new_w : Warehouse
 
   -- ---- conditions 1 and 8: totals by warehouse
 
-  -- W_YTD goes on to be a total that grows by the amount at the home warehouse
+  -- W_YTD stays a total that grows by the amount at the home warehouse
   totals_by_warehouse : (before after : ℕ → ℤ)
       → ((warehouse : ℕ) → after warehouse ≡ before warehouse +ℤ cond (eqb p.home.w_id warehouse) (pos p.amount) (pos 0))
       → ((warehouse : ℕ) (r : Warehouse) → map.get t.warehouses warehouse ≡ Some r → r.ytd ≡ before warehouse)

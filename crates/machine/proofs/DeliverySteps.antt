@@ -86,7 +86,7 @@ delivered_too t left d n count shown handover e is reply tables =
           ap (λ x. handed_over_too d x (delivery_reply d round.orders) handover) (sym g) ∙ ap (λ x. handed_over_too d left x handover) (sym same)
     ] reply tables
 
--- its reply, told of what is shown of one district more
+-- its reply, with the result of one district more
 pub shown_too : (d : Delivery) (left : Database) (count : ℕ) (shown : DeliveryReply) (orders : List (Option ℕ)) (o_id : Option ℕ) (handover : Option Handover) → shown.carrier_id ≡ d.carrier_id
     → o_id ≡ (turn_with left d.carrier_id d.moment handover).o_id → take count orders ≡ shown.orders ++ o_id ∷ []
     → ◌≡◌ {A = Reply} (Done (DeliveryShown (record { carrier_id = shown.carrier_id; orders = take count orders }))) (handed_over_too d left shown handover).reply

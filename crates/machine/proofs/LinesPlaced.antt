@@ -12,7 +12,7 @@ use Rattle.machine.specs.NewOrder.{stock_key_of, taken_from, stock_taken, items_
 use Rattle.machine.specs.NewOrderLines.{left_by, line_placed_by, before_all, lines_placed}
 use Rattle.machine.proofs.StocksInTurn.{taken_at, AreTaken}
 
--- what lines leave, from that number on, is told by the rows of their items and of their stock
+-- the results of lines, from that number on, follow from the rows of their items and of their stock
 pub record AreLeft (t : Database) (n : NewOrder) (number : ℕ) (lines : List OrderedLine) (items : List Item) (left : List LinePlaced) : Type 0 where
   pub stocks : List Stock
   pub found : all_there (map (supply t n) lines) ≡ Some stocks

@@ -20,7 +20,7 @@ module _ (order : OrderKey) where
   abbrev pub with_lines : ℕ → List OrderLine → LineTable → LineTable
   with_lines low rows lines = put_lines order low (map Some rows) lines
 
-  -- no line of the order stands in the table
+  -- no line of the order is stored in the table
   abbrev pub HasNone : LineTable → Type 0
   HasNone lines = (number : ℕ) → get lines (line_key order number) ≡ None
 
@@ -74,7 +74,7 @@ module _ (order : OrderKey) where
         let rest : sum_rows weight inner ≡ sum_rows weight lines = sum_rows-with_lines weight nothing (low + 1) rows lines each.1 none in
         omega (arith, ints, change, gone, here, rest)
 
-    -- what holds of each line that stood there, and of each that is put, holds of each line
+    -- a property of each line that was stored, and of each that is put, is a property of each line
     pub each_row-with_lines : (Q : OrderLineKey → OrderLine → Type 0) → ((number : ℕ) (row : OrderLine) → P row → Q (line_key order number) row)
         → (low : ℕ) (rows : List OrderLine) (lines : LineTable) → AllByRecursion P rows
         → ((q : OrderLineKey) (row : OrderLine) → get lines q ≡ Some row → Q q row)

@@ -47,7 +47,7 @@ module _ (P : Group → Type 0) where
       let both : AllByRecursion P (other ∷ rest) = subst (λ b. AllByRecursion P (cond (not b) (other ∷ rest) rest)) (is_same-other group other apart) each in
       (both.0, of_others group others here both.1))
 
-  -- what holds of each group where it first stands holds of each
+  -- a property of each group where it first occurs is a property of each group
   of_firsts : (groups : List Group) → AllByRecursion P (firsts groups) → AllByRecursion P groups
   of_firsts [] each = tt
   of_firsts (group ∷ groups) each = (each.0, of_firsts groups (of_others group (firsts groups) each.0 each.1))

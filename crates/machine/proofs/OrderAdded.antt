@@ -54,7 +54,7 @@ other_order other order number apart =
       | false ↦ λ e. refl
     ] refl
 
--- weights that differ only where no row stands sum up alike
+-- weights that differ only where no row is stored have the same sum
 same_weights : {K X : Type 0} (test : K → Bool) (v w : K → X → ℤ) → ((k : K) (x : X) → test k ≡ false → v k x ≡ w k x)
     → (es : List (K × X)) → filter (λ e. test e.0) es ≡ [] → sum_entries v es ≡ sum_entries w es
 same_weights test v w same [] none = refl
@@ -64,7 +64,7 @@ same_weights test v w same (e ∷ es) none =
       | false ↦ λ t f. ap (λ z. z +ℤ sum_entries v es) (same e.0 e.1 t) ∙ ap (λ z. w e.0 e.1 +ℤ z) (same_weights test v w same es f)
     ] refl none
 
--- whether a customer has ordered an order is told by its row alone
+-- whether a customer has ordered an order depends on its row alone
 has_ordered-same : (s t : Database) (customer : CustomerKey) (key : OrderKey) → table.get s.orders key ≡ table.get t.orders key → has_ordered s customer key ≡ has_ordered t customer key
 has_ordered-same s t customer key same =
     elim (table.get t.orders key) as (λ r. table.get t.orders key ≡ r → has_ordered s customer key ≡ has_ordered t customer key) [
@@ -98,7 +98,7 @@ module _ (t : Database) (n : NewOrder) (d new_d : District) (rows : List OrderLi
   elsewhere : (q : DistrictKey) → q ≢ n.home → is_of_district q key ≡ false
   elsewhere q apart = other_district q n.home d.next_o_id apart
 
-  -- ---- nothing stood at the key
+  -- ---- no row was stored at the key
 
   follows : NextOrderFollows t n.home d
   follows = h.next_orders_follow n.home d d_is
@@ -264,7 +264,7 @@ module _ (t : Database) (n : NewOrder) (d new_d : District) (rows : List OrderLi
       let same : table.contains_key left.new_orders q ≡ table.contains_key t.new_orders q = ap is_some (get-insert_elsewhere orders_total orders_exact t.new_orders key mark q apart) in
       (λ unset. same ∙ was.0 unset, λ listed. was.1 (sym same ∙ listed)))
 
-  -- a line that stood there is of another order
+  -- a line that was stored is of another order
   line_apart : (q : OrderLineKey) → is_of_order key q ≡ false → order_of_line q ≢ key
   line_apart q fails e =
       let own : is_of_order (order_of_line q) q ≡ true = own_order (order_of_line q) q.number in

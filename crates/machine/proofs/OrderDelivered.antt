@@ -92,7 +92,7 @@ ordered_by_no_other t who key row found apart =
 abbrev share : Bool → Bool → ℕ → ℤ
 share came own amount = cond (came && own) (pos amount) (pos 0)
 
--- a line that comes now weighs all of its amount more
+-- the weight of a line that is added is its whole amount
 share-comes : (own : Bool) (amount : ℕ) → own ≡ true → share true own amount ≡ share false own amount +ℤ pos amount
 share-comes true amount e = omega (arith, ints)
 share-comes false amount e = absurd cc

@@ -1,4 +1,4 @@
--- What New-Order comes to, by the rows that are there and by what its lines leave.
+-- The outcome of New-Order, given the rows that it reads and the results of its lines.
 use Rattle.std.proofs.Common.{◌≡◌, suc, Bool, true, false, ◌&&◌, List, [], ◌∷◌, map, length, Option, Some, None, is_some, refl, sym, ap, subst, ◌∙◌}
 use Rattle.std.specs.List.{list_all}
 use Rattle.std.specs.Option.{option_map, option_and_then}

@@ -32,7 +32,7 @@ use Rattle.machine.proofs.ChosenRows.{chosen_there}
 use Rattle.machine.proofs.SameChosen.{same_chosen}
 use Rattle.machine.proofs.PaymentCases.{payment-cases}
 
--- a customer of a district stands in the group of its customers
+-- a customer of a district is in the group of its customers
 in_group : (home : DistrictKey) (key : CustomerKey) → key ≡ customer_key home key.c_id → group_of_customer key ≡ g.Customers home.w_id home.d_id
 in_group home key of_home = ap group_of_customer of_home
 

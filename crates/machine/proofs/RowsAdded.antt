@@ -1,4 +1,4 @@
--- What one row more adds to what is told of a table's rows, where none stood at its key.
+-- How one more row, at a key without a row, changes the properties of a table's rows.
 use Rattle.std.proofs.Common.{◌≡◌, ◌≢◌, ℕ, suc, ◌+◌, ◌≤◌, Bool, true, false, cond, List, [], ◌∷◌, ◌++◌, map, length, max, min, Some, None, refl, sym, ap, subst, ◌∙◌, arith, length-append}
 use Rattle.std.specs.List.{filter, sum_by}
 use Rattle.std.proofs.lemmas.List.{map-append}
@@ -36,7 +36,7 @@ added-put {K} {X} R k v (e ∷ es) none =
 pub added-insert : {K X : Type 0} {R : K → K → Ordering} → IsTotalOrder R → (m : FinMap R X) (k : K) (v : X) → get m k ≡ None → IsAdded (k, v) (entries m) (entries (insert m k v))
 added-insert {R = R} o m k v none = subst (IsAdded (k, v) (entries m)) (sym (entries-insert o m k v)) (added-put R k v (entries m) (sym (get-entries m k) ∙ none))
 
--- ---- what is told of a list
+-- ---- properties of a list
 
 module _ {X : Type 0} (x : X) (old new : List X) (a : IsAdded x old new) where
   pub added-filter_inside : (test : X → Bool) → test x ≡ true → IsAdded x (filter test old) (filter test new)

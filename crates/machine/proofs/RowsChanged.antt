@@ -1,4 +1,4 @@
--- What is told of a table's rows once all were changed, each in its place, and once one was removed.
+-- Properties of a table's rows after all were changed, each in its place, and after one was removed.
 use Rattle.std.proofs.Common.{◌≡◌, ◌≢◌, ℕ, suc, ◌+◌, Bool, true, false, cond, not, ◌&&◌, List, [], ◌∷◌, map, length, Option, Some, None, IsTrue, T, refl, sym, ap, subst, ◌∙◌, arith}
 use Rattle.std.specs.Prelude.{ℤ, pos, ◌+ℤ◌}
 use Rattle.std.specs.List.{filter, list_all, sum_by, AllByRecursion}

@@ -13,7 +13,7 @@ use Rattle.schema.specs.Sums.{weight_at, sum_rows}
 use Rattle.schema.proofs.TableSums.{sum_rows-insert}
 
 module _ {K X : Type 0} {R : K → K → Ordering} (o : IsTotalOrder R) (a : IsAntisymmetric R) where
-  -- what holds of the row that is put in, and goes on to hold of each other row, holds of each row
+  -- a property of the row that is put in and of every other row is a property of every row
   pub each_row-insert : (Before After : K → X → Type 0) (m : FinMap R X) (k : K) (v : X)
       → ((q : K) (row : X) → get m q ≡ Some row → Before q row)
       → After k v
@@ -37,7 +37,7 @@ module _ {K X : Type 0} {R : K → K → Ordering} (o : IsTotalOrder R) (a : IsA
       let change = sum_rows-insert o a weight m k v in
       omega (arith, ints, change, more)
 
-  -- a column that is a total at each key goes on to be one, where the row that is put in and its total grow alike
+  -- a column that is a total at each key stays one if the row that is put in and its total grow alike
   pub column-insert : (column : X → ℤ) (before after : K → ℤ) (m : FinMap R X) (k : K) (v old : X) (amount : ℤ)
       → ((q : K) (row : X) → get m q ≡ Some row → column row ≡ before q)
       → get m k ≡ Some old → column v ≡ column old +ℤ amount → after k ≡ before k +ℤ amount

@@ -22,30 +22,31 @@ use Rattle.machine.specs.NewOrder.{order_key}
 
 -- ---- one order (clause 2.7.4.2)
 
--- the row with this balance and this count, where each is in range
+-- the row with this balance and this count, if both are in range
 abbrev pub with_delivered : Customer → Option ℤ → Option ℕ → Option Customer
 with_delivered row (Some balance) (Some delivery_cnt) = Some (record row { balance = balance; delivery_cnt = delivery_cnt })
 with_delivered row _ _ = None
 
--- C_BALANCE grows by what the order's lines come to, and C_DELIVERY_CNT by 1
+-- C_BALANCE grows by the sum of the order's lines, and C_DELIVERY_CNT by 1
 abbrev pub customer_delivered : Customer → ℕ → Option Customer
 customer_delivered row sum = with_delivered row (money (row.balance +ℤ pos sum)) (in_range 0 999999999 (row.delivery_cnt + 1))
 
--- what the lines of an order come to
+-- the sum of the amounts of the order's lines
 abbrev pub amount_of : Database → OrderKey → ℕ
 amount_of t order = sum_by (λ line. line.1.amount) (lines_of t order)
 
--- the row of the customer of the order, once the order was delivered
+-- the row of the order's customer after the delivery of the order
 abbrev pub receiver : Database → OrderKey → Order → Option Customer
 receiver t order row =
     option_and_then (λ c. customer_delivered c (amount_of t order)) (table.get t.customers (customer_of_order order row))
 
--- the order gets its carrier, its lines the moment, its row of NEW-ORDER goes, and this is its customer's row
+-- the order gets its carrier, its lines get the moment, its row of NEW-ORDER is deleted, and the customer gets this row
 abbrev pub handed_over : Database → OrderKey → Order → ℕ → ℕ → Customer → Database
 handed_over t order row carrier moment customer =
     record (with_delivery t order carrier moment) { customers = table.insert t.customers (customer_of_order order row) customer }
 
--- the tables with that order of the district delivered; None where a value would leave its range, or a row is missing
+-- the tables after the delivery of that order of the district; None if a value would leave its range or a row is
+-- missing
 abbrev pub delivered_order : Database → DistrictKey → ℕ → ℕ → ℕ → Option Database
 delivered_order t home o_id carrier moment =
     let order = order_key home o_id in
@@ -53,12 +54,12 @@ delivered_order t home o_id carrier moment =
 
 -- ---- one district (clause 2.7.4.2)
 
--- the tables that a district's turn leaves, and the number of the order that was delivered, if there was one
+-- the tables after a district's turn, and the number of the delivered order, if there was one
 pub record Turn : Type 0 where
   pub tables : Database
   pub o_id : Option ℕ
 
--- by the number of the district's oldest new order: a district without one is skipped
+-- the turn of a district, given the number of its oldest new order; a district without one is skipped
 abbrev pub turn_of : Database → DistrictKey → ℕ → ℕ → Option ℕ → Option Turn
 turn_of t home carrier moment None = Some (record { tables = t; o_id = None })
 turn_of t home carrier moment (Some o_id) =
@@ -70,7 +71,7 @@ delivered_oldest t home carrier moment = turn_of t home carrier moment (oldest_n
 
 -- ---- the districts in turn
 
--- the tables that all turns leave, and the number that each delivered
+-- the tables after all turns, and the number that each delivered
 pub record Round : Type 0 where
   pub tables : Database
   pub orders : List (Option ℕ)
@@ -79,33 +80,33 @@ pub record Round : Type 0 where
 abbrev pub no_turns : Database → Round
 no_turns t = record { tables = t; orders = [] }
 
--- a turn, and then the others
+-- one turn, followed by the others
 abbrev pub after_turn : Turn → Round → Round
 after_turn turn others = record { tables = others.tables; orders = turn.o_id ∷ others.orders }
 
--- these districts of the warehouse, one after another; None where one can't be delivered
+-- the turns of these districts of the warehouse, one after another; None if one of them can't be delivered
 unfoldable pub delivered_in : Database → Delivery → List ℕ → Option Round
 delivered_in t d [] = Some (no_turns t)
 delivered_in t d (district ∷ districts) =
     option_and_then (λ turn. option_map (after_turn turn) (delivered_in turn.tables d districts))
     (delivered_oldest t (district_key d.w_id district) d.carrier_id d.moment)
 
--- ---- what a Delivery leaves and answers
+-- ---- the outcome of a Delivery
 
--- what is shown (clause 2.7.3.2)
+-- the reply (clause 2.7.3.2)
 abbrev pub delivery_reply : Delivery → List (Option ℕ) → DeliveryReply
 delivery_reply d orders = record { carrier_id = d.carrier_id; orders = orders }
 
--- by the ten turns, which are one transaction: where one can't be delivered, nothing changes
+-- The outcome of the ten turns, which are one transaction: if one district can't be delivered, nothing changes.
 abbrev pub recorded : Database → Delivery → Option Round → Outcome
 recorded t d (Some round) = done round.tables (DeliveryShown (delivery_reply d round.orders))
 recorded t d None = rolled_back t Range
 
--- what a Delivery leaves and answers
+-- the outcome of a Delivery
 abbrev pub delivery : Database → Delivery → Outcome
 delivery t d = recorded t d (delivered_in t d (range_with_len 1 10))
 
--- ---- what is asked of a Delivery that is carried out
+-- ---- the precondition of a Delivery
 
 -- the carrier is from 1 to 10 (clause 2.7.1.2)
 abbrev pub HasCarrier : Delivery → Type 0

@@ -1,4 +1,4 @@
--- The machine that carries out requests one at a time.
+-- The reference machine, which carries out requests one at a time.
 use Rattle.std.specs.Prelude.{List, [], ◌∷◌}
 use Rattle.schema.specs.Database.{Database}
 use Rattle.requests.specs.declared.request.Request.{Request}
@@ -11,7 +11,7 @@ use Rattle.machine.specs.OrderStatus.{order_status}
 use Rattle.machine.specs.Delivery.{delivery}
 use Rattle.machine.specs.StockLevel.{stock_level}
 
--- what one request leaves and answers
+-- the outcome of one request
 abbrev pub transaction : Database → Request → Outcome
 transaction t (NewOrder n) = new_order t n
 transaction t (Payment p) = payment t p
@@ -24,7 +24,7 @@ abbrev pub replies : Database → List Request → List Reply
 replies t [] = []
 replies t (request ∷ requests) = (transaction t request).reply ∷ replies (transaction t request).tables requests
 
--- the tables after them
+-- the tables after the requests, one after another
 abbrev pub tables_after : Database → List Request → Database
 tables_after t [] = t
 tables_after t (request ∷ requests) = tables_after (transaction t request).tables requests

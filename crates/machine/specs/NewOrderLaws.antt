@@ -1,4 +1,4 @@
--- What every New-Order does, said of its definition.
+-- Laws that hold of every New-Order.
 use Rattle.std.specs.Prelude.{◌≡◌}
 use Rattle.schema.specs.Database.{Database}
 use Rattle.schema.specs.Consistency.{Consistent}
@@ -12,15 +12,15 @@ use Rattle.machine.specs.NewOrder.{new_order}
 abbrev pub NewOrderKeepsConsistency : Type 0
 NewOrderKeepsConsistency = (t : Database) (n : NewOrder) → Consistent t → Consistent (new_order t n).tables
 
--- The reply, and what the order's groups have after it, follow from the items and from what these groups have before: where
--- other tables have the same, both are the same there.
+-- The reply, and the contents of the order's groups after it, depend only on the items and on the contents of these
+-- groups before it: for two databases that are alike in the items and in these groups, both are the same.
 abbrev pub NewOrderReadsItsGroups : Type 0
 NewOrderReadsItsGroups =
     (s t : Database) (n : NewOrder) → s.items ≡ t.items → AreAlikeIn (groups_of (new_order_footprint n)) s t
     → ((new_order s n).reply ≡ (new_order t n).reply)
     × AreAlikeIn (groups_of (new_order_footprint n)) (new_order s n).tables (new_order t n).tables
 
--- what every other group has stays
+-- the contents of every other group are unchanged
 abbrev pub NewOrderKeepsOtherGroups : Type 0
 NewOrderKeepsOtherGroups =
     (t : Database) (n : NewOrder) (group : Group) → IsNoneOf (groups_of (new_order_footprint n)) group

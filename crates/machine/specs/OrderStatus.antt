@@ -20,7 +20,7 @@ use Rattle.requests.specs.declared.reply.Fault.TheVariants.{NoCustomer}
 use Rattle.machine.specs.Chosen.{chosen}
 use Rattle.machine.specs.Outcome.{Outcome, done, rolled_back}
 
--- what is shown of a line
+-- the shown line
 abbrev pub status_line : OrderLine → StatusLine
 status_line row = record {
   i_id = row.i_id;
@@ -30,7 +30,7 @@ status_line row = record {
   delivery_d = row.delivery_d;
 }
 
--- what is shown of an order with these lines
+-- the shown order, with these lines
 abbrev pub status_order : ℕ → Order → List StatusLine → StatusOrder
 status_order o_id row lines = record { o_id = o_id; entry_d = row.entry_d; carrier_id = row.carrier_id; lines = lines }
 
@@ -42,17 +42,17 @@ key_of_order customer o_id = record { w_id = customer.w_id; d_id = customer.d_id
 abbrev pub lines_shown : Database → OrderKey → List StatusLine
 lines_shown t order = map (λ line. status_line line.1) (lines_of t order)
 
--- the order of that number
+-- the shown order of that number, if there is one
 abbrev pub order_shown : Database → CustomerKey → ℕ → Option StatusOrder
 order_shown t customer o_id =
     let key = key_of_order customer o_id in
     option_map (λ row. status_order o_id row (lines_shown t key)) (table.get t.orders key)
 
--- the customer's order with the largest O_ID, where there is one (clause 2.6.2.2)
+-- the customer's order with the largest O_ID, if there is one (clause 2.6.2.2)
 abbrev pub latest_shown : Database → CustomerKey → Option StatusOrder
 latest_shown t customer = option_and_then (order_shown t customer) (latest t.orders customer)
 
--- what is shown of a customer with that order (clause 2.6.3.4)
+-- the reply for a customer, with that order (clause 2.6.3.4)
 abbrev pub status_reply : CustomerKey → Customer → Option StatusOrder → OrderStatusReply
 status_reply key row order = record {
   c_id = key.c_id;
@@ -63,11 +63,11 @@ status_reply key row order = record {
   order = order;
 }
 
--- by the customer that was chosen
+-- the outcome, given the chosen customer
 abbrev pub status_recorded : Database → Option Keyed → Outcome
 status_recorded t (Some c) = done t (StatusShown (status_reply c.0 c.1 (latest_shown t c.0)))
 status_recorded t None = rolled_back t NoCustomer
 
--- what Order-Status leaves and answers: it changes nothing
+-- the outcome of Order-Status: no table changes
 abbrev pub order_status : Database → OrderStatus → Outcome
 order_status t o = status_recorded t (chosen t.customers o.home o.customer)

@@ -1,4 +1,4 @@
--- What every Order-Status does, said of its definition.
+-- Laws that hold of every Order-Status.
 use Rattle.std.specs.Prelude.{◌≡◌}
 use Rattle.schema.specs.Database.{Database}
 use Rattle.requests.specs.declared.order_status.OrderStatus.{OrderStatus}
@@ -11,8 +11,8 @@ use Rattle.machine.specs.OrderStatus.{order_status}
 abbrev pub StatusKeepsTables : Type 0
 StatusKeepsTables = (t : Database) (o : OrderStatus) → (order_status t o).tables ≡ t
 
--- The reply follows from what the customers and the orders of the district are: where other tables have the same there, it
--- is the same.
+-- The reply depends only on the customers and the orders of the district: for two databases that are alike in these
+-- groups, it is the same.
 abbrev pub StatusReadsItsGroups : Type 0
 StatusReadsItsGroups =
     (s t : Database) (o : OrderStatus) → AreAlikeIn (groups_of (order_status_footprint o)) s t

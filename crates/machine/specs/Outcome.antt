@@ -1,16 +1,16 @@
--- What a transaction leaves and answers.
+-- The outcome of a transaction.
 use Rattle.schema.specs.Database.{Database}
 use Rattle.requests.specs.declared.reply.Reply.{Reply}
 use Rattle.requests.specs.declared.reply.Reply.TheVariants.{Done, RolledBack}
 use Rattle.requests.specs.declared.reply.Shown.{Shown}
 use Rattle.requests.specs.declared.reply.Fault.{Fault}
 
--- the tables that a transaction leaves, and its reply
+-- the tables after a transaction, and its reply
 pub record Outcome : Type 0 where
   pub tables : Database
   pub reply : Reply
 
--- these tables, and what is shown
+-- a transaction is done: these tables, and the shown data
 abbrev pub done : Database → Shown → Outcome
 done t shown = record { tables = t; reply = Done shown }
 

@@ -30,17 +30,17 @@ warehouse_paid row amount = option_map (λ ytd. record row { ytd = ytd }) (money
 abbrev pub district_paid : District → ℤ → Option District
 district_paid row amount = option_map (λ ytd. record row { ytd = ytd }) (money (row.ytd +ℤ amount))
 
--- a note of the payment is put before the data of a customer of bad credit, and of no other (clause 2.5.2.2)
+-- for bad credit, a note of the payment is put before C_DATA; for good credit, C_DATA is unchanged (clause 2.5.2.2)
 abbrev pub data_after : Credit → List ℕ → List ℕ → List ℕ
 data_after Good note text = text
 data_after Bad note text = take 500 (note ++ text)
 
--- what of the data is shown: its first 200 bytes, for a customer of bad credit (clause 2.5.3.4)
+-- the shown part of C_DATA: for bad credit its first 200 bytes, else nothing (clause 2.5.3.4)
 abbrev pub data_shown : Credit → List ℕ → List ℕ
 data_shown Good text = []
 data_shown Bad text = take 200 text
 
--- the row with these sums, where each is in range
+-- the row with these sums, if all are in range
 abbrev pub with_sums : Customer → List ℕ → Option ℤ → Option ℤ → Option ℕ → Option Customer
 with_sums row text (Some balance) (Some ytd_payment) (Some payment_cnt) =
     Some (record row { balance = balance; ytd_payment = ytd_payment; payment_cnt = payment_cnt; «data» = text })
@@ -52,16 +52,17 @@ customer_paid row note amount =
     with_sums row (data_after row.credit note row.data)
     (money (row.balance -ℤ amount)) (money (row.ytd_payment +ℤ amount)) (in_range 0 999999999 (row.payment_cnt + 1))
 
--- the row of HISTORY of a payment at a district of these names: its text is W_NAME, four spaces and D_NAME (clause 2.5.2.2)
+-- the row of HISTORY of a payment at a warehouse and a district with these names: H_DATA is W_NAME, four spaces and
+-- D_NAME (clause 2.5.2.2)
 abbrev pub history_row : Payment → CustomerKey → List ℕ → List ℕ → History
 history_row p key warehouse district =
     record { customer = key; date = p.moment; amount = pos p.amount; «data» = warehouse ++ codes "    " ++ district }
 
--- by the rows of the warehouse and of the district
+-- the row of HISTORY, from the rows of the warehouse and of the district
 abbrev pub payment_row : Payment → CustomerKey → Warehouse → District → History
 payment_row p key w d = history_row p key w.name d.name
 
--- what is shown of the customer (clause 2.5.3.4)
+-- the shown data of the customer (clause 2.5.3.4)
 abbrev pub payment_reply : CustomerKey → Customer → PaymentReply
 payment_reply key c = record {
   c_id = key.c_id;
@@ -74,7 +75,7 @@ payment_reply key c = record {
   «data» = data_shown c.credit c.data;
 }
 
--- all rows change at once, or none where a sum would leave its range
+-- all rows change at once; none changes if a sum would leave its range
 abbrev pub posted : Database → Payment → CustomerKey → History → Option Warehouse → Option District → Option Customer → Outcome
 posted t p key row (Some w) (Some d) (Some c) =
     done
@@ -87,7 +88,7 @@ posted t p key row (Some w) (Some d) (Some c) =
     (Paid (payment_reply key c))
 posted t p key row _ _ _ = rolled_back t Range
 
--- by the rows that are there; within the scale only the customer can be missing
+-- the outcome, given the rows; within the scale only the customer can be missing
 abbrev pub paid : Database → Payment → Option Warehouse → Option District → Option Keyed → Outcome
 paid t p (Some w) (Some d) (Some c) =
     posted t p c.0 (payment_row p c.0 w d)
@@ -95,7 +96,7 @@ paid t p (Some w) (Some d) (Some c) =
     (customer_paid c.1 (payment_note c.0 p.home p.amount) (pos p.amount))
 paid t p _ _ _ = rolled_back t NoCustomer
 
--- what a payment leaves and answers
+-- the outcome of a payment
 abbrev pub payment : Database → Payment → Outcome
 payment t p =
     paid t p (map.get t.warehouses p.home.w_id) (map.get t.districts p.home) (chosen t.customers p.customer_home p.customer)

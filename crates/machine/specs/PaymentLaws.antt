@@ -1,4 +1,4 @@
--- What every payment does, said of the definition of a payment.
+-- Laws that hold of every payment.
 use Rattle.std.specs.Prelude.{◌≡◌, ◌≢◌, ℕ, ℤ, ◌-ℤ◌, IfSome}
 use Rattle.std.specs.FinMap as map
 use Rattle.rows.specs.declared.keys.DistrictKey.{DistrictKey}
@@ -14,11 +14,11 @@ use Rattle.groups.specs.Footprint.{groups_of}
 use Rattle.machine.specs.Chosen.{chosen}
 use Rattle.machine.specs.Payment.{payment}
 
--- the key is not that of the customer who pays
+-- the key is not that of the paying customer
 abbrev pub IsNotPayer : Database → Payment → CustomerKey → Type 0
 IsNotPayer t p key = IfSome (chosen t.customers p.customer_home p.customer) (λ c. key ≢ c.0)
 
--- no row is changed but those of the home warehouse, the home district, its list of payments and the customer
+-- only the rows of the home warehouse, the home district, its list of payments and the customer change
 pub record ChangesItsRowsAlone (p : Payment) (old new : Database) : Type 0 where
   pub scale : new.scale ≡ old.scale
   pub items : new.items ≡ old.items
@@ -31,18 +31,18 @@ pub record ChangesItsRowsAlone (p : Payment) (old new : Database) : Type 0 where
   pub new_orders : new.new_orders ≡ old.new_orders
   pub lines : new.lines ≡ old.lines
 
--- no payment changes a row but its own four
+-- a payment changes only its own four rows
 abbrev pub PaymentIsLocal : Type 0
 PaymentIsLocal = (t : Database) (p : Payment) → ChangesItsRowsAlone p t (payment t p).tables
 
--- The reply, and what the payment's groups have after it, follow from what they have before: where other tables have the
--- same in these groups, both are the same there.
+-- The reply, and the contents of the payment's groups after it, depend only on the contents of these groups before it:
+-- for two databases that are alike in these groups, both are the same.
 abbrev pub PaymentReadsItsGroups : Type 0
 PaymentReadsItsGroups =
     (s t : Database) (p : Payment) → AreAlikeIn (groups_of (payment_footprint p)) s t
     → ((payment s p).reply ≡ (payment t p).reply) × AreAlikeIn (groups_of (payment_footprint p)) (payment s p).tables (payment t p).tables
 
--- what every other group has stays
+-- the contents of every other group are unchanged
 abbrev pub PaymentKeepsOtherGroups : Type 0
 PaymentKeepsOtherGroups =
     (t : Database) (p : Payment) (group : Group) → IsNoneOf (groups_of (payment_footprint p)) group
@@ -52,11 +52,11 @@ PaymentKeepsOtherGroups =
 abbrev pub PaymentKeepsScale : Type 0
 PaymentKeepsScale = (t : Database) (p : Payment) → IsWithinScale t → IsWithinScale (payment t p).tables
 
--- what the warehouses have been paid, less what the lists of payments have
+-- the sum of all W_YTD less the sum of all H_AMOUNT
 abbrev pub unexplained : Database → ℤ
 unexplained t = sum_rows (λ _ row. row.ytd) t.warehouses -ℤ sum_rows (λ _ rows. amounts_of rows) t.histories
 
--- each cent that a warehouse is paid stands in a list of payments
+-- each cent that is added to a W_YTD is also in a list of payments
 abbrev pub PaymentKeepsSums : Type 0
 PaymentKeepsSums = (t : Database) (p : Payment) → unexplained (payment t p).tables ≡ unexplained t
 

@@ -9,8 +9,8 @@ use partitions::Rows;
 use requests::Choice;
 use schema::{Customer, CustomerKey, DistrictKey};
 
-/// The customer who is chosen in a district, with the row; `None` exactly where there is none here. A number
-/// is looked up in constant time, a last name by two binary searches; no memory is taken.
+/// Returns the chosen customer of a district and the row; `None` exactly if these tables have no such customer. A
+/// customer number is looked up in constant time, a last name by two binary searches. Never allocates.
 pub fn chosen<'a, T: Rows>(
     tables: &'a T,
     names: &NameIndex,
@@ -29,8 +29,7 @@ pub fn chosen<'a, T: Rows>(
     Some((key, tables.customer(key)?))
 }
 
-// The C_ID at which the row of the chosen customer stands. Where nobody is chosen there is no number, or no
-// row at it.
+// Returns the C_ID of the chosen customer. If nobody is chosen, returns `None` or a number at which there is no row.
 fn chosen_number<T: Rows>(
     tables: &T,
     names: &NameIndex,

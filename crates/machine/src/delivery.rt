@@ -9,7 +9,7 @@ use amounts::Cents;
 use requests::{Delivery, DeliveryReply, Fault, Reply, Shown};
 use schema::{CarrierId, Customer, CustomerKey, DistrictKey, Moment, NoMemory, OrderKey, Tables};
 
-// An order that is to be delivered, and the row that its customer will have.
+// An order to be delivered, and the row that its customer gets.
 #[derive(Drop)]
 struct Handover {
     order: OrderKey,
@@ -18,8 +18,8 @@ struct Handover {
 }
 
 /// Delivers the oldest new order of each of the warehouse's ten districts (clause 2.7.4); a district without one is
-/// skipped. It is rolled back with `Fault::Range` where a C_BALANCE or a C_DELIVERY_CNT would leave its range, and then nothing
-/// changes. Orders and lines are looked up by their keys. It takes no memory.
+/// skipped. If a C_BALANCE or a C_DELIVERY_CNT would leave its range, the Delivery is rolled back with `Fault::Range`
+/// and the tables are unchanged. Orders and lines are looked up by their keys. Never allocates.
 pub(crate) fn deliver(tables: &mut Tables, delivery: &Delivery) -> Reply
     requires { spec.HasCarrier delivery.now }
     ensures reply { result ≡ (spec.delivery tables.old delivery.now).reply }
@@ -32,8 +32,8 @@ pub(crate) fn deliver(tables: &mut Tables, delivery: &Delivery) -> Reply
     }
 }
 
-// Delivers in the districts from 1 to `count`. The last of them is looked at before any of them changes, and changes
-// after the others have: so nothing has changed where one can't be delivered.
+// Delivers in the districts from 1 to `count`. The last district is checked before any other district changes, and
+// changed after them. So if one district can't be delivered, nothing has changed.
 fn deliver_first(
     tables: &mut Tables,
     delivery: &Delivery,
@@ -68,7 +68,7 @@ fn deliver_first(
     Ok(reply)
 }
 
-// What is due in the district, `None` where it has no new order.
+// Returns the order due in the district, `None` if it has no new order.
 fn due_in(tables: &Tables, home: DistrictKey) -> Result<Option<Handover>, Fault>
     ensures { result ≡ steps.due tables.now home }
 {
@@ -86,7 +86,7 @@ fn due_in(tables: &Tables, home: DistrictKey) -> Result<Option<Handover>, Fault>
     }
 }
 
-// The order with its customer, `None` where one of them is missing or a value would leave its range.
+// Returns the order with its customer, `None` if one of them is missing or a value would leave its range.
 fn handover_of(tables: &Tables, order: OrderKey) -> Option<Handover>
     ensures { result ≡ steps.handover_of tables.now order }
 {
@@ -111,7 +111,7 @@ fn handover_of(tables: &Tables, order: OrderKey) -> Option<Handover>
     })
 }
 
-// The customer's row once the order was delivered, or `None` where a value leaves its range.
+// Returns the customer's row after the delivery of the order, `None` if a value would leave its range.
 fn customer_delivered(tables: &Tables, order: OrderKey, row: &Customer) -> Option<Customer>
     ensures { result ≡ spec.customer_delivered row.now (spec.amount_of tables.now order) }
 {
@@ -127,7 +127,8 @@ fn customer_delivered(tables: &Tables, order: OrderKey, row: &Customer) -> Optio
     Some(row)
 }
 
-// C_BALANCE with what the order's lines come to, or `None` where that leaves its range: no line takes it back.
+// Returns C_BALANCE plus the amounts of the order's lines, `None` if the sum would leave its range. Amounts are never
+// negative, so a sum that is out of range stays out of range.
 fn balance_delivered(tables: &Tables, order: OrderKey, balance: Cents) -> Option<Cents>
     ensures { result ≡ money (balance +ℤ pos (spec.amount_of tables.now order)) }
 {
@@ -141,7 +142,7 @@ fn balance_delivered(tables: &Tables, order: OrderKey, balance: Cents) -> Option
     Some(Cents::new(cents))
 }
 
-// Changes the rows of what is due, and gives the order's number. It takes no memory.
+// Changes the rows of the due order and returns its number. Never allocates.
 fn hand_over(
     tables: &mut Tables,
     due: Option<Handover>,

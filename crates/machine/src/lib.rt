@@ -1,5 +1,5 @@
-//! The plain engine, which carries out one request at a time on all tables, and the definitions of
-//! the transactions. Clauses named are those of TPC-C 5.11.
+//! The definitions of the transactions, and the plain engine, which carries out one request at a time on all tables.
+//! Clause numbers are those of TPC-C 5.11.
 #![tactic(auto)]
 
 mod choosing;

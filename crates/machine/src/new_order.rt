@@ -20,8 +20,8 @@ use schema::{
 };
 use std::alloc::Global;
 
-/// Carries out a New-Order (clause 2.4): the reply and the tables are those that its definition gives. A fault and want of
-/// memory change nothing.
+/// Carries out a New-Order (clause 2.4): the reply and the tables are those of its definition. A fault changes nothing.
+/// Returns NoMemory if an allocation fails; the tables are unchanged then.
 pub(crate) fn place_order(
     alloc: Global,
     tables: &mut Tables,
@@ -35,7 +35,7 @@ pub(crate) fn place_order(
     ensures latest { FitsLatest latest.new tables.new }
     ensures err { OnErr result (tables.new ≡ tables.old) }
 {
-    // For its contract: what the tables have is of the scale.
+    // Called for its contract: the tables are within the scale.
     tables.scale();
     let Some(warehouse) = tables.warehouse(order.home.w_id) else {
         return Ok(Reply::RolledBack(Fault::NoCustomer));
@@ -70,7 +70,7 @@ pub(crate) fn place_order(
     Ok(Reply::Done(Shown::NewOrder(shown)))
 }
 
-// Changes all rows of an order at once: what may want memory comes first.
+// Changes all rows of an order at once. The step that may run out of memory comes first.
 fn post(
     tables: &mut Tables,
     latest: &mut LatestOrders,
@@ -103,8 +103,8 @@ fn post(
     Ok(())
 }
 
-// Notes the order as its customer's latest, in place of the order, if there was one, that stood at its key: so it may be in
-// tables that aren't consistent.
+// Records the order as its customer's latest. If the order replaced another one at its key, which happens only in
+// inconsistent tables, the other customer's latest order is searched for again.
 fn note_latest(
     tables: &Tables,
     latest: &mut LatestOrders,
@@ -116,7 +116,7 @@ fn note_latest(
         → IsOrderPut before tables.now (spec.order_key order.now.home o_id) (spec.order_row order.now) replaced
         → FitsLatest latest.old before → FitsLatest latest.new tables.now }
 {
-    // For its contract: no two districts have one place.
+    // Called for its contract: no two districts have the same place.
     Rows::scale(tables);
     latest.raise_order(tables, customer_of(order.home, order.c_id), o_id);
     if let Some(other) = replaced {
@@ -126,7 +126,7 @@ fn note_latest(
     }
 }
 
-// Puts the rows in the places of those that supply the lines, the last first.
+// Replaces the rows of STOCK that supply the lines, from the last line to the first.
 fn put_stocks(tables: &mut Tables, lines: &[OrderedLine], stocks: Vec<Stock>)
     requires there { IsTrue (list_all (λ line. table.contains_key tables.old.stocks (spec.stock_key_of line)) lines.now) }
     requires as_many { length stocks.items ≡ length lines.now }
@@ -139,7 +139,7 @@ fn put_stocks(tables: &mut Tables, lines: &[OrderedLine], stocks: Vec<Stock>)
     }
 }
 
-/// The row of ORDER that an order adds.
+/// Returns the row of ORDER of an order.
 pub fn order_row(order: &NewOrder) -> Order
     requires { IsOrderWithin order.now }
     ensures { result ≡ spec.order_row order.now }
@@ -154,7 +154,7 @@ pub fn order_row(order: &NewOrder) -> Order
     }
 }
 
-// Whether the warehouse supplies each line.
+// Returns whether the warehouse supplies every line.
 fn are_local(home: u32, lines: &[OrderedLine]) -> bool
     ensures { result ≡ list_all (λ line. line.supply_w_id == home) lines.now }
 {
@@ -166,7 +166,7 @@ fn are_local(home: u32, lines: &[OrderedLine]) -> bool
     true
 }
 
-/// The district's row after an order: its next number is one more, or `None` where it leaves its range.
+/// Returns the district's row after an order: D_NEXT_O_ID grows by one. `None` if it would leave its range.
 pub fn district_ordered(row: &District) -> Option<District>
     ensures { result ≡ spec.district_ordered row.now }
 {
@@ -178,7 +178,7 @@ pub fn district_ordered(row: &District) -> Option<District>
     Some(row)
 }
 
-/// What an order shows, by the rows before it, its rows of ORDER-LINE, and what is shown of these.
+/// Returns the reply of an order, from the rows before it, its rows of ORDER-LINE, and the shown lines.
 pub fn new_order_reply(
     order: &NewOrder,
     warehouse: &Warehouse,
@@ -204,7 +204,7 @@ pub fn new_order_reply(
     }
 }
 
-// What the lines come to, in cents.
+// Returns the sum of the lines' amounts, in cents.
 fn sum_of(rows: &[OrderLine]) -> u32
     requires { length rows.now ≤ 15 }
     ensures value { result ≡ spec.sum_of rows.now }

@@ -1,4 +1,4 @@
-//! The lines of a New-Order: what each of them finds and leaves (clause 2.4.2.2).
+//! The lines of a New-Order: the rows that each line reads and changes (clause 2.4.2.2).
 ghost use Rattle.std.specs.Prelude.{◌≡◌, ◌≤◌, ◌==◌, ◌&&◌, length, IsTrue, IfOk, is_some};
 ghost use Rattle.std.specs.List.{sum_by, filter};
 ghost use Rattle.std.specs.Option.{option_map};
@@ -14,7 +14,7 @@ use schema::{
 };
 use std::alloc::Global;
 
-/// What an order's lines leave: three rows each, by OL_NUMBER.
+/// The results of an order's lines: three lists, by OL_NUMBER.
 #[derive(Drop)]
 pub(crate) struct LinesPlaced {
     pub(crate) rows: Vec<OrderLine>,
@@ -22,8 +22,8 @@ pub(crate) struct LinesPlaced {
     pub(crate) stocks: Vec<Stock>,
 }
 
-/// What a line of an order leaves: its row of ORDER-LINE, what is shown of it, and its row of STOCK once all
-/// lines of the order were taken from that.
+/// The results of one line of an order: its row of ORDER-LINE, the shown line, and its row of STOCK after all lines of
+/// the order.
 #[derive(Drop)]
 pub struct LinePlaced {
     pub row: OrderLine,
@@ -31,7 +31,7 @@ pub struct LinePlaced {
     pub stock: Stock,
 }
 
-/// By how much lines raise the counters of the row of STOCK that supplies them.
+/// The amounts by which lines raise the counters of the row of STOCK that supplies them.
 #[derive(Clone, Copy)]
 struct Raised {
     ytd: u32,
@@ -39,7 +39,7 @@ struct Raised {
     remote_cnt: u32,
 }
 
-// Whether each line's item is there.
+// Returns whether the item of each line exists.
 pub(crate) fn has_items(tables: &Tables, lines: &[OrderedLine]) -> bool
     ensures { result ≡ is_some (spec.items_found tables.now lines.now) }
 {
@@ -51,8 +51,8 @@ pub(crate) fn has_items(tables: &Tables, lines: &[OrderedLine]) -> bool
     true
 }
 
-// What the order's lines leave, or `None` where an item or a row of STOCK isn't there, or a counter would leave its
-// range. The tables stay as they are.
+// Returns the results of the order's lines, `None` if an item or a row of STOCK is missing or a counter would leave its
+// range. The tables are unchanged.
 pub(crate) fn place_lines(
     alloc: Global,
     tables: &Tables,
@@ -82,8 +82,8 @@ pub(crate) fn place_lines(
     }))
 }
 
-/// What the line of that number leaves, by the rows of all tables or of the warehouse that supplies it; `None` where
-/// its item or its row of STOCK isn't there, or a counter would leave its range. The rows stay as they are.
+/// Returns the results of the line with this number. `rows` are all tables or those of the warehouse that supplies the
+/// line. `None` if its item or its row of STOCK is missing, or a counter would leave its range. The rows are unchanged.
 pub fn place_line<T: Rows>(
     rows: &T,
     order: &NewOrder,
@@ -116,8 +116,8 @@ pub fn place_line<T: Rows>(
     })
 }
 
-/// The row of STOCK at the key once those of the lines were taken from it that it supplies, or `None` where a counter
-/// leaves its range.
+/// Returns the row of STOCK at the key after those of the lines that it supplies; `None` if a counter would leave its
+/// range.
 pub fn stock_taken(home: u32, row: &Stock, key: StockKey, lines: &[OrderedLine]) -> Option<Stock>
     requires few { length lines.now ≤ 15 }
     requires quantities { AreQuantities lines.now }
@@ -141,7 +141,7 @@ pub fn stock_taken(home: u32, row: &Stock, key: StockKey, lines: &[OrderedLine])
     Some(row)
 }
 
-// By how much the lines raise the counters of the row at the key.
+// Returns the amounts by which the lines raise the counters of the row at the key.
 fn raised_by(home: u32, key: StockKey, lines: &[OrderedLine]) -> Raised
     requires few { length lines.now ≤ 15 }
     requires quantities { AreQuantities lines.now }
@@ -164,7 +164,7 @@ fn raised_by(home: u32, key: StockKey, lines: &[OrderedLine]) -> Raised
     raised
 }
 
-/// S_QUANTITY of the row at the key once those of the lines were taken from it that it supplies, one after another.
+/// Returns S_QUANTITY of the row at the key after those of the lines that it supplies, one after another.
 pub fn quantity_after(
     quantity: StockQuantity,
     key: StockKey,
@@ -182,14 +182,14 @@ pub fn quantity_after(
     quantity
 }
 
-// Whether the row of STOCK at the key supplies the line.
+// Returns whether the row of STOCK at the key supplies the line.
 fn takes_from(line: OrderedLine, key: StockKey) -> bool
     ensures { result ≡ (line.supply_w_id == key.w_id) && (line.i_id == key.i_id) }
 {
     line.supply_w_id == key.w_id && line.i_id == key.i_id
 }
 
-/// The row of ORDER-LINE that a line of an order of the district adds.
+/// Returns the row of ORDER-LINE of a line of an order of the district.
 pub fn line_row(home: DistrictKey, line: OrderedLine, item: &Item, stock: &Stock) -> OrderLine
     requires district { IsTrue (is_between 1 10 home.d_id) }
     requires some { 1 ≤ line.quantity }
@@ -206,7 +206,7 @@ pub fn line_row(home: DistrictKey, line: OrderedLine, item: &Item, stock: &Stock
     }
 }
 
-/// What is shown of a line, with the row of STOCK before the order and S_QUANTITY after the line.
+/// Returns the shown line, from the row of STOCK before the order and S_QUANTITY after the line.
 pub fn line_shown(
     line: OrderedLine,
     item: &Item,
@@ -229,7 +229,7 @@ pub fn line_shown(
     }
 }
 
-// OL_AMOUNT of a line.
+// Returns OL_AMOUNT of a line.
 fn line_amount(line: OrderedLine, item: &Item) -> LineAmount
     requires { line.quantity ≤ 10 }
     ensures { result ≡ spec.line_amount line item.now }

@@ -12,8 +12,7 @@ use requests::{
 use schema::{Customer, CustomerKey, NoMemory, OrderKey, OrderLine, Tables};
 use std::alloc::Global;
 
-/// What Order-Status shows of a customer's row, with what it shows of the customer's last order. It takes no
-/// memory.
+/// Returns the reply of Order-Status, from a customer's row and the customer's last order as shown. Never allocates.
 pub fn status_reply(
     key: CustomerKey,
     row: &Customer,
@@ -31,8 +30,8 @@ pub fn status_reply(
     }
 }
 
-/// What Order-Status shows of the customer's last order, `None` exactly where there is none. The order is
-/// looked up by the index. Its lines alone take memory; want of it leaves nothing behind.
+/// Returns the customer's last order as Order-Status shows it, `None` exactly if the customer has no order. The index
+/// finds the order. Only the lines are allocated. Returns NoMemory if an allocation fails; nothing is left behind then.
 pub fn latest_shown<T: Rows>(
     alloc: Global,
     tables: &T,
@@ -61,7 +60,7 @@ pub fn latest_shown<T: Rows>(
     }))
 }
 
-// What is shown of the order's lines.
+// Returns the order's lines as shown.
 fn lines_shown<T: Rows>(
     alloc: Global,
     tables: &T,
@@ -88,7 +87,7 @@ fn status_line(row: &OrderLine) -> StatusLine
     }
 }
 
-/// Shows a customer's last order. No table changes.
+/// Returns the reply of Order-Status for the request. No table changes.
 pub(crate) fn show(
     alloc: Global,
     tables: &Tables,

@@ -14,7 +14,7 @@ use schema::{
 };
 use std::alloc::Global;
 
-/// The warehouse's row after a payment, or `None` where its sum leaves its range.
+/// Returns the warehouse's row after a payment, `None` if W_YTD would leave its range.
 pub fn warehouse_paid(row: &Warehouse, amount: Cents) -> Option<Warehouse>
     ensures { result ≡ spec.warehouse_paid row.now amount }
 {
@@ -26,7 +26,7 @@ pub fn warehouse_paid(row: &Warehouse, amount: Cents) -> Option<Warehouse>
     Some(row)
 }
 
-/// The district's row after a payment, or `None` where its sum leaves its range.
+/// Returns the district's row after a payment, `None` if D_YTD would leave its range.
 pub fn district_paid(row: &District, amount: Cents) -> Option<District>
     ensures { result ≡ spec.district_paid row.now amount }
 {
@@ -38,7 +38,8 @@ pub fn district_paid(row: &District, amount: Cents) -> Option<District>
     Some(row)
 }
 
-/// The customer's row after a payment, or `None` where a sum leaves its range.
+/// Returns the customer's row after a payment of `amount` cents, `None` if C_BALANCE, C_YTD_PAYMENT or C_PAYMENT_CNT
+/// would leave its range.
 pub fn customer_paid(
     was: &Customer,
     key: CustomerKey,
@@ -68,7 +69,7 @@ pub fn customer_paid(
     Some(row)
 }
 
-/// The row of HISTORY that a payment adds.
+/// Returns the row of HISTORY of a payment.
 pub fn payment_row(
     payment: &Payment,
     key: CustomerKey,
@@ -80,7 +81,7 @@ pub fn payment_row(
     history_row(payment, key, &warehouse.name, &district.name)
 }
 
-/// The row of HISTORY that a payment adds, by the names of its warehouse and district.
+/// Returns the row of HISTORY of a payment, from the names of its warehouse and district.
 pub fn history_row(
     payment: &Payment,
     key: CustomerKey,
@@ -101,7 +102,8 @@ pub fn history_row(
     }
 }
 
-/// What a payment shows of its customer's row after it. Only what it shows of C_DATA, for bad credit, takes memory.
+/// Returns the reply to a payment, from its customer's row after it. Only the shown part of C_DATA, for bad credit, is
+/// allocated. Returns NoMemory if that allocation fails.
 pub fn payment_reply(
     alloc: Global,
     key: CustomerKey,
@@ -126,7 +128,8 @@ pub fn payment_reply(
     })
 }
 
-/// Carries out a payment.
+/// Carries out a payment: the reply and the tables are those of its definition. Returns NoMemory if an allocation
+/// fails; the tables are unchanged then.
 pub(crate) fn pay(
     alloc: Global,
     tables: &mut Tables,
@@ -164,7 +167,7 @@ pub(crate) fn pay(
     Ok(Reply::Done(Shown::Payment(reply)))
 }
 
-// Changes all rows of a payment at once: what may want memory comes first.
+// Changes all rows of a payment at once. The step that may run out of memory comes first.
 fn post(
     tables: &mut Tables,
     payment: &Payment,

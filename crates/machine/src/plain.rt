@@ -9,7 +9,7 @@ use schema::{NoMemory, Tables};
 use std::alloc::Global;
 use std::marker::Model;
 
-/// The plain engine: all tables, and one request carried out at a time.
+/// The plain engine: carries out one request at a time on all tables.
 #[derive(Drop)]
 pub struct Plain {
     alloc: Global,
@@ -35,8 +35,8 @@ impl Model for Plain {
 }
 
 impl Plain {
-    /// An engine over these tables. It sorts the customers by last name; lack of memory leaves nothing
-    /// behind.
+    /// Returns an engine over these tables. Sorts the customers by last name. Returns NoMemory if an allocation fails;
+    /// nothing is left behind then.
     pub fn open(alloc: Global, tables: Tables) -> Result<Self, NoMemory>
         ensures { IfOk result (λ plain. plain ≡ tables) }
     {
@@ -56,15 +56,15 @@ impl Plain {
         &self.tables
     }
 
-    /// The tables as the requests so far have left them.
+    /// Returns the tables after the requests so far.
     pub fn into_tables(self) -> Tables
         ensures { result ≡ self }
     {
         self.tables
     }
 
-    /// Carries out one request, all of it or nothing: the reply and the tables are those that the
-    /// definition of its transaction gives. Want of memory changes nothing.
+    /// Carries out one request, completely or not at all: the reply and the tables are those of the definition of its
+    /// transaction. Returns NoMemory if an allocation fails; the tables are unchanged then.
     pub fn step(&mut self, request: &Request) -> Result<Reply, NoMemory>
         requires { IsAccepted self.old.scale request.now }
         ensures reply { IfOk result (λ reply. reply ≡ (transaction self.old request.now).reply) }

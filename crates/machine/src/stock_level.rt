@@ -10,9 +10,10 @@ use std::alloc::Global;
 // 20 orders of at most 15 lines.
 const MOST_LINES: usize = 300;
 
-/// What Stock-Level shows (clause 2.8): of how many items of the district's last 20 orders its warehouse has less than the
-/// threshold, 0 where there is no such district. It reads the lines of these orders and a row of STOCK for each of their
-/// items, and changes nothing. Want of memory leaves nothing behind.
+/// Returns the reply of Stock-Level (clause 2.8): the number of items in the district's last 20 orders whose stock in
+/// its warehouse is below the threshold; 0 if there is no such district. Reads the lines of these orders and one row of
+/// STOCK for each of their items, and changes nothing. Returns NoMemory if an allocation fails; nothing is left behind
+/// then.
 pub fn stock_level_reply(
     alloc: Global,
     tables: &Tables,
@@ -28,8 +29,8 @@ pub fn stock_level_reply(
     })
 }
 
-/// The item of each line of the district's 20 orders before this number, by O_ID and then by OL_NUMBER: 300 at most. Want
-/// of memory leaves nothing behind.
+/// Returns the item of each line of the district's 20 orders before number `next`, by O_ID and then by OL_NUMBER: at
+/// most 300 items. Returns NoMemory if an allocation fails; nothing is left behind then.
 pub fn recent_items<T: Rows>(
     alloc: Global,
     rows: &T,
@@ -46,8 +47,8 @@ pub fn recent_items<T: Rows>(
     Ok(items)
 }
 
-/// How many of these items the warehouse has less of than the threshold, each counted once, however often it is named. It
-/// takes no memory.
+/// Returns how many of these items have stock below the threshold in the warehouse. An item that occurs several times
+/// counts once. Never allocates.
 pub fn low_stock<T: Rows>(rows: &T, warehouse: u32, threshold: u32, items: Vec<u32>) -> usize
     ensures value { result ≡ spec.low_stock (T.tables rows.now) warehouse threshold items.items }
     ensures few { result ≤ length items.items }
@@ -58,7 +59,8 @@ pub fn low_stock<T: Rows>(rows: &T, warehouse: u32, threshold: u32, items: Vec<u
     count_short(rows, warehouse, threshold, &items)
 }
 
-// How many of these items the warehouse has less of than the threshold, each as often as it is named.
+// Returns how many of these items have stock below the threshold in the warehouse. An item counts as often as it
+// occurs.
 fn count_short<T: Rows>(rows: &T, warehouse: u32, threshold: u32, items: &[u32]) -> usize
     ensures { result ≡ count_by (spec.is_short (T.tables rows.now) warehouse threshold) items.now }
 {
@@ -71,7 +73,7 @@ fn count_short<T: Rows>(rows: &T, warehouse: u32, threshold: u32, items: &[u32])
     count
 }
 
-// Whether the warehouse has less of the item than the threshold.
+// Returns whether the warehouse's stock of the item is below the threshold.
 fn is_short<T: Rows>(rows: &T, warehouse: u32, threshold: u32, item: u32) -> bool
     ensures { result ≡ spec.is_short (T.tables rows.now) warehouse threshold item }
 {
@@ -85,7 +87,7 @@ fn is_short<T: Rows>(rows: &T, warehouse: u32, threshold: u32, item: u32) -> boo
     }
 }
 
-// The number that the district's next order gets, 0 where there is no such district.
+// Returns the number of the district's next order, 0 if there is no such district.
 fn next_order(tables: &Tables, home: DistrictKey) -> u32
     ensures { result ≡ spec.next_order (table.get tables.now.districts home) }
 {

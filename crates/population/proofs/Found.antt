@@ -18,7 +18,7 @@ and_false true = refl
 and_false false = refl
 
 module _ {K : Type 0} {R : K → K → Ordering} (o : IsTotalOrder R) (a : IsAntisymmetric R) where
-  -- a key stands among those that pass a test where it passes and stands among all
+  -- a key is among those that pass a test if it passes and is among all
   pub any_kept : (test : K → Bool) (q : K) (ks : List K) → list_any (eq_by_cmp R q) (filter test ks) ≡ (test q && list_any (eq_by_cmp R q) ks)
   any_kept test q [] = and_false (test q)
   any_kept test q (k ∷ ks) =

@@ -37,7 +37,7 @@ none_in first number = grind (arith, nat_tests)
 one_in : (first number count : ℕ) → ((first == number) || (nat_le (first + 1) number && nat_lt number (first + 1 + count))) ≡ (nat_le first number && nat_lt number (first + suc count))
 one_in first number count = grind (arith, nat_tests)
 
--- a line of that number stands among those of one order
+-- a line of that number is among those of one order
 among : (key other : OrderKey) (number first count : ℕ)
     → list_any (eq_by_cmp line_cmp (line_key key number)) (map (line_key other) (range_with_len first count)) ≡ (eq_by_cmp order_cmp key other && (nat_le first number && nat_lt number (first + count)))
 among key other number first zero =

@@ -46,7 +46,7 @@ lower_lines : (order : OrderKey) (first number count : ℕ) → first + count �
 lower_lines order first number zero h = tt
 lower_lines order first number (suc count) h = (of_lower_number order first number (omega arith), lower_lines order (first + 1) number count (omega arith))
 
--- with so many lines of an order, the next comes after all
+-- with so many lines of an order, the next one is after all of them
 pub earlier_lines : (order : OrderKey) (old es : List (OrderLineKey × OrderLine)) (count : ℕ) → AreOfEarlierOrders order old
     → keys_of es ≡ keys_of old ++ map (line_key order) (range_with_len 1 count) → AreBefore line_cmp (line_key order (count + 1)) es
 earlier_lines order old es count before is =

@@ -30,7 +30,7 @@ module _ {X : Type 0} (P : X → Type 0) where
   each_from_mapped f [] h = tt
   each_from_mapped f (y ∷ ys) h = (h.0, each_from_mapped f ys h.1)
 
--- what stands at a place after a push
+-- the value at a place after a push
 pub pushed_at : {X : Type 0} (P : ℕ → X → Type 0) (xs : List X) (x : X) (n : ℕ) → n ≡ length xs → P n x → ((place : ℕ) (y : X) → slice_get xs place ≡ Some y → P place y)
     → (place : ℕ) (y : X) → slice_get (xs ++ x ∷ []) place ≡ Some y → P place y
 pushed_at P [] x n is here had zero y found =
@@ -41,7 +41,7 @@ pushed_at P (z ∷ xs) x n is here had zero y found = had zero y found
 pushed_at P (z ∷ xs) x n is here had (suc place) y found =
     pushed_at (λ m. P (suc m)) xs x (length xs) refl (subst (λ m. P m x) is here) (λ m. had (suc m)) place y found
 
--- what stands at a place of two lists, one behind the other
+-- the value at a place of two lists, one after the other
 pub appended_at : {X : Type 0} (P : ℕ → X → Type 0) (xs ys : List X) → ((place : ℕ) (x : X) → slice_get xs place ≡ Some x → P place x)
     → ((place : ℕ) (y : X) → slice_get ys place ≡ Some y → P (length xs + place) y)
     → (place : ℕ) (z : X) → slice_get (xs ++ ys) place ≡ Some z → P place z

@@ -68,7 +68,7 @@ lower_numbers : (home : DistrictKey) (first number : ℕ) (owners : List ℕ) �
 lower_numbers home first number [] h = tt
 lower_numbers home first number (o ∷ owners) h = (of_lower_number home first number (omega arith), lower_numbers home (first + 1) number owners (omega arith))
 
--- with so many orders of a district, the next comes after all
+-- with so many orders of a district, the next one is after all of them
 pub earlier_orders : (home : DistrictKey) (old es : List (OrderKey × Order)) (owners : List ℕ) (number : ℕ) → AreOfEarlierDistricts home old
     → map owned es ≡ map owned old ++ owned_by home 1 owners → number ≡ length owners + 1 → AreBefore order_cmp (order_key home number) es
 earlier_orders home old es owners number before is count =
@@ -96,7 +96,7 @@ from_earlier place last (os ∷ owners) h =
     (all_of_district (district_at last) place 1 os (earlier_district place last (omega arith)))
     (from_earlier (place + 1) last owners (omega arith))
 
--- with so many districts, the next comes after all
+-- with so many districts, the next one is after all of them
 pub earlier_districts : (es : List (OrderKey × Order)) (owners : List (List ℕ)) (count : ℕ) → map owned es ≡ owned_from 0 owners → length owners ≡ count → AreOfEarlierDistricts (district_at count) es
 earlier_districts es owners count is many =
     let P = λ (key : OrderKey). district_cmp (district_of_order key) (district_at count) ≡ Less in

@@ -1,4 +1,4 @@
--- The three tables of orders, one order after another.
+-- The tables ORDER, NEW-ORDER and ORDER-LINE, filled order by order.
 use Rattle.std.specs.Prelude.{◌≡◌, ℕ, ◌+◌, Bool, nat_lt, List, [], ◌∷◌, ◌++◌, map}
 use Rattle.std.specs.List.{All, AllByRecursion, filter, flat_map, range_with_len}
 use Rattle.std.specs.List.Sorted.{IsStrictlySortedBy}
@@ -19,25 +19,25 @@ use Rattle.population.specs.Profile.{delivered_orders}
 use Rattle.population.specs.Rows.{IsOpeningOrder, IsOpeningLine}
 use Rattle.std.specs.declared.cmp.Ordering.TheVariants.{Less}
 
--- an order's key, and whose it is
+-- an order's key, and the number of its customer
 abbrev pub Owned : Type 0
 Owned = OrderKey × ℕ
 
--- so of a row of ORDER with its key
+-- the key and the customer of a row of ORDER
 abbrev pub owned : OrderKey × Order → Owned
 owned entry = (entry.0, entry.1.c_id)
 
--- the orders of a district, numbered from the first: each of the owner in turn
+-- the orders of a district, numbered from `first`, one for each owner in turn
 abbrev pub owned_by : DistrictKey → ℕ → List ℕ → List Owned
 owned_by home first [] = []
 owned_by home first (owner ∷ owners) = (order_key home first, owner) ∷ owned_by home (first + 1) owners
 
--- the orders of one district after another, from the one at this place
+-- the orders of several districts, from the district at this place on
 abbrev pub owned_from : ℕ → List (List ℕ) → List Owned
 owned_from place [] = []
 owned_from place (owners ∷ others) = owned_by (district_at place) 1 owners ++ owned_from (place + 1) others
 
--- whether an order has not been delivered
+-- whether an order is not delivered
 abbrev pub is_new_order : Scale → OrderKey → Bool
 is_new_order scale key = nat_lt (delivered_orders scale) key.o_id
 
@@ -45,7 +45,7 @@ is_new_order scale key = nat_lt (delivered_orders scale) key.o_id
 abbrev pub line_keys : OrderKey × Order → List OrderLineKey
 line_keys entry = map (line_key entry.0) (range_with_len 1 entry.1.ol_cnt)
 
--- these orders have their lines, and are in NEW-ORDER where they are new
+-- these orders have their lines, and their rows of NEW-ORDER exactly if they are new
 pub record IsBook (scale : Scale) (now : ℕ) (orders : BTreeMap OrderKey Order) (new_orders : BTreeMap OrderKey NewOrder) (lines : List (OrderLineKey × OrderLine)) : Type 0 where
   pub new_keys : keys_of new_orders.entries ≡ filter (is_new_order scale) (keys_of orders.entries)
   pub line_keys : keys_of lines ≡ flat_map line_keys orders.entries
@@ -55,14 +55,14 @@ pub record IsBook (scale : Scale) (now : ℕ) (orders : BTreeMap OrderKey Order)
   pub new_orders_ordered : IsOrdered order_cmp new_orders
   pub lines_ordered : IsStrictlySortedBy line_cmp (keys_of lines)
 
--- of the three tables of an order book
+-- the same of the three tables of an order book
 abbrev pub IsBookOf : Scale → ℕ → OrderBook → Type 0
 IsBookOf scale now book = IsBook scale now book.orders book.new_orders book.lines
 
--- whose the orders are
+-- the key and the customer of every order
 abbrev pub all_owned : OrderBook → List Owned
 all_owned book = map owned book.orders.entries
 
--- the orders are all of districts before this one
+-- all orders are of districts before this one
 abbrev pub AreOfEarlierDistricts : DistrictKey → List (OrderKey × Order) → Type 0
 AreOfEarlierDistricts home entries = AllByRecursion (λ key. district_cmp (district_of_order key) home ≡ Less) (keys_of entries)

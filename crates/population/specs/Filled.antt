@@ -1,4 +1,4 @@
--- The tables that are filled one district after another.
+-- The tables that are filled district by district.
 use Rattle.std.specs.Prelude.{◌≡◌, ℕ, ◌*◌, List, length, map, Some}
 use Rattle.std.specs.List.{All, AllByRecursion, range_with_len, slice_get}
 use Rattle.std.specs.List.Sorted.{IsPermutation}
@@ -19,7 +19,7 @@ use Rattle.population.specs.Rows.{IsOpeningItem, IsOpeningWarehouse, IsOpeningDi
 use Rattle.population.specs.Book.{IsBook, owned, owned_from}
 use Rattle.population.specs.Drawn.{IsFirstDrawn}
 
--- so many districts, the first in the order of their keys, have all their rows
+-- the first `count` districts, in the order of their keys, have all their rows
 pub record IsFilled (scale : Scale) (now count : ℕ) (districts : List District) (customers : List Customer) (histories : List (List History))
     (orders : BTreeMap OrderKey Order) (new_orders : BTreeMap OrderKey NewOrder) (lines : List (OrderLineKey × OrderLine)) : Type 0 where
   pub districts_count : length districts ≡ count
@@ -28,19 +28,19 @@ pub record IsFilled (scale : Scale) (now count : ℕ) (districts : List District
   pub customer_rows : AreOpeningCustomers now scale.customers customers
   pub histories_count : length histories ≡ count
   pub payments : (place : ℕ) (list : List History) → slice_get histories place ≡ Some list → AreOpeningPayments now (district_at place) scale.customers list
-  -- whose the orders of each district are
+  -- the customers of the orders of each district
   pub owners : List (List ℕ)
   pub owners_count : length owners ≡ count
   pub permuted : AllByRecursion (IsPermutation (range_with_len 1 scale.customers)) owners
   pub owned : map owned orders.entries ≡ owned_from 0 owners
   pub book : IsBook scale now orders new_orders lines
 
--- of the tables of the districts that were filled so far
+-- the same of the tables of the districts filled so far
 abbrev pub AreFilled : Scale → ℕ → ℕ → DistrictTables → Type 0
 AreFilled scale now count tables =
     IsFilled scale now count tables.districts.items tables.customers.items tables.histories.items tables.book.orders tables.book.new_orders tables.book.lines
 
--- all rows of a population of that seed and moment
+-- the rows of all tables, of a population of that seed and moment
 pub record IsPopulated (scale : Scale) (seed now : ℕ) (rows : TableRows) : Type 0 where
   pub items : length rows.items.items ≡ scale.items
   pub item_rows : All IsOpeningItem rows.items.items

@@ -3,7 +3,7 @@ use Rattle.std.specs.Prelude.{ℕ, ◌+◌, ◌/◌, ◌%◌}
 use Rattle.rows.specs.declared.keys.DistrictKey.{DistrictKey}
 use Rattle.rows.specs.declared.keys.OrderKey.{OrderKey}
 
--- the district at a place, from 0, among all in the order of their keys
+-- the district at a place, counted from 0, in the order of keys
 abbrev pub district_at : ℕ → DistrictKey
 district_at place = record { w_id = place / 10 + 1; d_id = place % 10 + 1 }
 

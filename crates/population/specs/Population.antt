@@ -1,4 +1,4 @@
--- The tables that the benchmark begins with (clause 4.3.3.1).
+-- The initial population (clause 4.3.3.1).
 use Rattle.std.specs.Prelude.{◌≡◌, ℕ, ◌+◌, ◌-◌, ◌&&◌, ◌==◌, Bool, if◌then◌else◌, List, map, length, Some, IsTrue}
 use Rattle.std.specs.List.{filter, range_with_len}
 use Rattle.std.specs.FinMap as table
@@ -30,7 +30,8 @@ use Rattle.population.specs.Drawn.{IsFirstDrawn}
 abbrev pub customers_by_order : Database → DistrictKey → List ℕ
 customers_by_order t home = map (λ order. order.1.c_id) (orders_of t home)
 
--- the orders of a district are numbered from 1 to its customers, and their customers are these numbers in some order
+-- the orders of a district are numbered from 1 to the number of its customers, and their customers are these numbers in
+-- some order
 pub record OrdersOnce (t : Database) (home : DistrictKey) : Type 0 where
   pub numbered : numbers (orders_of t home) ≡ range_with_len 1 t.scale.customers
   pub shuffled : IsPermutation (range_with_len 1 t.scale.customers) (customers_by_order t home)
@@ -39,20 +40,20 @@ pub record OrdersOnce (t : Database) (home : DistrictKey) : Type 0 where
 abbrev pub EachOrdersOnce : Database → Type 0
 EachOrdersOnce t = (home : DistrictKey) → IsTrue (has_district t.scale home) → OrdersOnce t home
 
--- whether this is the customer's district
+-- whether the customer is of this district
 abbrev pub is_home : CustomerKey → DistrictKey → Bool
 is_home customer home = (home.w_id == customer.w_id) && (home.d_id == customer.d_id)
 
--- how many rows of HISTORY in a district's list the customer has
+-- the number of the customer's rows of HISTORY in a district's list
 abbrev pub payments_at : Database → CustomerKey → DistrictKey → ℕ
 payments_at t customer home = length (filter (is_payer customer) (list_at t.histories home))
 
--- each customer has one row of HISTORY, in the customer's district (clause 4.3.3.1)
+-- each customer has exactly one row of HISTORY, in the customer's district (clause 4.3.3.1)
 abbrev pub EachPaidOnce : Database → Type 0
 EachPaidOnce t = (customer : CustomerKey) → IsTrue (has_customer t.scale customer) → (home : DistrictKey)
     → payments_at t customer home ≡ (if is_home customer home then 1 else 0)
 
--- NEW-ORDER has exactly those orders of the district that are not delivered
+-- NEW-ORDER has exactly the orders of the district that are not delivered
 abbrev pub HasNewOrders : Database → DistrictKey → Type 0
 HasNewOrders t home = numbers (new_orders_of t home) ≡ range_with_len (delivered_orders t.scale + 1) (t.scale.customers - delivered_orders t.scale)
 
@@ -61,9 +62,9 @@ abbrev pub HasLinesInTurn : Database → Type 0
 HasLinesInTurn t = (key : OrderKey) (row : Order) → table.get t.orders key ≡ Some row
     → (number : ℕ) → table.contains_key t.lines (line_key key number) ≡ is_between 1 row.ol_cnt number
 
--- The tables of that scale, drawn from that seed, with that moment as every date and time: the rows of each table are there, and as
--- the benchmark begins with, each customer has ordered and paid once, and all twelve conditions of consistency hold, condition 11 at
--- full scale.
+-- The tables of that scale, drawn from that seed, with that moment as every date and time. Each table has exactly the
+-- rows of the scale, with initial values; each customer has ordered and paid once; and all twelve consistency
+-- conditions hold, condition 11 at full scale.
 pub record IsOpening (scale : Scale) (seed now : ℕ) (t : Database) : Type 0 where
   pub of_scale : t.scale ≡ scale
   pub within : IsWithinScale t

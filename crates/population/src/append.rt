@@ -5,7 +5,7 @@ ghost use Rattle.population.specs.Append.{AreBefore};
 use schema::NoMemory;
 use std::collections::BTreeMap;
 
-/// Adds a row whose key comes after all others.
+/// Adds a row whose key is greater than all others.
 pub(crate) fn append<K: Ord + Drop, V: Drop>(
     map: &mut BTreeMap<K, V>,
     key: K,

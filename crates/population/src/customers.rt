@@ -9,7 +9,7 @@ use schema::{
 };
 use std::alloc::Global;
 
-/// Adds the customers of a district, by C_ID, and gives the payment that each of them made.
+/// Adds the customers of a district, by C_ID, and returns the payment of each customer.
 pub(crate) fn add_customers(
     alloc: Global,
     draws: &mut Draws,
@@ -34,7 +34,7 @@ pub(crate) fn add_customers(
     Ok(payments)
 }
 
-// The row of a customer, who has paid 1,000 cents once.
+// Returns the row of a customer who has paid 1,000 cents once.
 fn customer(draws: &mut Draws, number: u32, now: Moment) -> Customer
     requires { 1 ≤ number }
     ensures { IsOpeningCustomer now number result }
@@ -65,7 +65,7 @@ fn middle() -> Text<2>
     middle
 }
 
-// The first 1,000 customers have the names of the numbers from 0 to 999, and the others random ones.
+// Customers 1 to 1,000 have the names of the numbers 0 to 999, the others random names of these.
 fn last(draws: &mut Draws, number: u32) -> Text<16>
     requires { 1 ≤ number }
     ensures { IsOpeningName number result }
@@ -77,7 +77,7 @@ fn last(draws: &mut Draws, number: u32) -> Text<16>
     }
 }
 
-// One customer in ten is of bad credit.
+// About one customer in ten has bad credit.
 fn credit(draws: &mut Draws) -> Credit {
     if draws.random(1, 10) == 1 {
         Credit::Bad
@@ -86,7 +86,7 @@ fn credit(draws: &mut Draws) -> Credit {
     }
 }
 
-// The payment of 1,000 cents that the customer made at home.
+// Returns the row of HISTORY of the customer's payment of 1,000 cents at home.
 fn payment(draws: &mut Draws, customer: CustomerKey, now: Moment) -> History
     ensures customer { result.customer ≡ customer }
     ensures amount { result.amount ≡ pos 1000 }

@@ -12,7 +12,7 @@ use amounts::{Cents, Rate};
 use schema::{Customer, District, DistrictKey, HistoryList, Moment, NextOrderId, NoMemory, Scale};
 use std::alloc::Global;
 
-/// The tables that are filled one district after another, by the districts' keys.
+/// The tables that are filled district by district, in the order of the districts' keys.
 #[derive(Drop)]
 pub(crate) struct DistrictTables {
     pub(crate) districts: Vec<District>,
@@ -22,7 +22,7 @@ pub(crate) struct DistrictTables {
 }
 
 impl DistrictTables {
-    /// No rows. It takes no memory.
+    /// Returns empty tables. Never allocates.
     pub(crate) fn new(alloc: Global) -> Self
         ensures { (scale : scale_kind.Scale) (now : ℕ) → AreFilled scale now 0 result }
     {
@@ -79,7 +79,7 @@ impl DistrictTables {
     }
 }
 
-// The row of a district, which has taken 1,000 cents from each customer and has an order of each.
+// Returns the row of a district that has received 1,000 cents from each customer and has one order of each.
 fn district(draws: &mut Draws, scale: Scale) -> District
     ensures { IsOpeningDistrict scale result }
 {

@@ -17,7 +17,7 @@ const DIGITS_AND_LETTERS: &[u8] = b"0123456789ABCDEFGHIJKLMNOPQRSTUVWXYZabcdefgh
 
 const ORIGINAL: &str = "ORIGINAL";
 
-/// The random values of one seed, in the order in which they are drawn. Of the same seed they are the same.
+/// The random values of one seed, in the order in which they are drawn. The same seed gives the same values.
 #[derive(Drop)]
 pub(crate) struct Draws {
     numbers: NumberDraws,
@@ -32,7 +32,7 @@ impl Draws {
         }
     }
 
-    /// A whole number from `low` to `high`, both included.
+    /// Returns a whole number from `low` to `high`, both included.
     pub(crate) fn random(&mut self, low: u32, high: u32) -> u32
         requires { low ≤ high }
         ensures value { result ≡ random_of low high self.old.numbers }
@@ -42,8 +42,7 @@ impl Draws {
         self.numbers.random(low, high)
     }
 
-    /// A number from `low` to `high` that isn't evenly spread (clause 2.1.6). The constant that the clause
-    /// adds is 0.
+    /// Returns a non-uniform random number from `low` to `high` (clause 2.1.6). The constant C of the clause is 0.
     pub(crate) fn nu_rand(&mut self, bits: u32, low: u32, high: u32) -> u32
         requires { low ≤ high }
         ensures low { low ≤ result }
@@ -60,7 +59,7 @@ impl Draws {
         self.numbers.shuffle(numbers);
     }
 
-    /// From `low` to `high` digits and letters.
+    /// Returns a text of `low` to `high` digits and letters.
     pub(crate) fn text<const WIDTH: usize>(&mut self, low: u32, high: u32) -> Text<WIDTH>
         requires order { low ≤ high }
         requires fits { high ≤ WIDTH }
@@ -70,22 +69,22 @@ impl Draws {
         self.characters(count, DIGITS_AND_LETTERS)
     }
 
-    // That many capital letters.
+    // Returns `count` capital letters.
     fn letters<const WIDTH: usize>(&mut self, count: u32) -> Text<WIDTH>
         ensures { count ≤ WIDTH → IsTextOf is_capital count count result }
     {
         self.characters(count, LETTERS)
     }
 
-    /// That many digits.
+    /// Returns `count` digits.
     pub(crate) fn digits<const WIDTH: usize>(&mut self, count: u32) -> Text<WIDTH>
         ensures { count ≤ WIDTH → IsTextOf is_digit count count result }
     {
         self.characters(count, DIGITS)
     }
 
-    /// From `low` to `high` digits and letters; in one of ten the word `ORIGINAL` stands somewhere in
-    /// place of eight of them (clause 4.3.3.1).
+    /// Returns a text of `low` to `high` digits and letters. In about one of ten, the word `ORIGINAL` replaces eight of
+    /// them at a random position (clause 4.3.3.1).
     pub(crate) fn original_text<const WIDTH: usize>(&mut self, low: u32, high: u32) -> Text<WIDTH>
         requires room { 8 ≤ low }
         requires order { low ≤ high }
@@ -100,7 +99,7 @@ impl Draws {
         }
     }
 
-    /// A random address (clause 4.3.2.7 for its zip code).
+    /// Returns a random address (clause 4.3.2.7 for its zip code).
     pub(crate) fn address(&mut self) -> Address
         ensures { IsOpeningAddress result }
     {
@@ -113,7 +112,7 @@ impl Draws {
         }
     }
 
-    // Four digits, and `11111`.
+    // Returns four digits followed by `11111`.
     fn zip(&mut self) -> Text<9>
         ensures { IsOpeningZip result }
     {
@@ -122,7 +121,7 @@ impl Draws {
         zip
     }
 
-    // The text with the word `ORIGINAL` at a random place in it.
+    // Returns the text with the word `ORIGINAL` written over it at a random position.
     fn with_original<const WIDTH: usize>(&mut self, text: &Text<WIDTH>) -> Text<WIDTH>
         requires room { 8 ≤ length text.now }
         requires short { length text.now < 2 ^ 32 }
@@ -138,7 +137,7 @@ impl Draws {
         original
     }
 
-    // That many characters of the alphabet, or as many as fit.
+    // Returns `count` characters of the alphabet, or as many as fit.
     fn characters<const WIDTH: usize>(&mut self, count: u32, alphabet: &[u8]) -> Text<WIDTH>
         requires some { 0 < length alphabet.now }
         requires short { length alphabet.now < 2 ^ 32 }
@@ -157,7 +156,7 @@ impl Draws {
         }
     }
 
-    // One character of the alphabet.
+    // Returns one character of the alphabet.
     fn character(&mut self, alphabet: &[u8]) -> u8
         requires some { 0 < length alphabet.now }
         requires short { length alphabet.now < 2 ^ 32 }

@@ -8,7 +8,7 @@ use crate::draws::Draws;
 use schema::{ImageId, Item, NoMemory, Price};
 use std::alloc::Global;
 
-/// The rows of ITEM, by I_ID.
+/// Returns the rows of ITEM, by I_ID.
 pub(crate) fn items(alloc: Global, draws: &mut Draws, count: u32) -> Result<Vec<Item>, NoMemory>
     ensures count { IfOk result (λ items. length items.items ≡ count) }
     ensures rows { IfOk result (λ items. All IsOpeningItem items.items) }

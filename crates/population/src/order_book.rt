@@ -20,7 +20,7 @@ use schema::{
 use std::alloc::Global;
 use std::collections::BTreeMap;
 
-/// The three tables of orders.
+/// The tables ORDER, NEW-ORDER and ORDER-LINE.
 #[derive(Drop)]
 pub(crate) struct OrderBook {
     pub(crate) orders: BTreeMap<OrderKey, Order>,
@@ -29,7 +29,7 @@ pub(crate) struct OrderBook {
 }
 
 impl OrderBook {
-    /// No rows. It takes no memory.
+    /// Returns empty tables. Never allocates.
     pub(crate) fn new(alloc: Global) -> Self
         ensures none { result.orders.entries ≡ [] }
         ensures book { (scale : scale_kind.Scale) (now : ℕ) → IsBookOf scale now result }
@@ -41,7 +41,7 @@ impl OrderBook {
         }
     }
 
-    /// Adds a district's orders, one for each of the owners in turn.
+    /// Adds a district's orders, one for each owner, numbered from 1 in the order of `owners`.
     pub(crate) fn add_orders(
         &mut self,
         draws: &mut Draws,
@@ -69,7 +69,7 @@ impl OrderBook {
         Ok(())
     }
 
-    // Adds an order of the customer with its lines, and its row of NEW-ORDER where it is new.
+    // Adds an order of the customer with its lines, and its row of NEW-ORDER if it is new.
     fn add_order(
         &mut self,
         draws: &mut Draws,
@@ -101,7 +101,7 @@ impl OrderBook {
     }
 }
 
-// Adds the order's row of NEW-ORDER where it is new.
+// Adds the order's row of NEW-ORDER if it is new.
 fn add_if_new(
     new_orders: &mut BTreeMap<OrderKey, NewOrder>,
     scale: Scale,

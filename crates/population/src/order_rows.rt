@@ -16,7 +16,7 @@ use schema::{
     OrderLineKey, OrderLines, Scale,
 };
 
-/// Who delivered the order; nobody, where it is new.
+/// Returns the carrier of the order, `None` if the order is new.
 pub(crate) fn carrier(draws: &mut Draws, scale: Scale, order: u32) -> Option<CarrierId>
     ensures none { (result ≡ None) ↔ (delivered_orders scale < order) }
     ensures number { (id : ℕ) → result ≡ Some id → IsFrom 1 10 id }
@@ -28,7 +28,7 @@ pub(crate) fn carrier(draws: &mut Draws, scale: Scale, order: u32) -> Option<Car
     }
 }
 
-/// Adds the lines of the order, `count` of them.
+/// Adds the `count` lines of the order.
 pub(crate) fn add_lines(
     draws: &mut Draws,
     lines: &mut OrderLines,
@@ -57,8 +57,8 @@ pub(crate) fn add_lines(
     Ok(())
 }
 
-// The row of the line: five of an item, from the order's own warehouse. What was delivered cost
-// nothing.
+// Returns the row of the line: five pieces of an item, from the order's own warehouse. The amount of a delivered line
+// is 0.
 fn line(draws: &mut Draws, scale: Scale, now: Moment, key: OrderLineKey) -> OrderLine
     requires warehouse { IsTrue (has_warehouse scale key.w_id) }
     requires number { IsTrue (is_line_number key.number) }
@@ -76,7 +76,7 @@ fn line(draws: &mut Draws, scale: Scale, now: Moment, key: OrderLineKey) -> Orde
     }
 }
 
-// OL_AMOUNT of a line of a new order, or of one that was delivered.
+// Returns OL_AMOUNT of a line of a new order (`waits`) or of a delivered one.
 fn amount(draws: &mut Draws, waits: bool) -> LineAmount
     ensures delivered { waits ≡ false → result ≡ 0 }
     ensures open { waits ≡ true → IsFrom 1 999999 result }

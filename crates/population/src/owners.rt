@@ -6,7 +6,7 @@ use crate::draws::Draws;
 use schema::NoMemory;
 use std::alloc::Global;
 
-/// The customer of each order of a district: the numbers from 1 to `count`, shuffled.
+/// Returns the customer of each order of a district: the numbers from 1 to `count`, shuffled.
 pub(crate) fn owners(alloc: Global, draws: &mut Draws, count: u32) -> Result<Vec<u32>, NoMemory>
     ensures { IfOk result (λ owners. IsPermutation (range_with_len 1 count) owners.items) }
 {
@@ -15,7 +15,7 @@ pub(crate) fn owners(alloc: Global, draws: &mut Draws, count: u32) -> Result<Vec
     Ok(owners)
 }
 
-// The numbers from 1 to `count`, in order.
+// Returns the numbers from 1 to `count`, in order.
 fn numbers(alloc: Global, count: u32) -> Result<Vec<u32>, NoMemory>
     ensures { IfOk result (λ numbers. numbers.items ≡ range_with_len 1 count) }
 {

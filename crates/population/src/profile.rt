@@ -3,8 +3,8 @@ ghost use Rattle.population.specs.Profile.{delivered_orders};
 
 use schema::Scale;
 
-/// Whether the order of this number has not been delivered: of each district's orders these are the
-/// last 3 in 10.
+/// Returns whether the order of this number is new, that is, not delivered: the last 3 in 10 of each district's orders
+/// are.
 pub(crate) fn is_new(scale: Scale, order: u32) -> bool
     ensures { result ≡ nat_lt (delivered_orders scale) order }
 {

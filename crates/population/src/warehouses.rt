@@ -6,7 +6,7 @@ use crate::draws::Draws;
 use amounts::{Cents, Rate};
 use schema::{Counter, NoMemory, Scale, Stock, StockQuantity, Text, Warehouse};
 
-/// The row of a warehouse: its ten districts have taken 1,000 cents from each customer.
+/// Returns the row of a warehouse whose ten districts have received 1,000 cents from each customer.
 pub(crate) fn warehouse(draws: &mut Draws, scale: Scale) -> Warehouse
     ensures { IsOpeningWarehouse scale result }
 {
@@ -18,7 +18,7 @@ pub(crate) fn warehouse(draws: &mut Draws, scale: Scale) -> Warehouse
     }
 }
 
-/// Adds the stock rows of one warehouse, by S_I_ID.
+/// Adds the rows of STOCK of one warehouse, by S_I_ID.
 pub(crate) fn add_stocks(
     draws: &mut Draws,
     stocks: &mut Vec<Stock>,
@@ -33,7 +33,7 @@ pub(crate) fn add_stocks(
     Ok(())
 }
 
-// The row of a stock of which nothing was ordered.
+// Returns a row of STOCK without orders so far.
 fn stock(draws: &mut Draws) -> Stock
     ensures { IsOpeningStock result }
 {

@@ -1,4 +1,4 @@
--- What an audit of all desks has told so far.
+-- The result of an audit of all desks so far.
 use Rattle.std.proofs.Common.{◌≡◌, ℕ, ◌+◌, ◌<◌, Bool, true, false, List, length, subst, below_more}
 use Rattle.std.specs.Prelude.{IsTrue, ◌&&◌}
 use Rattle.queues.specs.Desks.{DeskView}

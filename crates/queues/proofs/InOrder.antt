@@ -31,7 +31,7 @@ module _ {T : Type 0} where
   all_set F vs i w others mine j u e =
       ⊎_elim (λ (t : (j ≡ i) × (w ≡ u)). subst (λ (y : ℕ × View T). F y.0 y.1) (λ k. (sym t.0 k, t.1 k)) mine) (λ (t : (j ≢ i) × (get_elem? vs j ≡ some u)). others j u t.0 t.1) (at_set vs i j w u e)
 
-  -- what stands at a place of a list with one more at its end
+  -- the element at a place of a list with one more at its end
   at_snoc : (vs : List (View T)) (a b : View T) (j : ℕ) → get_elem? (vs ++ a ∷ []) j ≡ some b → (get_elem? vs j ≡ some b) ⊎ ((length vs ≡ j) × (a ≡ b))
   at_snoc [] a b zero e = inr (refl, some-injective a b e)
   at_snoc [] a b (suc j) e = absurd (some-ne-none b (sym e))
@@ -191,7 +191,7 @@ module _ {T : Type 0} where
             (in_order_spent holds.taker holds.senders seat holds.all holds.got other);
       }
 
-  -- who is taker and sender may hand the sender back
+  -- a place that is both taker and sender may hand the sender back
   pub hands_back : (id : ℕ) (v : View T) → v.takes ≡ true → v.sends ≡ true → Forks AreInOrder id v (taker_view v.senders v.got) (sender_view v.number v.put)
   hands_back id v may sends standing views holds at =
       let left = taker_view v.senders v.got in
@@ -221,7 +221,7 @@ module _ {T : Type 0} where
             (record { as_sender = λ _. (own.0, moved_here holds.seat v.number (length vs), own.2); as_taker = λ h. absurd (true≢false (sym h)) });
       }
 
-  -- who is taker and sender learns what stands in the queue of the sender
+  -- a place that is both taker and sender learns the queue's messages of the sender
   pub compares : (id : ℕ) (v : View T) → v.takes ≡ true → v.sends ≡ true → Learns AreInOrder id v (IsCompared v)
   compares id v may sends standing views holds at =
       let mine = (holds.each id v at).as_taker may in

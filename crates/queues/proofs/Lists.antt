@@ -1,10 +1,10 @@
--- What stands at a place of a list that was changed, by `slice_get`.
+-- The element at a place of a list that was changed, by `slice_get`.
 use Rattle.std.proofs.Common.{◌≡◌, ◌≢◌, ℕ, zero, suc, ◌+◌, ◌<◌, ◌⊎◌, List, [], ◌∷◌, ◌++◌, length, set, refl, sym, ap, ◌∙◌, subst, inl, inr, ⊎_elim, arith, length-append}
 use Rattle.std.specs.Prelude.{Some, slice_get}
 use Rattle.std.proofs.lemmas.Option.{none-some, same_Some}
 
 module _ {A : Type 0} where
-  -- what stands at a place of a list in which one place was written
+  -- the element at a place of a list in which one place was written
   pub at_set : (l : List A) (i j : ℕ) (a b : A) → slice_get (set l i a) j ≡ Some b → ((j ≡ i) × (a ≡ b)) ⊎ ((j ≢ i) × (slice_get l j ≡ Some b))
   at_set [] i j a b e = absurd (none-some b e)
   at_set (x ∷ xs) zero zero a b e = inl (refl, same_Some a b e)
@@ -12,7 +12,7 @@ module _ {A : Type 0} where
   at_set (x ∷ xs) (suc i) zero a b e = inr ((λ h. omega arith), e)
   at_set (x ∷ xs) (suc i) (suc j) a b e = ⊎_elim (λ (t : (j ≡ i) × (a ≡ b)). inl (ap suc t.0, t.1)) (λ (t : (j ≢ i) × (slice_get xs j ≡ Some b)). let n = t.0 in inr ((λ h. n (omega arith)), t.1)) (at_set xs i j a b e)
 
-  -- what stands at a place of a list with one more at its end
+  -- the element at a place of a list with one more at its end
   pub at_snoc : (l : List A) (a b : A) (j : ℕ) → slice_get (l ++ a ∷ []) j ≡ Some b → (slice_get l j ≡ Some b) ⊎ ((length l ≡ j) × (a ≡ b))
   at_snoc [] a b zero e = inr (refl, same_Some a b e)
   at_snoc [] a b (suc j) e = absurd (none-some b e)
@@ -39,7 +39,7 @@ module _ {A : Type 0} where
     λ k b e. subst (λ n. F n b) (let e : from + suc k ≡ from + 1 + k = omega arith in e) (all (suc k) b (ap (λ m. slice_get m (suc k)) is ∙ e)),
   )
 
-  -- what stands at a place within the list
+  -- the element at a place within the list
   pub found : (F : ℕ → A) (l : List A) (k n : ℕ) → length l ≡ n → ((j : ℕ) (a : A) → slice_get l j ≡ Some a → a ≡ F j) → k < n → slice_get l k ≡ Some (F k)
   found F [] k n long all low = absurd (omega (arith, long))
   found F (x ∷ xs) zero n long all low = ap Some (all 0 x refl)

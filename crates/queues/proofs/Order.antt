@@ -15,7 +15,7 @@ module _ {T : Type 0} where
         | false ↦ rest
       ]
 
-  -- a message of the sender comes last
+  -- a message of the sender is added at the end
   pub of-own : (number : ℕ) (xs : List (Sent T)) (s : Sent T) → s.sender ≡ number → of number (xs ++ s ∷ []) ≡ of number xs ++ s.message ∷ []
   of-own number xs s own =
       of-append number xs (s ∷ []) ∙ ap (λ b. of number xs ++ (if b then s.message ∷ [] else [])) (eq-eqb s.sender number own)

@@ -1,18 +1,18 @@
--- What an audit of all desks tells.
+-- The result of an audit of all desks.
 use Rattle.std.specs.Prelude.{◌≡◌, ℕ, List, ◌++◌, Some, slice_get}
 use Rattle.queues.specs.Order.{of}
 use Rattle.queues.specs.Desks.{DeskView, put_to}
 
 module _ {T : Type 0} where
-  -- what the one desk got of the other is a beginning of what that one has put into its inbox
+  -- what `mine` got from `other` is a beginning of what `other` has put into its inbox
   abbrev pub GotBeginning : DeskView T → DeskView T → Type 0
   GotBeginning mine other = (rest : List T) × (put_to other mine.number ≡ of other.number mine.got ++ rest)
 
-  -- and all of it
+  -- what `mine` got from `other` is everything that `other` has put into its inbox
   abbrev pub GotWhole : DeskView T → DeskView T → Type 0
   GotWhole mine other = put_to other mine.number ≡ of other.number mine.got
 
-  -- the desks at these places
+  -- the same for the desks at these places
   abbrev pub PairInOrder : List (DeskView T) → ℕ → ℕ → Type 0
   PairInOrder desks taker sender = (mine other : DeskView T) → slice_get desks taker ≡ Some mine → slice_get desks sender ≡ Some other → GotBeginning mine other
 

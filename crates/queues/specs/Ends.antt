@@ -1,15 +1,15 @@
--- What a contract sees of a sender and of a taker.
+-- The views that contracts have of a sender and of a taker.
 use Rattle.std.specs.Prelude.{ℕ, List}
 use Rattle.atomic_table.specs.Seated.{TableId}
 use Rattle.queues.specs.declared.sent.Sent.{Sent}
 
--- which inbox it puts into, its number, and the messages that it has put, in order
+-- the inbox it puts into, its number, and the messages that it has put, in order
 pub record SenderView (T : Type 0) : Type 0 where
   pub inbox : TableId
   pub number : ℕ
   pub put : List T
 
--- which inbox it takes from, how many senders this has, and the messages that it got, in order
+-- the inbox it takes from, the number of the inbox's senders, and the messages that it got, in order
 pub record TakerView (T : Type 0) : Type 0 where
   pub inbox : TableId
   pub senders : ℕ

@@ -1,4 +1,4 @@
--- The table of no inbox: what a name has where none was picked.
+-- The table of no inbox: the value of names where none are chosen.
 use Rattle.std.specs.Prelude.{[]}
 use Rattle.atomic_table.specs.Seated.{TableId}
 

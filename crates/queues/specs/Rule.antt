@@ -1,4 +1,4 @@
--- The rule of an inbox's queue, over what stands in it and the views of all places.
+-- The rule of an inbox's queue, over its contents and the views of all places.
 use Rattle.std.specs.Prelude.{◌≡◌, ℕ, ◌<◌, ◌≤◌, true, false, List, [], ◌++◌}
 use mathlib.Core.Option.{some}
 use lib.ListN.{get_elem?}
@@ -11,24 +11,26 @@ module _ {T : Type 0} where
   abbrev pub sender_view : ℕ → List T → View T
   sender_view number put = record { sends = true; number = number; put = put; takes = false; senders = 0; got = [] }
 
-  -- the view of the taker that has made so many senders and got these messages
+  -- the view of a taker that has made so many senders and got these messages
   abbrev pub taker_view : ℕ → List (Sent T) → View T
   taker_view senders got = record { sends = false; number = 0; put = []; takes = true; senders = senders; got = got }
 
-  -- the view of a taker that has taken in a sender
+  -- the view of a taker that has absorbed a sender
   abbrev pub both_views : View T → View T → View T
   both_views taker sender = record { sends = true; number = sender.number; put = sender.put; takes = true; senders = taker.senders; got = taker.got }
 
-  -- the view of a place that was taken in by another
+  -- the view of a place that another place absorbed
   abbrev pub spent_view : View T
   spent_view = record { sends = false; number = 0; put = []; takes = false; senders = 0; got = [] }
 
-  -- a view at a place, where so many senders were made, `seat` has the place of each, `all` was put by all of them, and `got` was taken of it
+  -- The view of one place. So many senders were made; `seat` maps the number of each to its place; `all` are the
+  -- messages put by all of them, and `got` those taken.
   pub record IsInOrder (taker senders : ℕ) (seat : ℕ → ℕ) (all got : List (Sent T)) (place : ℕ) (v : View T) : Type 0 where
     pub as_sender : v.sends ≡ true → (v.number < senders) × (seat v.number ≡ place) × (v.put ≡ of v.number all)
     pub as_taker : v.takes ≡ true → (place ≡ taker) × (v.senders ≡ senders) × (v.got ≡ got)
 
-  -- All that was put is in one order, of which a first part was got and the rest stands in the queue. Each sender has put what is of its number in it, and none has a number that was not given out.
+  -- All messages put are in one order: those got come first, and those in the queue are the rest. Each sender has put
+  -- the messages with its number, and no message has a number that was not given out.
   pub record AreInOrder (standing : List (Sent T)) (views : List (View T)) : Type 0 where
     pub taker : ℕ
     pub senders : ℕ
@@ -39,7 +41,8 @@ module _ {T : Type 0} where
     pub no_other : (number : ℕ) → senders ≤ number → of number all ≡ []
     pub each : (place : ℕ) (v : View T) → get_elem? views place ≡ some v → IsInOrder taker senders seat all got place v
 
-  -- of the sender of this view, what was got and then what stands in the queue is what it put; its number was given out, and no message has a number that was not
+  -- The messages got from the sender of this view, followed by its messages in the queue, are those that it put. Its
+  -- number was given out, and no message has a number that was not.
   pub record IsCompared (v : View T) (standing : List (Sent T)) : Type 0 where
     pub put : v.put ≡ of v.number v.got ++ of v.number standing
     pub given_out : v.number < v.senders

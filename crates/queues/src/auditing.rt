@@ -3,8 +3,9 @@ ghost use Rattle.queues.specs.Audited.{GotInOrder, GotAll, PairInOrder, PairWhol
 
 use crate::{Desk, InboxNames};
 
-/// Learns how what each desk got goes together with what each has put into its inbox. All stay as they were. The answer
-/// is whether nothing stood in any inbox: then each got all that was put there.
+/// Establishes for contracts that each desk got a beginning of what each desk has put into its inbox, in order. All
+/// desks are unchanged. Returns whether every inbox was empty: then each desk got everything that was put into its
+/// inbox.
 pub fn audit_all<T: Drop, J: InboxNames>(desks: &mut Vec<Desk<T, J>>) -> bool
     ensures same { desks.new.items ≡ desks.old.items }
     ensures in_order { GotInOrder desks.old.items }
@@ -18,7 +19,7 @@ pub fn audit_all<T: Drop, J: InboxNames>(desks: &mut Vec<Desk<T, J>>) -> bool
     whole
 }
 
-// The same for what one of them got.
+// The same for what desk `taker` got.
 fn audit_one<T: Drop, J: InboxNames>(desks: &mut Vec<Desk<T, J>>, taker: usize) -> bool
     requires { taker < vec_len desks.old }
     ensures same { desks.new.items ≡ desks.old.items }
@@ -33,7 +34,7 @@ fn audit_one<T: Drop, J: InboxNames>(desks: &mut Vec<Desk<T, J>>, taker: usize) 
     whole
 }
 
-// The same for what one of them got of one of them.
+// The same for what desk `taker` got from desk `sender`.
 fn audit_pair<T: Drop, J: InboxNames>(
     desks: &mut Vec<Desk<T, J>>,
     taker: usize,

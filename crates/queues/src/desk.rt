@@ -6,8 +6,8 @@ use crate::{InboxNames, Sender, Sent, Taker};
 use std::marker::{Model, PhantomData};
 use std::sync::Wait;
 
-/// What one of several threads has of their inboxes: it takes from its own, and puts into any. Its messages have its
-/// number. A desk may be sent to another thread.
+/// One thread's access to the inboxes of several threads: it takes from its own inbox and puts into any. Its messages
+/// carry its number. A desk may be sent to another thread.
 #[derive(Drop)]
 pub struct Desk<T, J: InboxNames> {
     pub(crate) number: u32,
@@ -27,7 +27,7 @@ impl<T, J: InboxNames> Model for Desk<T, J> {
 }
 
 impl<T: Drop, J: InboxNames> Desk<T, J> {
-    /// Its number, which its messages have.
+    /// Returns the number of the desk, which its messages carry.
     pub fn number(&self) -> u32
         ensures number { result ≡ self.now.number }
         ensures has_inbox { result < J.inboxes }
@@ -35,14 +35,15 @@ impl<T: Drop, J: InboxNames> Desk<T, J> {
         self.number
     }
 
-    /// How many inboxes there are.
+    /// Returns the number of inboxes.
     pub fn inboxes(&self) -> usize
         ensures { result ≡ J.inboxes }
     {
         self.senders.len()
     }
 
-    /// Puts a message at the end of the inbox of this number. Where there is no room it comes back, and nothing changes.
+    /// Puts a message at the end of the inbox `to`. If the inbox has no room, returns the message; nothing changes
+    /// then.
     pub fn put<R: Wait>(&mut self, rt: &R, to: usize, message: T) -> Result<(), T>
         requires { to < J.inboxes }
         ensures put { OnOk result (self.new ≡ with_put self.old to message) }
@@ -51,15 +52,16 @@ impl<T: Drop, J: InboxNames> Desk<T, J> {
         self.senders[to].put(rt, message)
     }
 
-    /// Takes the first message of its own inbox, with the number of the desk that put it; `None` where none stands there.
+    /// Takes the first message of its own inbox, with the number of the desk that put it; `None` if the inbox is empty.
     pub fn take<R: Wait>(&mut self, rt: &R) -> Option<Sent<T>>
         ensures { MatchOption result (self.new ≡ self.old) (λ sent. self.new ≡ with_got self.old sent) }
     {
         self.taker.take(rt)
     }
 
-    /// Learns how what it got goes together with what another desk has put into its inbox. Both stay as they were. The
-    /// answer is whether nothing stood in its inbox: then it got all that the other has put there.
+    /// Establishes for contracts that what it got from another desk is a beginning of what that desk has put into its
+    /// inbox, in order. Both are unchanged. Returns whether its inbox was empty: then it got everything that the other
+    /// desk has put there.
     pub fn audit(&mut self, other: &mut Desk<T, J>) -> bool
         ensures same { (self.new ≡ self.old) × (other.new ≡ other.old) }
         ensures beginning { (rest : List T) × (put_to other.old self.old.number ≡ of other.old.number self.old.got ++ rest) }
@@ -69,7 +71,7 @@ impl<T: Drop, J: InboxNames> Desk<T, J> {
         self.taker.audit(&mut other.senders[self.number as usize])
     }
 
-    /// Learns the same of what the desk itself has put into its inbox.
+    /// The same for what the desk itself has put into its inbox.
     pub fn audit_own(&mut self) -> bool
         ensures same { self.new ≡ self.old }
         ensures beginning { (rest : List T) × (put_to self.old self.old.number ≡ of self.old.number self.old.got ++ rest) }

@@ -1,9 +1,9 @@
-//! An inbox of messages with one taker and many senders, without a lock. What was taken from it, followed
-//! by what stands in it, is one order of all that was put: each message once and whole, and the messages of
-//! each sender in the order in which it put them.
+//! An inbox of messages with one taker and many senders, without a lock. The messages taken from it, followed by those
+//! that are in it, are all messages put, in one order: each message once and whole, and the messages of each sender in
+//! the order in which it put them.
 //!
-//! A `Desk` has what one of several threads needs of the inboxes of all. Only `open`, `takers` and `desks` take memory, and
-//! `Taker::open`.
+//! A `Desk` is one thread's access to the inboxes of several threads. Only `open`, `takers`, `desks` and `Taker::open`
+//! allocate.
 #![tactic(auto)]
 
 mod auditing;

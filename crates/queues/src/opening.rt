@@ -7,8 +7,8 @@ use std::alloc::{AllocError, Global};
 use std::collections::VecDeque;
 use std::marker::PhantomData;
 
-/// A new inbox with room for so many messages: its senders, each at the place of its number, and its taker.
-/// Nothing is left after an error.
+/// Opens an inbox with room for `room` messages. Returns its senders, by number, and its taker. Nothing is left after
+/// an error.
 pub fn open<T: Drop>(
     alloc: Global,
     room: usize,
@@ -27,7 +27,7 @@ pub fn open<T: Drop>(
     Ok((all, taker))
 }
 
-/// So many new inboxes, each with room for so many messages, which have no sender yet: their takers. Nothing is left
+/// Opens `count` inboxes without senders, each with room for `room` messages, and returns their takers. Nothing is left
 /// after an error.
 pub fn takers<T: Drop>(alloc: Global, room: usize, count: u32) -> Result<Vec<Taker<T>>, AllocError>
     requires { 0 < room }
@@ -40,7 +40,7 @@ pub fn takers<T: Drop>(alloc: Global, room: usize, count: u32) -> Result<Vec<Tak
     Ok(takers)
 }
 
-/// A desk for each of these inboxes, in the order of their numbers. Nothing is left after an error.
+/// Returns a desk for each of these inboxes, by number. Nothing is left after an error.
 pub fn desks<T: Drop, J: InboxNames>(
     alloc: Global,
     mut takers: Vec<Taker<T>>,
@@ -72,7 +72,7 @@ pub fn desks<T: Drop, J: InboxNames>(
     Ok(desks)
 }
 
-// One more sender of each inbox, where each has this many.
+// Returns one more sender of each inbox; each inbox has `number` senders before.
 fn senders_of<T: Drop, J: InboxNames>(
     alloc: Global,
     takers: &mut Vec<Taker<T>>,

@@ -15,7 +15,7 @@ pub type Board<T> = Arc<RuledArrayQueue<Sent<T>, View<T>, OneOrder>, Global>;
 
 pub type Place<T> = Pass<Sent<T>, View<T>>;
 
-/// A queue with room for so many messages, and the taker's place.
+/// Opens a queue with room for `room` messages. Returns it with the taker's place.
 pub fn open<T: Drop>(alloc: Global, room: usize) -> Result<(Board<T>, Place<T>), AllocError>
     requires { 0 < room }
     ensures place { IfOk result (λ pair. IsPassOf (arc_value pair.0) pair.1) }
@@ -26,7 +26,7 @@ pub fn open<T: Drop>(alloc: Global, room: usize) -> Result<(Board<T>, Place<T>),
     Ok((board, place))
 }
 
-/// The taker makes one more sender, with the next number.
+/// The taker makes one more sender, with the next number. Returns the sender's place.
 pub fn one_more<T>(board: &Board<T>, place: &mut Place<T>) -> Place<T>
     requires place { IsPassOf (arc_value board.now) place.old }
     requires taker { (view place.old).takes ≡ true }
@@ -38,7 +38,7 @@ pub fn one_more<T>(board: &Board<T>, place: &mut Place<T>) -> Place<T>
     board.another::<OneMore>(place)
 }
 
-/// A place that may do nothing, to stand where another was.
+/// Returns one more place at the queue, a placeholder for another place.
 pub fn spare<T>(board: &Board<T>, place: &mut Place<T>) -> Place<T>
     requires place { IsPassOf (arc_value board.now) place.old }
     ensures place { IsPassOf (arc_value board.now) place.new }
@@ -48,7 +48,7 @@ pub fn spare<T>(board: &Board<T>, place: &mut Place<T>) -> Place<T>
     board.another::<Spare>(place)
 }
 
-/// The taker takes in a sender.
+/// The taker's place absorbs the place of a sender.
 pub fn take_in<T>(board: &Board<T>, place: &mut Place<T>, sender: Place<T>)
     requires place { IsPassOf (arc_value board.now) place.old }
     requires beside { IsPassOf (arc_value board.now) sender }
@@ -60,7 +60,7 @@ pub fn take_in<T>(board: &Board<T>, place: &mut Place<T>, sender: Place<T>)
     board.absorb::<TakeIn>(place, sender);
 }
 
-/// The sender that was taken in goes to a place of its own.
+/// The absorbed sender gets a place of its own again, which is returned.
 pub fn hand_back<T>(board: &Board<T>, place: &mut Place<T>) -> Place<T>
     requires place { IsPassOf (arc_value board.now) place.old }
     requires both { ((view place.old).takes ≡ true) × ((view place.old).sends ≡ true) }
@@ -72,7 +72,7 @@ pub fn hand_back<T>(board: &Board<T>, place: &mut Place<T>) -> Place<T>
     board.another::<HandBack>(place)
 }
 
-/// A sender puts a message that has its number; where there is no room it comes back.
+/// A sender puts a message with its number. If the queue has no room, returns the message.
 pub fn put<T, R: Wait>(
     board: &Board<T>,
     rt: &R,
@@ -88,7 +88,7 @@ pub fn put<T, R: Wait>(
     board.push_as::<Puts, R>(rt, place, sent)
 }
 
-/// The taker takes the first message, if one stands there.
+/// The taker takes the first message, if there is one.
 pub fn take<T, R: Wait>(board: &Board<T>, rt: &R, place: &mut Place<T>) -> Option<Sent<T>>
     requires place { IsPassOf (arc_value board.now) place.old }
     requires taker { (view place.old).takes ≡ true }
@@ -98,8 +98,8 @@ pub fn take<T, R: Wait>(board: &Board<T>, rt: &R, place: &mut Place<T>) -> Optio
     board.pop_as::<Takes, R>(rt, place)
 }
 
-/// Who is taker and sender compares what was put with what was got and what stands in the queue; whether
-/// nothing stood there.
+/// A place that is both taker and sender compares what was put with what was got and what is in the queue. Returns
+/// whether the queue was empty.
 pub fn compare<T>(board: &Board<T>, place: &mut Place<T>) -> bool
     requires place { IsPassOf (arc_value board.now) place.old }
     requires both { ((view place.old).takes ≡ true) × ((view place.old).sends ≡ true) }

@@ -3,9 +3,9 @@ use crate::Sent;
 use crossbeam_queue::protocol::{Join, Lesson, Outcome, Protocol, Split};
 use std::collections::LinkedList;
 
-/// What a place at the queue knows. No value of it is made.
+/// What a place at the queue records. Ghost data only; no value of it is made.
 pub struct View<T> {
-    /// Whether it may put messages, as the sender of this number, and what it has put.
+    /// Whether it may put messages, as the sender with this number, and what it has put.
     pub sends: bool,
     pub number: u32,
     pub put: LinkedList<T>,
@@ -15,7 +15,7 @@ pub struct View<T> {
     pub got: LinkedList<Sent<T>>,
 }
 
-/// What was got, followed by what stands in the queue, is one order of all that was put.
+/// The messages got, followed by those in the queue, are all messages put, in one order.
 pub struct OneOrder;
 
 impl<T> Protocol<Sent<T>, View<T>> for OneOrder {
@@ -39,7 +39,7 @@ impl<T> Split<View<T>> for OneMore {
     ghost right = { λ v. sender_view v.senders [] };
 }
 
-/// The taker makes a place that knows nothing and may do nothing.
+/// The taker makes a place without rights and records.
 pub struct Spare;
 
 impl<T> Split<View<T>> for Spare {
@@ -50,7 +50,7 @@ impl<T> Split<View<T>> for Spare {
     ghost right = { λ v. spent_view };
 }
 
-/// The taker takes in a sender, and is both.
+/// The taker's place absorbs a sender's place, and is both.
 pub struct TakeIn;
 
 impl<T> Join<View<T>> for TakeIn {
@@ -61,7 +61,7 @@ impl<T> Join<View<T>> for TakeIn {
     ghost spent = { spent_view };
 }
 
-/// The sender that was taken in goes to a place of its own again.
+/// The absorbed sender gets a place of its own again.
 pub struct HandBack;
 
 impl<T> Split<View<T>> for HandBack {
@@ -104,7 +104,7 @@ impl<T> Lesson<Sent<T>, View<T>> for Takes {
     ghost fact = { λ v standing. ⊤ };
 }
 
-/// Who is taker and sender compares what was put with what was got and what stands in the queue.
+/// A place that is both taker and sender compares what was put with what was got and what is in the queue.
 pub struct Compares;
 
 impl<T> Lesson<Sent<T>, View<T>> for Compares {

@@ -27,14 +27,14 @@ impl<T> Model for Sender<T> {
 }
 
 impl<T: Drop> Sender<T> {
-    /// The number that its messages have.
+    /// Returns the number that its messages carry.
     pub fn number(&self) -> u32
         ensures { result ≡ self.now.number }
     {
         self.number
     }
 
-    /// Puts a message at the end of the inbox. Where there is no room it comes back, and nothing changes.
+    /// Puts a message at the end of the inbox. If the inbox has no room, returns the message; nothing changes then.
     pub fn put<R: Wait>(&mut self, rt: &R, message: T) -> Result<(), T>
         ensures put { OnOk result (self.new ≡ sending self.old.inbox self.old.number (self.old.put ++ message ∷ [])) }
         ensures full { IfErr result (λ back. (back ≡ message) × (self.new ≡ self.old)) }

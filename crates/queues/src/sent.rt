@@ -1,4 +1,4 @@
-/// A message that stands in an inbox or was taken from it.
+/// A message in an inbox, or taken from it.
 #[derive(Drop)]
 pub struct Sent<T> {
     /// The number of the sender that put it.

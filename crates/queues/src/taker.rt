@@ -30,8 +30,8 @@ impl<T> Model for Taker<T> {
 }
 
 impl<T: Drop> Taker<T> {
-    /// A new inbox with room for so many messages, which has no sender yet: its taker. Nothing is left
-    /// after an error.
+    /// Opens an inbox without senders, with room for `room` messages. Returns its taker. Nothing is left after an
+    /// error.
     pub fn open(alloc: Global, room: usize) -> Result<Taker<T>, AllocError>
         requires { 0 < room }
         ensures { IfOk result (λ taker. taker ≡ taking taker.inbox 0 []) }
@@ -44,8 +44,8 @@ impl<T: Drop> Taker<T> {
         })
     }
 
-    /// One more sender of the inbox, with the next number from 0 on. It takes no memory, and fails only where the
-    /// inbox has more ends than an `Arc` can count; then nothing changes.
+    /// Returns one more sender of the inbox, with the next number, counted from 0. Never allocates. Fails only if the
+    /// inbox has more ends than an `Arc` can count; nothing changes then.
     pub fn sender(&mut self) -> Result<Sender<T>, AllocError>
         requires { self.old.senders + 1 < 2 ^ 32 }
         ensures sender { IfOk result (λ sender. sender ≡ sending self.old.inbox self.old.senders []) }
@@ -63,7 +63,7 @@ impl<T: Drop> Taker<T> {
         })
     }
 
-    /// Takes the first message of the inbox, with the number of its sender; `None` where none stands there.
+    /// Takes the first message of the inbox, with the number of its sender; `None` if the inbox is empty.
     pub fn take<R: Wait>(&mut self, rt: &R) -> Option<Sent<T>>
         ensures taken { MatchOption result (self.new ≡ self.old) (λ sent. self.new ≡ taking self.old.inbox self.old.senders (self.old.got ++ sent ∷ [])) }
         ensures same { (self.new.inbox ≡ self.old.inbox) × (self.new.senders ≡ self.old.senders) }
@@ -71,8 +71,9 @@ impl<T: Drop> Taker<T> {
         places::take(&self.board, rt, &mut self.place)
     }
 
-    /// Learns how what it got goes together with what a sender of the inbox has put. Both stay as they were. The
-    /// answer is whether nothing stood in the inbox: then it got all that the sender has put.
+    /// Establishes for contracts that what it got from a sender of the inbox is a beginning of what the sender has put,
+    /// in order. Both are unchanged. Returns whether the inbox was empty: then it got everything that the sender has
+    /// put.
     pub fn audit(&mut self, sender: &mut Sender<T>) -> bool
         requires { sender.old.inbox ≡ self.old.inbox }
         ensures same { (self.new ≡ self.old) × (sender.new ≡ sender.old) }

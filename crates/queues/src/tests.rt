@@ -11,7 +11,7 @@ use std::thread::Threads;
 
 type Worked<J> = Result<(Desk<u32, J>, Vec<Sent<u32>>), AllocError>;
 
-// Puts the numbers below this one into the inbox of the next desk, and takes as many messages from its own.
+// Puts the numbers from 0 to `end` - 1 into the inbox of the next desk, and takes as many messages from its own.
 fn work<J: InboxNames, R: Wait>(
     rt: &R,
     alloc: Global,
@@ -36,13 +36,13 @@ fn work<J: InboxNames, R: Wait>(
     Ok((desk, got))
 }
 
-// Whether these are the numbers below this one, in order, all of one desk.
+// Returns whether these are the numbers from 0 to `end` - 1, in order, all from one desk.
 fn are_below(got: &[Sent<u32>], sender: u32, end: u32) -> bool {
     got.len() == end as usize
         && (0..end).zip(got).all(|(number, sent)| sent.sender == sender && sent.message == number)
 }
 
-// Two desks in threads of their own, each of which puts into the inbox of the other.
+// Runs two desks in threads of their own, each of which puts into the other's inbox.
 fn exchange<J: InboxNames + Send + Sync, R: Threads + Wait + Sync>(
     rt: &R,
     alloc: Global,

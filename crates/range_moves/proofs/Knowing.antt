@@ -69,7 +69,7 @@ moved_knows (Rests here) to notes rests executor knows = moved_either (to == her
 moved_knows (Leaves here to') to notes rests executor knows = absurd (cc)
 moved_knows (Travels to') to notes rests executor knows = absurd (cc)
 
--- the slice is taken out: who had it noted where it goes
+-- the slice is taken out; the executor that had it noted its destination
 pub taken_knows : (here to : ℕ) (notes : List (Option ℕ)) → here < length notes → (executor : ℕ) → KnowsIn (Leaves here to) notes executor
     → KnowsIn (Travels to) (slice_set notes here (Some to)) executor
 taken_knows here to notes below executor knows =

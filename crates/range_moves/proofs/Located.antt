@@ -23,7 +23,7 @@ use Rattle.range_moves.proofs.Sendings.{all_begun, all_right, bringing, few_repo
 
 -- ---- another order, and other messages
 
--- what is in flight and what is parked may stand in any order
+-- the messages in flight and those that are parked may be listed in any order
 pub located_same : (more : ℕ) (h : PlacementsView) (going going' : List MessageToSlice) (sent sent' : List Dispatch) (moved : ℕ) (parked parked' : List ℕ)
     → IsPermutation going going' → IsPermutation sent sent' → IsPermutation parked parked'
     → IsLocatedWith more h going sent moved parked → IsLocatedWith more h going' sent' moved parked'
@@ -55,7 +55,7 @@ with_going more h going going' sent moved parked knows w =
     record { knows = knows; noted = w.noted; right = w.right; once = w.once; awaited = w.awaited; few = w.few; away = w.away }
 
 module _ (more : ℕ) (h : PlacementsView) (going : List MessageToSlice) (sent : List Dispatch) (moved : ℕ) (parked : List ℕ) where
-  -- a message comes to whom it was sent
+  -- a message arrives at its receiver
   pub going_less : (g : MessageToSlice) → IsLocatedWith more h (g ∷ going) sent moved parked → IsLocatedWith more h going sent moved parked
   going_less g w = with_going more h (g ∷ going) going sent moved parked (All-tail (KnowsOf h) g going w.knows) w
 
@@ -63,7 +63,7 @@ module _ (more : ℕ) (h : PlacementsView) (going : List MessageToSlice) (sent :
   pub going_more : (gs : List MessageToSlice) → All (KnowsOf h) gs → IsLocatedWith more h going sent moved parked → IsLocatedWith more h (gs ++ going) sent moved parked
   going_more gs know w = with_going more h going (gs ++ going) sent moved parked (All-append (KnowsOf h) gs going know w.knows) w
 
-  -- a message whose slice went on goes where it went
+  -- a message whose slice has left goes where the slice went
   pub forwarded : (executor w_id to : ℕ) → found_by h executor w_id ≡ Went to
       → IsLocatedWith more h (record { to = executor; w_id = w_id } ∷ going) sent moved parked
       → IsLocatedWith more h (record { to = to; w_id = w_id } ∷ going) sent moved parked × (to < h.executors)

@@ -62,7 +62,7 @@ is_away_from place none = decide (is_away place) none
 -- ---- a placement is changed
 
 module _ (h : PlacementsView) (w_id : ℕ) (placement : Placement) (some : 1 ≤ w_id) where
-  -- what does not bring its slice goes on being right
+  -- a message that does not bring the slice of this warehouse stays consistent
   still_right : (to : ℕ) (what : Moving) → brings w_id what ≡ false → IsRight h to what → IsRight (with_placement h w_id placement) to what
   still_right to (Order order) not right = (right.0, (subst (λ n. IsWithin n h.executors order) (sym (placements_same h w_id placement)) right.1.0, right.1.1))
   still_right to (Fetch at then_to) not right = (warehouse_with h w_id placement at right.0, place_other h w_id placement at some (eqb-false at w_id not) ∙ right.1)

@@ -1,9 +1,9 @@
 //! Range moves: the slices of a range of warehouses go to another executor, and messages for them follow.
 //!
-//! A move is ordered at the executor to which it goes. That one has each slice fetched from the executor that has it; who has it
-//! takes it out, notes where it went, and sends it as a parcel. A message for a slice that isn't there goes where the slice went, or
-//! is parked until it comes. Here is where the slices of all warehouses are meanwhile, and who noted what of them; nothing here
-//! takes memory but the opening.
+//! A move is ordered at its destination executor. The destination has each slice fetched from the executor that has it.
+//! That executor takes the slice out, notes its destination, and sends it as a parcel. A message for a slice that is
+//! elsewhere is forwarded to where the slice went, or parked until the slice arrives. This crate has the placements of
+//! the slices of all warehouses meanwhile, and the executors' notes of them. Only the opening allocates.
 #![tactic(auto)]
 
 mod laws;

@@ -1,8 +1,8 @@
-//! What moves are ordered, and what they send.
+//! The orders of moves, and the messages of moves.
 ghost use Rattle.std.specs.Prelude.{◌≡◌, ◌↔◌, ◌≤◌, IsTrue};
 ghost use Rattle.range_moves.specs.Orders.{IsWithin, size_of};
 
-/// The warehouses from number `lo` to number `hi` are to go to executor `to`.
+/// The warehouses from `lo` to `hi`, both included, are to go to executor `to`.
 #[derive(Clone, Copy, Debug, PartialEq, Eq)]
 pub struct MoveOrder {
     pub lo: u32,
@@ -11,15 +11,15 @@ pub struct MoveOrder {
 }
 
 impl MoveOrder {
-    /// Whether there can be such a move, of so many warehouses and executors: its range has some of the warehouses and no other
-    /// number, and there is such an executor.
+    /// Returns whether this move is possible with so many warehouses and executors: its range is not empty and has only
+    /// numbers of warehouses, and its executor exists.
     pub fn is_within(&self, warehouses: u32, executors: u32) -> bool
         ensures { IsTrue result ↔ IsWithin warehouses executors self.now }
     {
         1 <= self.lo && self.lo <= self.hi && self.hi <= warehouses && self.to < executors
     }
 
-    /// How many warehouses its range has.
+    /// Returns the number of warehouses in its range.
     pub fn size(&self) -> u32
         requires first { 1 ≤ self.now.lo }
         requires some { self.now.lo ≤ self.now.hi }
@@ -29,13 +29,13 @@ impl MoveOrder {
     }
 }
 
-/// What a move sends to an executor.
+/// A message of a move to an executor.
 #[derive(Clone, Copy, Debug, PartialEq, Eq)]
 pub enum Moving {
-    /// To the executor to which it goes: the move begins.
+    /// To the destination of the move: the move begins.
     Order(MoveOrder),
-    /// To the executor that has the slice of this warehouse: it is to go to this executor.
+    /// To the executor that has the slice of warehouse `w_id`: the slice is to go to executor `to`.
     Fetch { w_id: u32, to: u32 },
-    /// To the executor to which it goes: the slice of this warehouse.
+    /// To the destination: the slice of this warehouse.
     Parcel(u32),
 }

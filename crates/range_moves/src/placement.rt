@@ -1,20 +1,20 @@
-//! Where the slice of a warehouse is, and what executors noted of it.
+//! The placement of the slice of a warehouse, and the executors' notes of it.
 ghost use Rattle.std.specs.Prelude.{◌≡◌, ◌<◌, ◌↔◌, IsTrue, length};
 ghost use Rattle.range_moves.specs.Placements.{comes_to, fetched_from, found_in, placement_installed, placement_moved, placement_taken, is_at};
 
-/// Where the slice of a warehouse is.
+/// The place of the slice of a warehouse.
 #[derive(Clone, Copy, Debug, PartialEq, Eq)]
 pub enum Whereabouts {
     /// At this executor.
     Rests(u32),
-    /// At executor `here`, to which a fetch is on its way; it goes to executor `to` then.
+    /// At executor `here`, with a fetch on its way to it; the slice goes to executor `to` then.
     Leaves { here: u32, to: u32 },
     /// In a parcel on its way to this executor.
     Travels(u32),
 }
 
 impl Whereabouts {
-    /// The executor that has the slice, or to which it comes if it is to go.
+    /// Returns the executor that has the slice, or its destination if it is to go or on its way.
     pub(crate) fn comes_to(&self) -> u32
         ensures { result ≡ comes_to self.now }
     {
@@ -24,7 +24,7 @@ impl Whereabouts {
         }
     }
 
-    /// Whether the executor has the slice.
+    /// Returns whether the executor has the slice.
     pub(crate) fn is_at(&self, executor: u32) -> bool
         ensures { result ≡ is_at self.now executor }
     {
@@ -34,7 +34,7 @@ impl Whereabouts {
         }
     }
 
-    /// From whom it has to be fetched if it is to go to this executor: `None` where it is there.
+    /// Returns the executor from which the slice has to be fetched to get to executor `to`; `None` if it is there.
     pub(crate) fn fetched_from(&self, to: u32) -> Option<u32>
         ensures { result ≡ fetched_from self.now to }
     {
@@ -46,16 +46,17 @@ impl Whereabouts {
     }
 }
 
-/// The slice of a warehouse.
+/// The placement of the slice of a warehouse.
 #[derive(Clone, Copy, Debug, PartialEq, Eq)]
 pub struct Placement {
     pub place: Whereabouts,
-    /// By the executors' numbers: to whom the executor has sent the slice last, since a move last brought it there.
+    /// By executor number: the executor to which it last sent the slice, since a move last brought the slice there;
+    /// `None` if there is none.
     pub notes: [Option<u32>; 16],
 }
 
 impl Placement {
-    /// What an executor finds of it.
+    /// Returns what an executor finds of the slice.
     pub(crate) fn find(&self, executor: u32) -> Found
         ensures { result ≡ found_in self.now executor }
     {
@@ -68,7 +69,8 @@ impl Placement {
         }
     }
 
-    /// What it is where it is to go to an executor, which forgets where it went: it stays where it is there.
+    /// Returns the placement after a move to an executor begins: the executor's note is cleared, and the slice stays if
+    /// it is there.
     pub(crate) fn moved(&self, to: u32) -> Placement
         requires { to < 16 }
         ensures { result ≡ placement_moved self.now to }
@@ -82,7 +84,7 @@ impl Placement {
         Placement { place, notes }
     }
 
-    /// What it is where an executor took it out, and noted where it goes.
+    /// Returns the placement after executor `here` took the slice out and noted its destination `to`.
     pub(crate) fn taken(&self, here: u32, to: u32) -> Placement
         requires { here < 16 }
         ensures { result ≡ placement_taken self.now here to }
@@ -95,7 +97,7 @@ impl Placement {
         }
     }
 
-    /// What it is where an executor installed it.
+    /// Returns the placement after an executor installed the slice.
     pub(crate) fn installed(&self, here: u32) -> Placement
         ensures { result ≡ placement_installed self.now here }
     {
@@ -109,10 +111,10 @@ impl Placement {
 /// What an executor finds of a slice.
 #[derive(Clone, Copy, Debug, PartialEq, Eq)]
 pub enum Found {
-    /// It has the slice.
+    /// The executor has the slice.
     Here,
-    /// It noted that the slice went to this executor.
+    /// The executor noted that the slice went to this executor.
     Went(u32),
-    /// Neither: the slice is on its way here.
+    /// Neither. The slice is on its way here.
     Unknown,
 }

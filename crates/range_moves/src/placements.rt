@@ -1,4 +1,4 @@
-//! Where the slices of all warehouses are.
+//! The placements of the slices of all warehouses.
 ghost use Rattle.std.specs.Prelude.{◌≡◌, ◌↔◌, ◌<◌, ◌≤◌, ◌-◌, All, IfOk, IfSome, IsTrue, MatchOption, length};
 ghost use Rattle.routing.specs.Routes.{Routes};
 ghost use Rattle.range_moves.specs.Orders.{IsWithin, size_of};
@@ -11,15 +11,15 @@ use schema::{NoMemory, Scale};
 use std::alloc::Global;
 use std::marker::Model;
 
-/// Where the slices of all warehouses are, and what executors noted of them. One move is outstanding at most.
+/// The placements of the slices of all warehouses, and the executors' notes of them. At most one move is outstanding.
 ///
 /// Contracts see it as [`PlacementsView`](crate), warehouse by warehouse.
 #[derive(Drop)]
 pub struct Placements {
     executors: u32,
-    /// By the warehouses' numbers, from 1.
+    /// By warehouse number, from 1.
     placements: Vec<Placement>,
-    /// How many reports the move that is outstanding still lacks.
+    /// The number of reports that the outstanding move still lacks, 0 if no move is outstanding.
     awaited: u32,
 }
 
@@ -35,7 +35,8 @@ impl Model for Placements {
 }
 
 impl Placements {
-    /// The slice of each warehouse of the scale rests at the executor to which it is dealt out. Nothing is left after an error.
+    /// Returns placements in which the slice of each warehouse of the scale rests at the executor of the routing.
+    /// Returns NoMemory if an allocation fails; nothing is left then.
     pub fn open(alloc: Global, scale: &Scale, routing: &Routing) -> Result<Placements, NoMemory>
         requires warehouses { routing.now.warehouses ≡ scale.now.warehouses }
         requires executors { routing.now.executors ≤ 16 }
@@ -55,15 +56,15 @@ impl Placements {
         })
     }
 
-    /// How many executors there are.
+    /// Returns the number of executors.
     pub fn executors(&self) -> u32
         ensures { result ≡ self.now.executors }
     {
         self.executors
     }
 
-    /// The executor to which messages for a warehouse are sent: the one that has its slice, or to which it goes; 0 where there is no
-    /// such warehouse.
+    /// Returns the executor to which messages for a warehouse are sent: the one that has its slice, or the slice's
+    /// destination if it is to go or on its way; 0 if there is no such warehouse.
     pub fn route(&self, w_id: u32) -> u32
         ensures executor { result ≡ route_of self.now w_id }
         ensures below { result < self.now.executors }
@@ -74,7 +75,7 @@ impl Placements {
         }
     }
 
-    /// What an executor finds of the slice of a warehouse.
+    /// Returns what an executor finds of the slice of a warehouse.
     pub fn find(&self, executor: u32, w_id: u32) -> Found
         ensures { result ≡ found_by self.now executor w_id }
     {
@@ -85,14 +86,14 @@ impl Placements {
         }
     }
 
-    /// Whether a move can be ordered now: there can be such a move, and none is outstanding.
+    /// Returns whether the move can be ordered now: it is possible, and no move is outstanding.
     pub fn can_order(&self, order: &MoveOrder) -> bool
         ensures { IsTrue result ↔ ((self.now.awaited ≡ 0) × IsWithin (length self.now.placements) self.now.executors order.now) }
     {
         self.awaited == 0 && order.is_within(self.placements.len() as u32, self.executors)
     }
 
-    /// The move is outstanding from here on: as many reports are awaited as its range has warehouses.
+    /// Makes the move outstanding: it lacks as many reports as its range has warehouses.
     pub fn order(&mut self, order: &MoveOrder)
         requires { IsWithin (length self.old.placements) self.old.executors order.now }
         ensures { self.new ≡ record self.old { awaited = size_of order.now } }
@@ -100,8 +101,8 @@ impl Placements {
         self.awaited = order.size();
     }
 
-    /// The move of one warehouse begins at its destination, which forgets where the slice went: the executor from whom it is to be
-    /// fetched, and `None` where it is there.
+    /// Begins the move of one warehouse at its destination, whose note is cleared. Returns the executor from which the
+    /// slice is to be fetched; `None` if the slice is at the destination.
     pub fn move_to(&mut self, w_id: u32, to: u32) -> Option<u32>
         requires warehouse { IsWarehouse self.old w_id }
         requires to { to < self.old.executors }
@@ -115,7 +116,7 @@ impl Placements {
         placement.place.fetched_from(to)
     }
 
-    /// An executor takes the slice out, and notes where it goes.
+    /// Executor `here` takes the slice out, and notes its destination `to`.
     pub fn take_out(&mut self, w_id: u32, here: u32, to: u32)
         requires warehouse { IsWarehouse self.old w_id }
         requires here { here < self.old.executors }
@@ -126,7 +127,7 @@ impl Placements {
         self.placements[at] = self.placements[at].taken(here, to);
     }
 
-    /// An executor installs the slice.
+    /// Executor `here` installs the slice.
     pub fn install(&mut self, w_id: u32, here: u32)
         requires warehouse { IsWarehouse self.old w_id }
         requires here { here < self.old.executors }
@@ -136,7 +137,7 @@ impl Placements {
         self.placements[at] = self.placements[at].installed(here);
     }
 
-    /// One warehouse more has come to its destination: whether the move is over.
+    /// Records that one more warehouse has reached its destination. Returns whether the move is complete.
     pub fn report(&mut self) -> bool
         requires { 1 ≤ self.old.awaited }
         ensures left { self.new ≡ record self.old { awaited = self.old.awaited - 1 } }
@@ -146,21 +147,22 @@ impl Placements {
         self.awaited == 0
     }
 
-    /// Whether a move is outstanding.
+    /// Returns whether a move is outstanding.
     pub fn is_moving(&self) -> bool
         ensures { IsTrue result ↔ (1 ≤ self.now.awaited) }
     {
         1 <= self.awaited
     }
 
-    /// What is so of any: there are at most 16 executors and 64 warehouses; each slice is at one of the executors, or comes to one, and there are 16 notes of it.
+    /// Establishes for contracts the invariant: there are at most 16 executors and 64 warehouses; each slice is at one
+    /// of the executors, or on its way to one; and each placement has 16 notes.
     pub fn are_kept(&self)
         ensures { AreKept self.now }
     {
         let _ = &self.executors;
     }
 
-    // What is noted of a warehouse, where there is one.
+    // Returns the placement of a warehouse, `None` if there is no such warehouse.
     fn placement(&self, w_id: u32) -> Option<&Placement>
         ensures placement { MatchOption result (placement_of self.now w_id ≡ no_placement) (λ placement. (placement.now ≡ placement_of self.now w_id) × IsPlacementOf self.now.executors placement.now) }
         ensures executors { 1 ≤ self.now.executors }

@@ -42,7 +42,7 @@ use Rattle.slices.proofs.UndoLogs.{left_content, stand_at}
 group_at : List Stand → ℕ → Group
 group_at stands place = (get_or stands place (record { group = Warehouse 0; left = nothing; back = nothing })).group
 
--- what comes of each group of the warehouse alike, comes of all wants alike
+-- what holds of each group of the warehouse alike, holds of all wants alike
 group_wants_alike : {A : Type 0} (warehouses home : ℕ) (stands : List Stand) (wants : List Want) (F G : GroupWant → A) → AreStandsOf warehouses home stands → CanAsk warehouses home wants
     → ((group : Group) (mode : Mode) → IsGroupOf warehouses group → warehouse_of group ≡ home → F (record { group = group; mode = mode }) ≡ G (record { group = group; mode = mode }))
     → map F (group_wants wants) ≡ map G (group_wants wants)

@@ -140,7 +140,7 @@ delivery_back_changes p q key before is =
     changes_to (group_of_order key) (with_order_undelivered key before) p q (without_delivery p.tables key before) is
     (record { here = rows_here p.tables key f g before.new_order; elsewhere = rows_elsewhere p.tables key f g before.new_order }) refl refl
 
--- ---- what stood there is there again
+-- ---- the replaced rows are restored
 
 carrier_again : (orders : FinMap order_cmp order.Order) (key : OrderKey) (carrier : ℕ) (was : Option ℕ) → was ≡ carrier_at orders key → map_rows (with_carrier_back key was) (map_rows (with_carrier key carrier) orders) ≡ orders
 carrier_again orders key carrier was stood = same_map orders_total orders_exact _ _ (λ q.

@@ -58,7 +58,7 @@ held_in_any_order holdings xs ys moved held w_id =
     IsPermutation-trans (holdings w_id) (held_at w_id xs) (held_at w_id ys) (held w_id)
     (moved_by_counts (held_at w_id xs) (held_at w_id ys) (λ h. omega (arith, count_at h w_id xs, count_at h w_id ys, sum_by-IsPermutation (one_at h w_id) xs ys moved)))
 
--- and whatever is told as committed
+-- whatever contents are recorded as committed
 pub settled_held : (w_id : ℕ) (own others : List ClaimView) → held_at w_id (all_settled own ++ others) ≡ held_at w_id (own ++ others)
 settled_held w_id [] others = refl
 settled_held w_id (c ∷ own) others = either (at_home w_id c.group) (settled_held w_id own others)

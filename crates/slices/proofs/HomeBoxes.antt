@@ -43,7 +43,7 @@ part_alike t home = record {
 
 -- ---- the boxes of one warehouse
 
--- a group's place among all tells its warehouse, and its place there
+-- a group's place among all determines its warehouse, and its place there
 places_recorded : (warehouses : ℕ) (group : Group) (before number : ℕ) → IsGroupOf warehouses group → place_of group ≡ 105 * before + number → number < 105
     → (warehouse_of group ≡ before + 1) × (place_in_warehouse group ≡ number)
 places_recorded warehouses group before number is at small =

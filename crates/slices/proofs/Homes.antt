@@ -1,4 +1,4 @@
--- The groups of a warehouse, as tests and contracts tell them.
+-- The groups of a warehouse, in tests and in contracts.
 use Rattle.std.proofs.Common.{ℕ, ◌<◌, arith}
 use Rattle.requests.specs.declared.group.Group.{Group}
 use Rattle.tickets.specs.Places.{IsGroupOf, place_in_warehouse}

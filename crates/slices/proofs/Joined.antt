@@ -87,7 +87,7 @@ held_here first (s ∷ slices) w_id (suc place) d homed here at =
     ap (λ (b : Bool). if b then s.holdings else holdings_in slices w_id) (ne_eqb w_id s.home (λ e. omega (arith, e, at, first_home)))
     ∙ held_here (first + 1) slices w_id place d (λ k other small. omega (arith, homed (suc k) other (omega (arith, small)))) (omega (arith, here)) (omega (arith, at))
 
--- and another slice's is irrelevant
+-- and another slice's are irrelevant
 held_elsewhere : (slices : List SliceView) (w_id place : ℕ) (d new : SliceView) → place < length slices → new.home ≡ (get_or slices place d).home → w_id ≢ new.home
     → holdings_in (set slices place new) w_id ≡ holdings_in slices w_id
 held_elsewhere [] w_id place d new here at apart = refl

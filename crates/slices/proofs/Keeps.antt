@@ -59,7 +59,7 @@ pub record IsWritten (warehouses : ℕ) (p q : Part) (table later : LockTableVie
   pub keeps : SliceKeeps (was ∷ []) (slice_view p table) (now ∷ []) (slice_view q later)
   pub rows : ChangesOneGroup was.group (λ before. left) p.tables q.tables
 
--- what the slice is once the rows of a group changed, and what stands there, and its undo log
+-- the slice after the rows of a group changed, and its contents, and its undo log
 still_slice : (warehouses : ℕ) (p q : Part) (table later : LockTableView) (undo_logs : List UndoLogView) (place : ℕ) (next : UndoLogView) (group : Group) (left : Content) (change : Content → Content) → IsSlice warehouses p table undo_logs
     → AreStandsOf warehouses table.w_id table.stands → IsGroupOf warehouses group → warehouse_of group ≡ p.home → place ≡ place_in_warehouse group → ChangesGroup group change p q → later ≡ leaving_in table group left
     → ((d : Stand) → IsUndoLogOf q (left_after group left (get_or table.stands place d)) next) → IsSlice warehouses q later (set undo_logs place next)
@@ -129,7 +129,7 @@ undo_keeps warehouses p q table later undo_logs place undo_log next was now is s
       rows = record { here = sym own; elsewhere = changes.contents.elsewhere };
     }
 
--- ---- a claim comes back
+-- ---- a claim is taken back
 
 pub back_slice : (warehouses : ℕ) (p : Part) (table later : LockTableView) (undo_logs : List UndoLogView) (place : ℕ) (undo_log next : UndoLogView) (claim : ClaimView) → IsSlice warehouses p table undo_logs → AreStandsOf warehouses table.w_id table.stands
     → IsGroupOf warehouses claim.group → warehouse_of claim.group ≡ p.home → place ≡ place_in_warehouse claim.group → undo_log ≡ get_or undo_logs place undo_log → next.undo ≡ []

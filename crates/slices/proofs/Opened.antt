@@ -42,7 +42,7 @@ boxes_at_home p boxes are = record {
       record { known = is.known; here = is.here; place = is.place; idle = is.has ∙ ap (λ c. sharing (get_or boxes place d).group c 0) (sym (ap (λ b. b.left) is.has)) };
 }
 
--- with no step to be taken back, what stands in the groups is what the rows have
+-- without steps to undo, the current contents of the groups are those of the rows
 pub opened_slice : (warehouses : ℕ) (p : Part) (boxes : List TicketBoxView) (table : LockTableView) (undo_logs : List UndoLogView) → warehouses ≡ p.tables.scale.warehouses → AreHomeBoxesOf p boxes → table ≡ opened p.home boxes
     → length undo_logs ≡ 105 → All IsIdle undo_logs → IsSlice warehouses p table undo_logs
 opened_slice warehouses p boxes table undo_logs many are is long idle =

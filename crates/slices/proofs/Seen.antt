@@ -1,4 +1,4 @@
--- What is committed in one warehouse depends on what stands there alone.
+-- The committed contents of one warehouse depend only on its own current contents.
 use Rattle.std.proofs.Common.{◌≡◌, ◌≢◌, ℕ, Bool, true, false, List, refl, sym, ◌∙◌, ⊎_elim}
 use Rattle.std.specs.Prelude.{IsTrue, ◌==◌}
 use Rattle.std.proofs.lemmas.Bool.Decides.{eqb_tells}
@@ -30,7 +30,7 @@ not_home home group apart = ⊎_elim
     (λ (other : ((warehouse_of group == home) ≡ false) × (warehouse_of group ≢ home)). other.0)
     (eqb_tells (warehouse_of group) home)
 
--- ---- what stands in some groups
+-- ---- the contents of some groups
 
 -- these have the same where one looks
 abbrev pub AreAlike : (Group → Bool) → GroupsOfSlice → GroupsOfSlice → Type 0

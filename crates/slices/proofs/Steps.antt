@@ -136,7 +136,7 @@ none_left_over group all first undo p left none = record {
 
 -- ---- each step, with what takes it back
 
--- a row is back where it stood
+-- a row is back at its key
 restored : {K X : Type 0} {R : K → K → Ordering} → IsTotalOrder R → IsAntisymmetric R → (m : FinMap R X) (key : K) (old row : X) → map.get m key ≡ Some old → map.insert (map.insert m key row) key old ≡ m
 restored {R = R} o a m key old row is = same_map o a (map.insert (map.insert m key row) key old) m each
   where

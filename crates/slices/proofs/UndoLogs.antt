@@ -23,7 +23,7 @@ use Rattle.slices.proofs.Steps.{all_put_back_in-more, AreKept-more}
 
 -- ---- the group of a place
 
--- what stands at a group's place stands in the group
+-- the contents at a group's place are the group's
 pub stand_at : (warehouses home : ℕ) (stands : List Stand) (group : Group) (place : ℕ) (d : Stand) → AreStandsOf warehouses home stands → IsGroupOf warehouses group → warehouse_of group ≡ home → place ≡ place_in_warehouse group
     → (place < 105) × ((get_or stands place d).group ≡ group)
 stand_at warehouses home stands group place d are known near at =
@@ -57,8 +57,8 @@ back_content warehouses home p stands undo_logs group place undo_log are undo_lo
 
 -- ---- one undo log makes way for another
 
--- The rows of one group change, and what stands there, and its undo log; the rows of all other groups stay, and so do their
--- undo logs.
+-- The rows of one group change, and with them its contents and its undo log; the rows of all other groups are
+-- unchanged, and so are their contents and their undo logs.
 pub one_undo_log : (warehouses home : ℕ) (p q : Part) (stands : List Stand) (undo_logs : List UndoLogView) (group : Group) (place : ℕ) (next : UndoLogView) (change : Content → Content) (stand_change : Stand → Stand)
     → AreStandsOf warehouses home stands → AreUndoLogsOf p stands undo_logs → IsGroupOf warehouses group → warehouse_of group ≡ home → place ≡ place_in_warehouse group → ChangesGroup group change p q
     → ((stand : Stand) → stand.group ≢ group → stand_change stand ≡ stand) → ((d : Stand) → IsUndoLogOf q (stand_change (get_or stands place d)) next)
@@ -118,7 +118,7 @@ same_undo_log p stands undo_logs place undo_log next are here is same = record {
         (λ (other : ((k == place) ≡ false) × (k ≢ place)). subst (IsUndoLogOf p (get_or stands k s)) (sym (get_or-set_other undo_logs place k next d other.1)) (are.each k s d small))
         (eqb_tells k place)
 
--- ---- what stands in the group then
+-- ---- the group's contents after that
 
 -- something else is left
 left_here : (group : Group) (left : Content) (stand : Stand) → stand.group ≡ group → left_after group left stand ≡ record { group = stand.group; left = left; back = stand.back }

@@ -1,4 +1,4 @@
--- Indexes beside the rows of one warehouse.
+-- The indexes of the rows of one warehouse.
 use Rattle.std.specs.Prelude.{◌≡◌, ℕ, List, Option}
 use Rattle.std.specs.Option.{option_map}
 use Rattle.std.specs.FinMap as table
@@ -11,12 +11,12 @@ use Rattle.partitions.specs.Slots.{home_slot}
 use Rattle.indexes.specs.LatestIndex.{FitsLatestBy}
 use Rattle.indexes.specs.NameOrder.{FitsNamesBy}
 
--- the index by last name, and that of latest orders, fit the rows
+-- the index by last name and the index of latest orders fit the rows
 abbrev pub FitRows : List (List ℕ) → List ℕ → Part → Type 0
 FitRows names latest rows = FitsNamesBy (home_slot rows.home) names rows.tables × FitsLatestBy (home_slot rows.home) latest rows.tables
 
--- the orders are those before with this row at the key, or with none there; and these are the C_IDs of the order that stood
--- there, and of the one that stands there now
+-- the orders are those before, with this row at the key, or with no row there; `was` and `now` are the C_IDs of the old
+-- and of the new order at the key
 pub record IsOrderChanged (before after : Database) (key : OrderKey) (row : Option Order) (was now : Option ℕ) : Type 0 where
   pub scale : after.scale ≡ before.scale
   pub orders : after.orders ≡ put_row before.orders key row

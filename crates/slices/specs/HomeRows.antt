@@ -1,4 +1,4 @@
--- A row that is here is of the warehouse.
+-- Every row of a slice is a row of its warehouse.
 use Rattle.std.proofs.Common.{◌≡◌, ℕ, Option, Some, None, is_some, arith, refl, sym, ◌∙◌}
 use Rattle.std.specs.Prelude.{IsTrue}
 use Rattle.std.specs.FinMap as map

@@ -1,12 +1,12 @@
--- What holds of all slices, where it holds of each.
+-- Properties of all slices that follow from properties of each.
 use Rattle.std.specs.Prelude.{◌≡◌, ℕ, ◌+◌, ◌<◌, List, All, length, map, slice_index_or, slice_set}
 use Rattle.schema.specs.Database.{Database, IsWithinScale}
 use Rattle.partitions.specs.Parts.{SharedTables, shared_of, parts_of}
 use Rattle.tickets.specs.Claims.{ClaimView}
 use Rattle.slices.specs.SliceView.{SliceView, AreSlicesOf, IsClaimAt, SliceKeeps, SlicesKeep, all_at_rest, at_rest, joined}
 
--- What one slice keeps, all slices keep, as far as the claims are on groups of its warehouse; and they are still the slices
--- of all warehouses.
+-- What one slice keeps, all slices together keep, if the claims are on groups of its warehouse; and they are still the
+-- slices of all warehouses.
 abbrev pub OneSliceKeepsAll : Type 0
 OneSliceKeepsAll =
     (shared : SharedTables) (slices : List SliceView) (place : ℕ) (d new : SliceView) (before after : List ClaimView)

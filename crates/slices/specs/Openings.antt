@@ -10,13 +10,13 @@ use Rattle.tickets.specs.Openings.{OpenedGroup, contents_opened, contents_commit
 use Rattle.tickets.specs.LogSeats.{CommittedGroup}
 use Rattle.tickets.specs.Places.{IsGroupOf, place_in_warehouse, place_of, AreInPlace}
 
--- there are seats for each group of the tables, opened at its place with what the group has
+-- there are seats for each group of the tables, opened at its place with the group's contents
 pub record AreOpenedFor (tables : Database) (openings : List OpenedGroup) : Type 0 where
   pub all_there : length openings ≡ 105 * tables.scale.warehouses
   pub contents : (group : Group) (d : OpenedGroup) → IsGroupOf tables.scale.warehouses group
       → (slice_index_or openings (place_of group) d).content ≡ content tables group
 
--- the box is that of the group of the place, with what the group has and all its tickets
+-- the box is that of the group at this place, with the group's contents and all its tickets
 pub record IsBoxOf (tables : Database) (number : ℕ) (ticket_box : TicketBoxView) : Type 0 where
   pub known : IsGroupOf tables.scale.warehouses ticket_box.group
   pub place : place_of ticket_box.group ≡ number
@@ -27,7 +27,7 @@ pub record AreBoxesOf (tables : Database) (boxes : List TicketBoxView) : Type 0 
   pub all_there : length boxes ≡ 105 * tables.scale.warehouses
   pub each : (place : ℕ) (d : TicketBoxView) → place < length boxes → IsBoxOf tables place (slice_index_or boxes place d)
 
--- the box is that of the warehouse's group of the place, with what the group has and all its tickets
+-- the box is that of the warehouse's group at this place, with the group's contents and all its tickets
 pub record IsHomeBoxOf (part : Part) (number : ℕ) (ticket_box : TicketBoxView) : Type 0 where
   pub known : IsGroupOf part.tables.scale.warehouses ticket_box.group
   pub here : warehouse_of ticket_box.group ≡ part.home
@@ -39,7 +39,7 @@ pub record AreHomeBoxesOf (part : Part) (boxes : List TicketBoxView) : Type 0 wh
   pub all_there : length boxes ≡ 105
   pub each : (place : ℕ) (d : TicketBoxView) → place < length boxes → IsHomeBoxOf part place (slice_index_or boxes place d)
 
--- The boxes that stand beside the seats of what was opened for the tables are the boxes of the tables.
+-- The boxes beside the seats of what was opened for the tables are the boxes of the tables.
 abbrev pub OpenedGroupsHaveBoxes : Type 0
 OpenedGroupsHaveBoxes =
     (tables : Database) (openings : List OpenedGroup) (seats : List CommittedGroup)

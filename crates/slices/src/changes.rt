@@ -1,10 +1,10 @@
-//! What a claim leaves in its group.
+//! The change of a group's contents by a claim.
 use agreement::Change;
 use groups::Content;
 use partitions::Rows;
 use requests::Group;
 
-/// What these rows have in a group, whatever was there.
+/// The change that sets a group's contents to those of these rows, whatever they were.
 #[derive(Drop)]
 pub(crate) struct ContentOf<'a, T: Rows> {
     pub(crate) rows: &'a T,

@@ -1,4 +1,4 @@
-//! Tables are cut into slices, and slices make them whole again.
+//! Cutting tables into slices, and making whole tables of slices.
 ghost use Rattle.std.specs.Prelude.{◌≡◌, map, IfOk};
 ghost use Rattle.partitions.specs.Parts.{shared_of, parts_of};
 ghost use Rattle.slices.specs.Openings.{AreBoxesOf};
@@ -10,8 +10,8 @@ use schema::{NoMemory, Tables};
 use std::alloc::Global;
 use tickets::{GROUPS_PER_WAREHOUSE, GroupNames, TicketBox};
 
-/// A slice for each warehouse of the tables, in order, with the boxes of its groups. The rows are moved, and
-/// none is copied. Nothing is left after an error.
+/// Returns the catalog, and a slice for each warehouse of the tables, in order, with the boxes of its groups. The rows
+/// are moved, none is copied. Returns NoMemory if an allocation fails; nothing is left then.
 pub fn cut<J: GroupNames>(
     alloc: Global,
     tables: Tables,
@@ -24,7 +24,7 @@ pub fn cut<J: GroupNames>(
 {
     let (catalog, mut parts) = partitions::cut(alloc, tables)?;
     let mut slices = Vec::with_capacity(alloc, parts.len())?;
-    // The last warehouse first, whose boxes are the last.
+    // The last warehouse comes first; its boxes are the last ones.
     while let Some(partition) = parts.pop() {
         let own = boxes.split_off(parts.len() * GROUPS_PER_WAREHOUSE)?;
         slices.push(Slice::open(alloc, partition, own)?)?;
@@ -33,8 +33,8 @@ pub fn cut<J: GroupNames>(
     Ok((catalog, slices))
 }
 
-/// The tables that the slices make, with their rows as they stand. The rows are moved, and none is copied.
-/// Nothing is left after an error.
+/// Returns the tables of the slices, with their current rows. The rows are moved, none is copied. Returns NoMemory if
+/// an allocation fails; nothing is left then.
 pub fn whole<J: GroupNames>(catalog: Catalog, slices: Vec<Slice<J>>) -> Result<Tables, NoMemory>
     requires { AreSlicesOf catalog slices.items }
     ensures { IfOk result (λ tables. tables ≡ (joined catalog slices.items).tables) }

@@ -23,8 +23,8 @@ use schema::{
 use std::alloc::Global;
 use std::marker::Model;
 
-/// The rows of one warehouse, who of its customers has which name, and which order is the customer's latest.
-/// The indexes fit the rows whatever is done to them. Contracts see the rows.
+/// The rows of one warehouse, the index of its customers by last name, and the index of each customer's latest order.
+/// The indexes always fit the rows. Contracts see the rows.
 #[derive(Drop)]
 pub(crate) struct IndexedRows {
     partition: Partition,
@@ -47,7 +47,8 @@ impl Model for IndexedRows {
 }
 
 impl IndexedRows {
-    /// It sorts the customers by last name, and finds the latest order of each. Nothing is left after an error.
+    /// Returns the rows with their indexes. Sorts the customers by last name, and finds the latest order of each.
+    /// Returns NoMemory if an allocation fails; nothing is left then.
     pub(crate) fn build(alloc: Global, partition: Partition) -> Result<IndexedRows, NoMemory>
         ensures { IfOk result (λ rows. rows ≡ partition) }
     {
@@ -60,7 +61,7 @@ impl IndexedRows {
         })
     }
 
-    /// The rows alone.
+    /// Returns the rows.
     pub(crate) fn partition(&self) -> &Partition
         ensures rows { result.now ≡ self.now }
         ensures part { IsPart self.now }
@@ -70,28 +71,28 @@ impl IndexedRows {
         &self.partition
     }
 
-    /// The rows alone. It takes no memory.
+    /// Returns the rows. Never allocates.
     pub(crate) fn into_partition(self) -> Partition
         ensures { result ≡ self }
     {
         self.partition
     }
 
-    /// The customers by last name.
+    /// Returns the index of the customers by last name.
     pub(crate) fn names(&self) -> &NameIndex
         ensures { FitsNamesBy (home_slot self.now.home) result.now self.now.tables }
     {
         &self.names
     }
 
-    /// Each customer's latest order.
+    /// Returns the index of each customer's latest order.
     pub(crate) fn latest(&self) -> &LatestOrders
         ensures { FitsLatestBy (home_slot self.now.home) result.now self.now.tables }
     {
         &self.latest
     }
 
-    /// Puts a row in place of the warehouse's, and gives that. So for the next three tables.
+    /// Replaces the warehouse's row, and returns the old one. The same for the next three tables.
     pub(crate) fn replace_warehouse(&mut self, w_id: u32, row: Warehouse) -> Warehouse
         requires { IsTrue (map.contains_key self.old.tables.warehouses w_id) }
         ensures tables { self.new ≡ record self.old { tables = record self.old.tables { warehouses = map.insert self.old.tables.warehouses w_id row } } }
@@ -116,7 +117,7 @@ impl IndexedRows {
         self.partition.replace_stock(key, row).unwrap()
     }
 
-    /// The row has the names of the one that stands there.
+    /// `row` must have the names of the stored row.
     pub(crate) fn replace_customer(&mut self, key: CustomerKey, row: Customer) -> Customer
         requires there { IsTrue (map.contains_key self.old.tables.customers key) }
         requires names { AreNamesAt self.old.tables key row }
@@ -126,8 +127,8 @@ impl IndexedRows {
         self.partition.replace_customer(key, row).unwrap()
     }
 
-    /// Adds a payment at the end of the district's list; an error changes nothing. The payer may belong to
-    /// another warehouse.
+    /// Adds a payment at the end of the district's list. The payer may belong to another warehouse. Returns NoMemory if
+    /// an allocation fails; nothing changes then.
     pub(crate) fn push_history(&mut self, key: DistrictKey, row: History) -> Result<(), NoMemory>
         requires district { IsTrue (map.contains_key self.old.tables.districts key) }
         requires payer { IsTrue (has_customer self.old.tables.scale row.customer) }
@@ -137,18 +138,18 @@ impl IndexedRows {
         self.partition.push_history(key, row)
     }
 
-    /// Takes the last payment of the district's list away. It takes no memory.
+    /// Removes the last payment of the district's list. Never allocates.
     pub(crate) fn pop_history(&mut self, key: DistrictKey)
         requires { IsTrue (map.contains_key self.old.tables.histories key) }
         ensures { self.new ≡ record self.old { tables = record self.old.tables { histories = without_payment self.old.tables.histories key } } }
     {
-        // Each district that has a list has a row.
+        // Called for its contract: each district that has a list has a row.
         let _ = self.partition.home();
         self.partition.pop_history(key);
     }
 
-    /// Adds an order with all its rows, which is its customer's latest if no later one is there, and gives what
-    /// stood in their places. An error changes nothing.
+    /// Adds an order with all its rows, and returns the rows that it replaced. It is its customer's latest order if
+    /// there is no later one. Returns NoMemory if an allocation fails; nothing changes then.
     pub(crate) fn add_order(
         &mut self,
         key: OrderKey,
@@ -167,8 +168,8 @@ impl IndexedRows {
         Ok(replaced)
     }
 
-    /// Takes an order back: what stood in the places of its rows is there again, or nothing where nothing stood. It
-    /// takes no memory.
+    /// Undoes the addition of an order: restores the rows that it replaced; where it replaced none, its row is deleted.
+    /// Never allocates.
     pub(crate) fn take_back_order(&mut self, key: OrderKey, replaced: Replaced)
         requires few { length replaced.lines.items ≤ 15 }
         requires order { IsTrue (map.contains_key self.old.tables.orders key) }
@@ -183,7 +184,8 @@ impl IndexedRows {
         note_latest(&self.partition, &mut self.latest, key, was, now);
     }
 
-    /// Delivers an order, which stays its customer's, and gives what stood there before. An error changes nothing.
+    /// Delivers an order, which keeps its customer, and returns the replaced values. Returns NoMemory if an allocation
+    /// fails; nothing changes then.
     pub(crate) fn deliver_order(
         &mut self,
         key: OrderKey,
@@ -198,7 +200,7 @@ impl IndexedRows {
         self.partition.deliver_order(key, carrier, moment)
     }
 
-    /// Takes a delivery back: what stood there before it is there again. It takes no memory.
+    /// Undoes a delivery: restores the replaced values. Never allocates.
     pub(crate) fn take_back_delivery(&mut self, key: OrderKey, before: BeforeDelivery)
         requires order { IsTrue (map.contains_key self.old.tables.orders key) }
         requires fifteen { length before.moments ≡ 15 }
@@ -208,9 +210,9 @@ impl IndexedRows {
     }
 }
 
-// Notes who has which latest order, once the order at the key is another than it was, or none, or where none was. The
-// C_IDs are those of the order that stood there, and of the one that stands there now. In consistent tables no order
-// stands where one is added, and so only the customer of an order that is taken back is looked through.
+// Updates the index of latest orders after the order at the key was added, replaced or deleted. `was` and `now` are the
+// C_IDs of the old and of the new order. In consistent tables no order is stored where one is added, so only the
+// customer of an order that is undone is searched.
 fn note_latest(
     rows: &Partition,
     latest: &mut LatestOrders,
@@ -221,7 +223,7 @@ fn note_latest(
     ensures { (before : Database) (row : Option order.Order) → IsOrderChanged before rows.now.tables key row was now
         → FitsLatestBy (home_slot rows.now.home) latest.old before → FitsLatestBy (home_slot rows.now.home) latest.new rows.now.tables }
 {
-    // For its contract: no two districts have one place.
+    // Called for its contract: no two districts have the same place.
     Rows::scale(rows);
     if let Some(c_id) = now {
         latest.raise_order(rows, customer_of(key, c_id), key.o_id);
@@ -231,14 +233,14 @@ fn note_latest(
     }
 }
 
-// The C_ID of the order's customer, where there is an order.
+// Returns the C_ID of the order's customer, `None` if there is no order.
 fn number_of_customer(order: Option<&Order>) -> Option<u32>
     ensures { result ≡ option_map (λ row. row.c_id) (option_copied order.entry) }
 {
     Some(order?.c_id)
 }
 
-// The customer with that C_ID in the order's district.
+// Returns the key of the customer with that C_ID in the order's district.
 fn customer_of(order: OrderKey, c_id: u32) -> CustomerKey
     ensures { result ≡ record { w_id = order.w_id; d_id = order.d_id; c_id = c_id } }
 {

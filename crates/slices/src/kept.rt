@@ -1,4 +1,4 @@
-//! What takes back what was done under a claim, step by step.
+//! The undo records of the steps under a claim.
 ghost use Rattle.std.specs.Prelude.{◌≡◌, []};
 ghost use Rattle.requests.specs.declared.group.Group.{Group as AnyGroup};
 ghost use Rattle.groups.specs.Content.{content};
@@ -10,24 +10,24 @@ use schema::{
     Customer, CustomerKey, District, DistrictKey, OrderKey, Replaced, Stock, StockKey, Warehouse,
 };
 
-/// What takes one step back.
+/// An undo record: the data that undoes one step.
 #[derive(Drop)]
 pub(crate) enum UndoRecord {
-    /// The warehouse's row, as it was before the step. So for the next three.
+    /// The warehouse's row before the step. The same for the next three.
     Warehouse(u32, Warehouse),
     District(DistrictKey, District),
     Stock(StockKey, Stock),
     Customer(CustomerKey, Customer),
     /// The step added a payment to the district's list.
     NoPayment(DistrictKey),
-    /// The step added an order, and this stood in the places of its rows.
+    /// The step added an order, and replaced these rows.
     Order(OrderKey, Replaced),
-    /// The step delivered the order, and this stood there before.
+    /// The step delivered the order, and replaced these values.
     Delivery(OrderKey, BeforeDelivery),
 }
 
 impl UndoRecord {
-    /// Takes the step back.
+    /// Undoes the step.
     pub(crate) fn put_back(self, rows: &mut IndexedRows)
         requires { spec.CanPutBack rows.old.tables.scale self (content rows.old.tables (spec.group_of_kept self)) }
         ensures { spec.ChangesGroup (spec.group_of_kept self) (spec.put_back_in self) rows.old rows.new }
@@ -47,7 +47,7 @@ impl UndoRecord {
             }
             UndoRecord::NoPayment(key) => rows.pop_history(key),
             UndoRecord::Order(key, replaced) => {
-                // The rows that are here are the warehouse's.
+                // Called for its contract: the rows are the warehouse's.
                 let _ = rows.partition();
                 rows.take_back_order(key, replaced);
             }
@@ -56,7 +56,7 @@ impl UndoRecord {
     }
 }
 
-/// Takes all steps of a group back, the last one first. None is left.
+/// Undoes all steps of a group, from the last to the first. No undo record is left.
 pub(crate) fn put_all_back(undo: &mut Vec<UndoRecord>, rows: &mut IndexedRows)
     requires { (group : AnyGroup) × spec.AreKept rows.old.tables.scale group undo.old.items (content rows.old.tables group) }
     ensures rows { (group : AnyGroup) → spec.AreKept rows.old.tables.scale group undo.old.items (content rows.old.tables group) → spec.ChangesGroup group (spec.all_put_back_in undo.old.items) rows.old rows.new }

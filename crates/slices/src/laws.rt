@@ -1,4 +1,4 @@
-//! Laws of slices: functions that do nothing, and are proved.
+//! Laws of slices, as functions with empty bodies: their contracts are proved.
 ghost use Rattle.std.specs.Prelude.{◌≡◌, ◌↔◌, ℕ, ◌&&◌, IsTrue};
 ghost use Rattle.requests.specs.declared.group.Group.{Group};
 ghost use Rattle.groups.specs.Groups.{warehouse_of};
@@ -7,7 +7,7 @@ ghost use Rattle.slices.specs.Joining.{OneSliceKeepsAll, CutSlicesAreAtRest};
 ghost use Rattle.slices.specs.Openings.{OpenedGroupsHaveBoxes};
 ghost use Rattle.slices.specs.SliceView.{at_home, is_group};
 
-/// The tests of whether a group is one of a warehouse, and whether there is such a group, tell that.
+/// The tests `at_home` and `is_group` together are true exactly for the groups of the warehouse.
 pub fn groups_are_recorded()
     ensures { (warehouses home : ℕ) (group : Group) → IsBetween 1 warehouses home → IsTrue (at_home home group && is_group group) ↔ (IsGroupOf warehouses group × (warehouse_of group ≡ home)) }
 {}
@@ -17,7 +17,7 @@ pub fn opened_groups_have_boxes()
     ensures { OpenedGroupsHaveBoxes }
 {}
 
-/// What one slice keeps, all slices keep, as far as the claims are on groups of its warehouse.
+/// What one slice keeps, all slices together keep, if the claims are on groups of its warehouse.
 pub fn one_slice_keeps_all()
     ensures { OneSliceKeepsAll }
 {}

@@ -1,12 +1,11 @@
-//! A slice: the rows of one warehouse, and the ticket box of each of its groups. A transaction reads the rows
-//! of a group under a claim on it, and changes them under an exclusive one; all that it did in the group can
-//! be taken back.
+//! A slice: the rows of one warehouse, and the ticket box of each of its groups. A transaction reads the rows of a
+//! group under a claim on it, and changes them under an exclusive claim. Everything that it did in the group can be
+//! undone.
 //!
-//! What a slice's calls do is told by the claims that they take: what a claim left in its group, and what
-//! stands there again once that is taken back. Each call keeps what is committed in the warehouse, and so what
-//! is committed in all of them.
+//! The contracts of a slice's calls are in terms of their claims: what a claim left in its group, and what an undo
+//! restores. Each call keeps the committed contents of the warehouse, and so those of all warehouses.
 //!
-//! Nothing here waits. What takes memory says so, and then lack of memory changes nothing.
+//! No call blocks. The comment of a call states whether it allocates; if an allocation fails, nothing changes.
 #![tactic(auto)]
 
 mod changes;

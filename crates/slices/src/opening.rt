@@ -7,7 +7,8 @@ use schema::{NoMemory, Tables};
 use std::alloc::Global;
 use tickets::{GROUPS_PER_WAREHOUSE, GroupSeats, group_at};
 
-/// The seats of all groups, opened with what the tables have in each. Nothing is left after an error.
+/// Returns the seats of all groups, opened with the contents of each in the tables. Returns NoMemory if an allocation
+/// fails; nothing is left then.
 pub fn open_groups(alloc: Global, tables: &Tables) -> Result<Vec<GroupSeats>, NoMemory>
     ensures { IfOk result (λ seats. AreOpenedFor tables.now seats.items) }
 {

@@ -1,4 +1,4 @@
-//! The steps that there are, each with what it changes.
+//! The kinds of steps, and the change of each.
 ghost use Rattle.std.specs.Prelude.{◌≡◌, IsTrue};
 ghost use Rattle.std.specs.FinMap as map;
 ghost use Rattle.schema.specs.Database.{with_payment};
@@ -17,7 +17,7 @@ use schema::{
     OrderKey, OrderLine, Stock, StockKey, Warehouse,
 };
 
-/// A row takes the place of the warehouse's.
+/// Replaces the warehouse's row.
 #[derive(Drop)]
 pub(crate) struct PutWarehouse {
     pub(crate) w_id: u32,
@@ -41,7 +41,7 @@ impl Step for PutWarehouse {
     }
 }
 
-/// A row takes the place of the district's.
+/// Replaces the district's row.
 #[derive(Drop)]
 pub(crate) struct PutDistrict {
     pub(crate) key: DistrictKey,
@@ -65,7 +65,7 @@ impl Step for PutDistrict {
     }
 }
 
-/// A row takes the place of the one of STOCK.
+/// Replaces a row of STOCK.
 #[derive(Drop)]
 pub(crate) struct PutStock {
     pub(crate) key: StockKey,
@@ -89,7 +89,7 @@ impl Step for PutStock {
     }
 }
 
-/// A row takes the place of the customer's, whose names it has.
+/// Replaces the customer's row by one with the same names.
 #[derive(Drop)]
 pub(crate) struct PutCustomer {
     pub(crate) key: CustomerKey,
@@ -113,7 +113,7 @@ impl Step for PutCustomer {
     }
 }
 
-/// A payment comes to the end of the district's list.
+/// Adds a payment at the end of the district's list.
 #[derive(Drop)]
 pub(crate) struct AddPayment {
     pub(crate) key: DistrictKey,
@@ -137,7 +137,7 @@ impl Step for AddPayment {
     }
 }
 
-/// An order comes with all its rows.
+/// Adds an order with all its rows.
 #[derive(Drop)]
 pub(crate) struct AddOrder {
     pub(crate) key: OrderKey,
@@ -162,7 +162,7 @@ impl Step for AddOrder {
     }
 }
 
-/// An order is delivered.
+/// Delivers an order.
 #[derive(Drop)]
 pub(crate) struct DeliverOrder {
     pub(crate) key: OrderKey,

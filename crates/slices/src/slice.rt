@@ -44,11 +44,11 @@ use std::marker::Model;
 use tickets::{Claim, GROUPS_PER_WAREHOUSE, GroupNames, TicketBox};
 use wait_die::Holder;
 
-/// The rows of one warehouse, who of its customers has which name and which order is the customer's latest, the
-/// lock table of its 105 groups, and what takes back what was done in each.
+/// The rows of one warehouse with their indexes (its customers by last name, and each customer's latest order), the
+/// lock table of its 105 groups, and an undo log for each group.
 ///
-/// Contracts see the warehouse, its rows as they stand, with what open transactions have done to them, all claims
-/// that are out, in any order, and all who wait.
+/// Contracts see the warehouse, its current rows, including the changes of open transactions, all claims that are out,
+/// in any order, and all waiters.
 #[derive(Drop)]
 pub struct Slice<J: GroupNames> {
     rows: IndexedRows,
@@ -73,8 +73,8 @@ impl<J: GroupNames> Model for Slice<J> {
 }
 
 impl<J: GroupNames> Slice<J> {
-    /// The slice of this warehouse's rows, with the boxes of its groups. It sorts the customers by last name,
-    /// and finds the latest order of each. Nothing is left after an error.
+    /// Returns the slice of this warehouse's rows, with the boxes of its groups. Sorts the customers by last name, and
+    /// finds the latest order of each. Returns NoMemory if an allocation fails; nothing is left then.
     pub(crate) fn open(
         alloc: Global,
         partition: Partition,
@@ -98,14 +98,14 @@ impl<J: GroupNames> Slice<J> {
         })
     }
 
-    /// The W_ID of the warehouse.
+    /// Returns the W_ID of the warehouse.
     pub fn home(&self) -> u32
         ensures { result ≡ self.now.home }
     {
         self.rows.partition().home()
     }
 
-    /// The rows as they stand.
+    /// Returns the current rows.
     pub fn partition(&self) -> &Partition
         ensures rows { result.now ≡ part_in self.now }
         ensures part { IsPart (part_in self.now) }
@@ -114,29 +114,30 @@ impl<J: GroupNames> Slice<J> {
         self.rows.partition()
     }
 
-    /// The rows as they stand. It takes no memory.
+    /// Returns the current rows. Never allocates.
     pub(crate) fn into_partition(self) -> Partition
         ensures { result ≡ part_in self }
     {
         self.rows.into_partition()
     }
 
-    /// The customers by last name, as the rows stand.
+    /// Returns the index of the customers by last name, for the current rows.
     pub fn names(&self) -> &NameIndex
         ensures { FitsNamesBy (home_slot self.now.home) result.now self.now.tables }
     {
         self.rows.names()
     }
 
-    /// Each customer's latest order, as the rows stand.
+    /// Returns the index of each customer's latest order, for the current rows.
     pub fn latest(&self) -> &LatestOrders
         ensures { FitsLatestBy (home_slot self.now.home) result.now self.now.tables }
     {
         self.rows.latest()
     }
 
-    /// An action asks for all its groups at once, as `LockTable::ask` has it: it is granted a claim on each, waits
-    /// for younger holders alone, or dies of one that is not younger. Want of memory changes nothing.
+    /// An action asks for all its groups at once, as in `LockTable::ask`. It is granted a claim on each group; or it
+    /// waits, if all conflicting holders are younger; or it dies, if one of them is not younger. Returns NoMemory if an
+    /// allocation fails; nothing changes then.
     pub fn ask(&mut self, alloc: Global, by: Holder, wants: &[Want]) -> Result<Asked<J>, NoMemory>
         requires { CanAsk J.warehouses self.old.home wants.now }
         ensures answers { IfOk result (λ asked. AnswersIn by wants.now self.old asked self.new) }
@@ -144,16 +145,16 @@ impl<J: GroupNames> Slice<J> {
         ensures err { OnErr result (self.new ≡ self.old) }
         ensures death_takes_none { OnErr result ((group : AnyGroup) (age : ℕ) → MustDie self.old.holdings by.age wants.now group age → ⊥) }
     {
-        // What stands in the groups is known before; that no two claims conflict, is so after.
+        // Before the call this establishes the contents of the groups; after it, that no two claims conflict.
         self.locks.agree();
         let asked = self.locks.ask(alloc, by, wants)?;
         self.locks.agree();
         Ok(asked)
     }
 
-    /// An action asks for all its groups at once, and is granted a claim on each, want by want, those of a prefix in
-    /// the order of groups. `None` where somebody is in its way or there is no memory: nothing has changed then, and
-    /// it doesn't wait.
+    /// An action asks for all its groups at once, and is granted a claim on each, want by want; those of a prefix are
+    /// in the order of groups. Returns `None` if a holder conflicts or an allocation fails: nothing changes then, and
+    /// the action doesn't wait.
     pub fn ask_at_once(
         &mut self,
         alloc: Global,
@@ -166,7 +167,7 @@ impl<J: GroupNames> Slice<J> {
         ensures kept { IfSome result (λ claims. SliceKeeps [] self.old claims.items self.new) }
         ensures none { IfNone result (self.new ≡ self.old) }
     {
-        // What stands in the groups is known before; that no two claims conflict, is so after.
+        // Before the call this establishes the contents of the groups; after it, that no two claims conflict.
         self.locks.agree();
         let Ok(Asked::Granted(claims)) = self.locks.ask_at_once(alloc, by, wants) else {
             return None;
@@ -175,8 +176,9 @@ impl<J: GroupNames> Slice<J> {
         Some(claims)
     }
 
-    /// The turn of the oldest of those who need not wait any more, and of one age of the one of the least
-    /// place: it is granted or dies. `None` where all have to wait. It takes no memory.
+    /// Gives the oldest of the waiters that need not wait any longer its turn: it is granted its claims, or dies. Among
+    /// waiters of the same age, the one with the least place comes first. Returns `None` if all waiters have to wait;
+    /// nothing changes then. Never allocates.
     pub fn next_grant(&mut self) -> Option<Turn<J>>
         ensures turn { IfSome result (λ turn. TakesTurnIn self.old turn self.new) }
         ensures kept { IfSome result (λ turn. SliceKeeps [] (with_waiters self.new.waiters self.old) (claims_of_turn turn) self.new) }
@@ -189,8 +191,8 @@ impl<J: GroupNames> Slice<J> {
         Some(turn)
     }
 
-    /// Learns that what a claim left stands in its group. A shared claim left what it tells
-    /// (`Claim::look_untouched`).
+    /// Establishes for contracts that the contents left by a claim are the group's current contents. A shared claim
+    /// left the contents that it records (`Claim::look_untouched`). Both are unchanged.
     pub fn look(&mut self, claim: &mut Claim<J>)
         requires home { IsClaimAt self.old.home claim.old }
         ensures left { claim.old.left ≡ content self.old.tables claim.old.group }
@@ -200,8 +202,8 @@ impl<J: GroupNames> Slice<J> {
         self.locks.look(claim);
     }
 
-    /// Puts a row in place of the warehouse's, under an exclusive claim on it. Want of memory changes
-    /// nothing. So for the next six.
+    /// Replaces the warehouse's row, under an exclusive claim on its group. Returns NoMemory if an allocation fails;
+    /// nothing changes then. The same holds for the six calls below.
     pub fn put_warehouse(
         &mut self,
         claim: &mut Claim<J>,
@@ -253,7 +255,7 @@ impl<J: GroupNames> Slice<J> {
         self.put(claim, PutStock { key, row })
     }
 
-    /// The row has the names of the one that stands there.
+    /// `row` must have the names of the stored row.
     pub fn put_customer(
         &mut self,
         claim: &mut Claim<J>,
@@ -272,8 +274,8 @@ impl<J: GroupNames> Slice<J> {
         self.put(claim, PutCustomer { key, row })
     }
 
-    /// Adds a payment at the end of the district's list, under an exclusive claim on it. The payer may belong
-    /// to another warehouse.
+    /// Adds a payment at the end of the district's list, under an exclusive claim on the list. The payer may belong to
+    /// another warehouse.
     pub fn add_payment(
         &mut self,
         claim: &mut Claim<J>,
@@ -292,8 +294,8 @@ impl<J: GroupNames> Slice<J> {
         self.put(claim, AddPayment { key, row })
     }
 
-    /// Adds an order, its row of NEW-ORDER and its lines, which are numbered from 1 (clause 2.4.2.2), under an
-    /// exclusive claim on the district's orders. All of it is one step.
+    /// Adds an order, its row of NEW-ORDER and its lines, numbered from 1 (clause 2.4.2.2), under an exclusive claim on
+    /// the district's orders. All of it is one step.
     pub fn add_order(
         &mut self,
         claim: &mut Claim<J>,
@@ -316,8 +318,8 @@ impl<J: GroupNames> Slice<J> {
         self.put(claim, AddOrder { key, order, lines })
     }
 
-    /// Delivers an order: it is new no more, it gets the carrier, and its lines get the moment (clause 2.7.4.2), under an
-    /// exclusive claim on the district's orders. All of it is one step.
+    /// Delivers an order: its row of NEW-ORDER is deleted, it gets the carrier, and its lines get the moment (clause
+    /// 2.7.4.2), under an exclusive claim on the district's orders. All of it is one step.
     pub fn deliver_order(
         &mut self,
         claim: &mut Claim<J>,
@@ -343,8 +345,8 @@ impl<J: GroupNames> Slice<J> {
         )
     }
 
-    // Does a step in a group of the warehouse, under an exclusive claim on it, and keeps what takes it back. Want of
-    // memory changes nothing.
+    // Does a step in a group of the warehouse, under an exclusive claim on the group, and keeps its undo record.
+    // Returns NoMemory if an allocation fails; nothing changes then.
     fn put<S: Step>(&mut self, claim: &mut Claim<J>, step: S) -> Result<(), NoMemory>
         requires group { claim.old.group ≡ S.group step }
         requires exclusive { claim.old.mode ≡ Exclusive }
@@ -354,7 +356,7 @@ impl<J: GroupNames> Slice<J> {
         ensures rows { OnOk result (self.new ≡ record self.old { tables = S.done step self.old.tables }) }
         ensures err { OnErr result ((self.new ≡ self.old) × (claim.new ≡ claim.old)) }
     {
-        // The rows that are here are the warehouse's, and so are the groups of its lock table.
+        // Called for their contracts: the rows are the warehouse's, and so are the groups of its lock table.
         let _ = self.rows.partition();
         self.locks.agree();
         let undo_log = &mut self.undo_logs[place_of_claim(claim)];
@@ -369,8 +371,8 @@ impl<J: GroupNames> Slice<J> {
         Ok(())
     }
 
-    /// Takes back all that was done under an exclusive claim: its group has again what the claim tells of it,
-    /// and nothing else changes. It takes no memory.
+    /// Undoes everything that was done under an exclusive claim: its group has the contents that the claim records as
+    /// `back` again, and nothing else changes. Never allocates.
     pub fn undo(&mut self, claim: &mut Claim<J>)
         requires home { IsClaimAt self.old.home claim.old }
         requires exclusive { claim.old.mode ≡ Exclusive }
@@ -385,8 +387,9 @@ impl<J: GroupNames> Slice<J> {
         self.locks.undo(claim);
     }
 
-    /// Takes a claim back, once what it left is committed; a shared claim left nothing. It takes no memory.
-    /// Whoever has a claim may call it: what is committed is kept, whether or not it is out to the one that it tells.
+    /// Takes a claim back, after what it left is committed; a shared claim left nothing. Never allocates. The holder of
+    /// any claim may call it: the committed contents are kept, whether or not the claim is out to the holder that it
+    /// records.
     pub fn take_back(&mut self, claim: Claim<J>)
         requires home { IsClaimAt self.old.home claim }
         requires committed { claim.mode ≡ Exclusive → claim.recorded ≡ claim.left }
@@ -398,8 +401,8 @@ impl<J: GroupNames> Slice<J> {
         self.locks.take_back(claim);
     }
 
-    /// No two claims that are out conflict, and all are on groups of the warehouse. All who wait do so for what can
-    /// be asked.
+    /// Establishes for contracts that no two claims that are out conflict, that all are on groups of the warehouse, and
+    /// that all waiters wait for wants that can be asked.
     pub fn agree(&self)
         ensures claims { All (IsClaimOf J.warehouses self.now.home) self.now.holdings }
         ensures none_conflict { NoneConflict self.now.holdings }
@@ -409,7 +412,7 @@ impl<J: GroupNames> Slice<J> {
     }
 }
 
-// The place of a claim's group among those of its warehouse.
+// Returns the place of a claim's group among those of its warehouse.
 fn place_of_claim<J: GroupNames>(claim: &Claim<J>) -> usize
     ensures known { IsGroupOf J.warehouses claim.now.group }
     ensures place { result ≡ place_in_warehouse claim.now.group }

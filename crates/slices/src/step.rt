@@ -1,4 +1,4 @@
-//! What is done in one group, with what takes it back.
+//! A step in one group, with its undo record.
 ghost use Rattle.std.specs.Prelude.{◌≡◌, IfOk, OnOk, OnErr};
 ghost use Rattle.partitions.specs.Parts.{IsPart};
 ghost use Rattle.groups.specs.Groups.{warehouse_of};
@@ -15,16 +15,16 @@ pub(crate) trait Step: Drop {
     ghost use Rattle.requests.specs.declared.group.Group.{Group};
     ghost use Rattle.groups.specs.Content.{Content};
 
-    /// The group that it changes.
+    /// The group that the step changes.
     ghost group: { Self → Group };
-    /// What becomes of what the group has.
+    /// The change of the group's contents.
     ghost changed: { Self → Content → Content };
-    /// What becomes of the tables.
+    /// The change of the tables.
     ghost done: { Self → Database → Database };
-    /// What it asks of the rows.
+    /// The precondition on the rows.
     ghost is_possible: { Self → Part → Type 0 };
 
-    /// Does the step, and gives what takes it back. Want of memory changes nothing.
+    /// Does the step, and returns its undo record. Returns NoMemory if an allocation fails; nothing changes then.
     fn run(self, rows: &mut IndexedRows) -> Result<UndoRecord, NoMemory>
         requires part { IsPart rows.old }
         requires possible { is_possible self rows.old }
@@ -32,6 +32,6 @@ pub(crate) trait Step: Drop {
         ensures step { IfOk result (λ kept. IsStep (group self) (changed self) kept rows.old rows.new) }
         ensures err { OnErr result (rows.new ≡ rows.old) };
 
-    /// It is possible in a group of the warehouse alone.
+    /// The step is possible only in a group of the warehouse.
     ghost at_home: { (step : Self) (p : Part) → IsPart p → is_possible step p → warehouse_of (group step) ≡ p.home };
 }

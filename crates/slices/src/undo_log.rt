@@ -1,4 +1,4 @@
-//! What takes back what was done in a group.
+//! The undo log of a group.
 ghost use Rattle.std.specs.Prelude.{◌≡◌, ◌<◌, ◌∷◌, ◌++◌, [], length, OnOk};
 ghost use Rattle.requests.specs.declared.group.Group.{Group as AnyGroup};
 ghost use Rattle.groups.specs.Content.{content};
@@ -10,7 +10,7 @@ use schema::NoMemory;
 use std::alloc::Global;
 use std::marker::Model;
 
-/// What takes back what was done in a group under the exclusive claim on it, step by step.
+/// The undo records of what was done in a group under the exclusive claim on it, step by step.
 #[derive(Drop)]
 pub(crate) struct UndoLog {
     undo: Vec<UndoRecord>,
@@ -30,7 +30,7 @@ impl Model for UndoLog {
 }
 
 impl UndoLog {
-    /// A group in which nothing was done.
+    /// Returns an empty undo log.
     pub(crate) fn new(alloc: Global) -> UndoLog
         ensures { result.undo ≡ [] }
     {
@@ -39,7 +39,8 @@ impl UndoLog {
         }
     }
 
-    /// Makes room for what takes one more step back.
+    /// Reserves memory for one more undo record. Returns NoMemory if the allocation fails. The records are unchanged in
+    /// any case.
     pub(crate) fn make_room(&mut self) -> Result<(), NoMemory>
         ensures room { OnOk result (length self.new.undo < self.new.room) }
         ensures undo { self.new.undo ≡ self.old.undo }
@@ -47,7 +48,7 @@ impl UndoLog {
         self.undo.reserve(1)
     }
 
-    /// One more step was done, and this takes it back.
+    /// Adds the undo record of one more step.
     pub(crate) fn keep(&mut self, kept: UndoRecord)
         requires room { length self.old.undo < self.old.room }
         ensures { self.new.undo ≡ self.old.undo ++ kept ∷ [] }
@@ -55,7 +56,7 @@ impl UndoLog {
         self.undo.push_reserved(kept);
     }
 
-    /// Takes all steps back, the last one first. None is left.
+    /// Undoes all steps, from the last to the first. No undo record is left.
     pub(crate) fn put_back(&mut self, rows: &mut IndexedRows)
         requires kept { (group : AnyGroup) × AreKept rows.old.tables.scale group self.old.undo (content rows.old.tables group) }
         ensures rows { (group : AnyGroup) → AreKept rows.old.tables.scale group self.old.undo (content rows.old.tables group) → ChangesGroup group (all_put_back_in self.old.undo) rows.old rows.new }
@@ -64,7 +65,7 @@ impl UndoLog {
         put_all_back(&mut self.undo, rows);
     }
 
-    /// No step is to be taken back any more.
+    /// Deletes all undo records: no step can be undone any more.
     pub(crate) fn forget(&mut self)
         ensures { self.new.undo ≡ [] }
     {

@@ -1,4 +1,4 @@
--- Who orders, pays and asks.
+-- The customers of requests.
 use Rattle.std.specs.Prelude.{ℕ, ◌-◌, nat_lt, min, if◌then◌else◌}
 use Rattle.rand_pcg.specs.Lcg.{Lcg}
 use Rattle.rows.specs.LastName.{last_name_of}
@@ -12,11 +12,13 @@ use Rattle.number_draws.specs.Draws.{random_of, nu_rand_of}
 abbrev pub customer_id : Scale → Lcg → ℕ
 customer_id scale generator = nu_rand_of 1023 500 1 scale.customers generator
 
--- the number of C_LAST: NURand with A = 255 and C = 100 among the names that customers have, of which there are a thousand, or as many as customers (clause 2.1.6); two words
+-- the number of C_LAST: NURand with A = 255 and C = 100 among the names that customers have, which are 1,000, or as
+-- many as customers if these are fewer (clause 2.1.6); two words
 abbrev pub name_number : Scale → Lcg → ℕ
 name_number scale generator = nu_rand_of 255 100 0 (min scale.customers 1000 - 1) generator
 
--- the customer: of 100 times 60 by C_LAST, and else by C_ID (clauses 2.5.1.2 and 2.6.1.2); three words
+-- the customer: by C_LAST if a number from 1 to 100 is at most 60, else by C_ID (clauses 2.5.1.2 and 2.6.1.2); three
+-- words
 unfoldable pub choice_of : Scale → Lcg → Choice
 choice_of scale generator =
     if nat_lt 60 (random_of 1 100 generator) then Number (customer_id scale (beyond 1 generator))

@@ -9,24 +9,25 @@ use Rattle.workload.specs.declared.kind.Kind.{Kind}
 use Rattle.workload.specs.declared.kind.Kind.TheVariants.{NewOrder, Payment, OrderStatus, Delivery, StockLevel}
 use Rattle.workload.specs.declared.mix.Mix.{Mix}
 
--- the cards of a deck before its first shuffle, by kind
+-- the cards of a deck before its first shuffle, sorted by kind
 unfoldable pub cards_of : Mix → List Kind
 cards_of mix =
     replicate mix.new_orders NewOrder ++ replicate mix.payments Payment ++ replicate mix.order_statuses OrderStatus
     ++ replicate mix.deliveries Delivery ++ replicate mix.stock_levels StockLevel
 
--- the kinds are dealt from whole decks, one after another, each of them these cards in some order; the cards that are left of the last deck are not dealt
+-- The kinds are dealt from whole decks, one after another; each deck is these cards in some order. The remaining cards
+-- of the last deck are not dealt.
 abbrev pub AreDealt : List Kind → List Kind → Type 0
 AreDealt cards kinds = (decks : List (List Kind)) × All (IsPermutation cards) decks × (left : List Kind) × (kinds ++ left ≡ flat_map (λ deck. deck) decks)
 
--- so many decks, one after another: each is the one before, shuffled
+-- `count` decks, one after another: each is the one before, shuffled
 unfoldable pub decks_drawn : ℕ → List Kind → Lcg → List Kind
 decks_drawn zero deck generator = []
 decks_drawn (suc count) deck generator =
     let next = shuffled (length deck - 1) deck generator in
     next ++ decks_drawn count next (beyond (length deck - 1) generator)
 
--- the kinds of so many requests: the first of as many decks as it takes
+-- the kinds of `count` requests: the first cards of as many decks as needed
 unfoldable pub kinds_drawn : Mix → ℕ → Lcg → List Kind
 kinds_drawn mix count generator =
     let cards = cards_of mix in

@@ -1,4 +1,4 @@
--- How a New-Order is drawn (clause 2.4.1). Each of these is what is drawn, and the generator after it.
+-- How a New-Order is drawn (clause 2.4.1). Each definition gives the drawn value and the generator after it.
 use Rattle.std.specs.Prelude.{ℕ, zero, suc, ◌+◌, ◌==◌, Bool, ◌&&◌, List, [], ◌∷◌, if◌then◌else◌}
 use Rattle.rand_pcg.specs.Lcg.{Lcg}
 use Rattle.schema.specs.declared.scale.Scale.{Scale}
@@ -10,7 +10,8 @@ use Rattle.workload.specs.declared.terminal.Terminal.{Terminal}
 use Rattle.workload.specs.Customers.{customer_id}
 use Rattle.workload.specs.Warehouses.{supplier_drawn}
 
--- OL_I_ID: NURand with A = 8,191 and C = 4,000 among the items; an unused item is the number behind the last, without a word (clause 2.4.1.5)
+-- OL_I_ID: NURand with A = 8,191 and C = 4,000 among the items; an unused item is the number after the last, and takes
+-- no word (clause 2.4.1.5)
 unfoldable pub item_drawn : Scale → Bool → Lcg → ℕ × Lcg
 item_drawn scale unused generator =
     if unused then (scale.items + 1, generator) else (nu_rand_of 8191 4000 1 scale.items generator, beyond 2 generator)
@@ -22,7 +23,7 @@ line_drawn terminal unused generator =
     let supplier = supplier_drawn terminal item.1 in
     (record { i_id = item.0; supply_w_id = supplier.0; quantity = random_of 1 10 supplier.1 }, beyond 1 supplier.1)
 
--- so many lines, of which the last has an unused item if the order is to be rolled back
+-- the lines; if the order is to be rolled back, the last one has an unused item
 unfoldable pub lines_drawn : Terminal → Bool → ℕ → Lcg → List OrderedLine × Lcg
 lines_drawn terminal rolls_back zero generator = ([], generator)
 lines_drawn terminal rolls_back (suc left) generator =
@@ -30,11 +31,11 @@ lines_drawn terminal rolls_back (suc left) generator =
     let others = lines_drawn terminal rolls_back left line.1 in
     (line.0 ∷ others.0, others.1)
 
--- of 100 times once the order is to be rolled back (clause 2.4.1.4): told by the fifth word
+-- the order is to be rolled back if the fifth word gives 1 of 1 to 100 (clause 2.4.1.4)
 abbrev pub rolls_back : Lcg → Bool
 rolls_back generator = random_of 1 100 (beyond 4 generator) == 1
 
--- the order: the district, the customer, how many lines, 5 to 15, whether it is to be rolled back, and the lines
+-- the order: the district, the customer, the number of lines, 5 to 15, whether it is to be rolled back, and the lines
 unfoldable pub new_order_drawn : Terminal → ℕ → Lcg → NewOrder × Lcg
 new_order_drawn terminal moment generator =
     let lines = lines_drawn terminal (rolls_back generator) (random_of 5 15 (beyond 3 generator)) (beyond 5 generator) in (

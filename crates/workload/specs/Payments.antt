@@ -9,7 +9,8 @@ use Rattle.workload.specs.declared.terminal.Terminal.{Terminal}
 use Rattle.workload.specs.Customers.{choice_of}
 use Rattle.workload.specs.Warehouses.{customer_home_drawn}
 
--- the payment, and the generator after it: the district, the customer's, the customer, and the amount, 1 to 5,000 dollars, in cents
+-- the payment, and the generator after it: the district, the customer's district, the customer, and the amount, 1 to
+-- 5,000 dollars, in cents
 unfoldable pub payment_drawn : Terminal → ℕ → Lcg → Payment × Lcg
 payment_drawn terminal moment generator =
     let home : DistrictKey = record { w_id = terminal.home.w_id; d_id = random_of 1 10 generator } in

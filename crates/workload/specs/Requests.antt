@@ -1,4 +1,5 @@
--- How the requests of a script are drawn. Each of these is what is drawn, and the generator after it.
+-- How the requests of a script are drawn. Each definition gives the drawn value and, except for `requests_drawn`, the
+-- generator after it.
 use Rattle.std.specs.Prelude.{ℕ, ◌+◌, min, List, [], ◌∷◌}
 use Rattle.rand_pcg.specs.Lcg.{Lcg}
 use Rattle.requests.specs.declared.request.Request.{Request}
@@ -13,7 +14,7 @@ use Rattle.workload.specs.Customers.{choice_of}
 use Rattle.workload.specs.NewOrders.{new_order_drawn}
 use Rattle.workload.specs.Payments.{payment_drawn}
 
--- the moment so many seconds later, but none past the year 9999
+-- the moment that many seconds later, at most the last second of the year 9999
 abbrev pub moment_at : ℕ → ℕ → ℕ
 moment_at now seconds = min (now + seconds) 253402300799
 
@@ -27,7 +28,8 @@ order_status_drawn terminal generator = (
   beyond 4 generator,
 )
 
--- a request of that kind; of a Delivery the carrier, 1 to 10 (clause 2.7.1), and of a Stock-Level, for the terminal's own district, the threshold, 10 to 20 (clause 2.8.1)
+-- A request of that kind. A Delivery draws the carrier, 1 to 10 (clause 2.7.1). A Stock-Level is for the terminal's own
+-- district and draws the threshold, 10 to 20 (clause 2.8.1).
 unfoldable pub request_drawn : Terminal → ℕ → Kind → Lcg → Request × Lcg
 request_drawn terminal moment NewOrderKind generator =
     let order = new_order_drawn terminal moment generator in (NewOrder order.0, order.1)
@@ -40,7 +42,8 @@ request_drawn terminal moment DeliveryKind generator =
 request_drawn terminal moment StockLevelKind generator =
     (StockLevel (record { home = terminal.home; threshold = random_of 10 20 generator }), beyond 1 generator)
 
--- a request of each of these kinds, one after another, of which the first has this number: so many seconds after the first moment
+-- a request of each of these kinds, one after another; the first has this number, and each is as many seconds after
+-- `now` as its number
 unfoldable pub requests_drawn : Terminal → ℕ → ℕ → List Kind → Lcg → List Request
 requests_drawn terminal now number [] generator = []
 requests_drawn terminal now number (kind ∷ kinds) generator =

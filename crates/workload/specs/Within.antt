@@ -1,4 +1,4 @@
--- What the requests of a terminal name.
+-- The rows that the requests of a terminal name.
 use Rattle.std.specs.Prelude.{◌≡◌, ℕ, ◌+◌, ◌<◌, false, List, [], ◌∷◌, IsTrue, All, min}
 use Rattle.std.specs.Prelude.{◌⊎◌}
 use Rattle.rows.specs.LastName.{last_name_of}
@@ -12,22 +12,23 @@ use Rattle.requests.specs.declared.request.Choice.TheVariants.{Number, LastName}
 use Rattle.requests.specs.declared.new_order.OrderedLine.{OrderedLine}
 use Rattle.workload.specs.declared.terminal.Terminal.{Terminal}
 
--- a customer whom each district has: by number, or by a name of those that the populated customers have
+-- a customer that every district has: by number, or by a last name of the populated customers
 abbrev pub IsCustomer : Scale → Choice → Type 0
 IsCustomer scale (Number c_id) = IsTrue (is_between 1 scale.customers c_id)
 IsCustomer scale (LastName name) = (number : ℕ) × (number < min scale.customers 1000) × (name ≡ last_name_of number)
 
--- the lines before the last name items that are there; the last too, or else the number behind the last item
+-- all lines but the last name items that exist; the last one too, or else the number after the last item
 unfoldable pub NameItems : Scale → List OrderedLine → Type 0
 NameItems scale [] = ⊥
 NameItems scale (line ∷ []) = IsTrue (has_item scale line.i_id) ⊎ (line.i_id ≡ scale.items + 1)
 NameItems scale (line ∷ next ∷ lines) = IsTrue (has_item scale line.i_id) × NameItems scale (next ∷ lines)
 
--- where no other warehouses take part, the warehouse is the home one
+-- if no other warehouses take part, the warehouse is the home one
 abbrev pub IsNear : Terminal → ℕ → Type 0
 IsNear terminal w_id = terminal.remote ≡ false → w_id ≡ terminal.home.w_id
 
--- it is made in the terminal's warehouse, by a customer who is there, of items that are there but for one that is to be missed; and of other warehouses only where they take part
+-- A request is made in the terminal's warehouse. Its customers exist, and its items exist, except that the last line
+-- may name a missing item. Other warehouses occur only if they take part.
 abbrev pub IsWithin : Terminal → Request → Type 0
 IsWithin terminal (NewOrder order) =
     (order.home.w_id ≡ terminal.home.w_id) × IsTrue (is_between 1 terminal.scale.customers order.c_id)

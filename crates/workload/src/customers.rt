@@ -6,13 +6,13 @@ use number_draws::NumberDraws;
 use requests::{Choice, LastName};
 use schema::{Scale, last_name};
 
-// The constants of clause 2.1.6 for C_ID and for C_LAST. That for C_LAST has to differ by 65 to 119, and not
-// by 96 or 112, from that of the population, which is 0 (clause 2.1.6.1).
+// The constants C of clause 2.1.6 for C_ID and for C_LAST. The one for C_LAST has to differ from that of the
+// population, which is 0, by 65 to 119, but not by 96 or 112 (clause 2.1.6.1).
 const ID_CONSTANT: u32 = 500;
 
 const NAME_CONSTANT: u32 = 100;
 
-/// C_ID of a customer, unevenly drawn.
+/// Returns the C_ID of a customer, a non-uniform random number.
 pub(crate) fn customer_number(draws: &mut NumberDraws, scale: Scale) -> u32
     ensures value { result ≡ customer_id scale draws.old }
     ensures generator { draws.new ≡ beyond 2 draws.old }
@@ -20,7 +20,7 @@ pub(crate) fn customer_number(draws: &mut NumberDraws, scale: Scale) -> u32
     draws.nu_rand(1_023, ID_CONSTANT, 1, scale.customers)
 }
 
-/// How a request names its customer: 60 in 100 by C_LAST, the others by C_ID.
+/// Draws how a request chooses its customer: by C_LAST if a number from 1 to 100 is at most 60, else by C_ID.
 #[tactic(auto, using(number_draws::proofs::Generators::beyond_twice), unfolding(crate::specs::Customers::choice_of))]
 pub(crate) fn choice(draws: &mut NumberDraws, scale: Scale) -> Choice
     ensures value { result ≡ choice_of scale draws.old }

@@ -6,7 +6,7 @@ use number_draws::NumberDraws;
 use schema::NoMemory;
 use std::alloc::Global;
 
-/// The kinds of so many requests: the cards of decks, each shuffled anew from the one before.
+/// Returns the kinds of `count` requests: the cards of decks. Each deck is the one before it, shuffled again.
 pub(crate) fn draw_kinds(
     alloc: Global,
     draws: &mut NumberDraws,

@@ -1,4 +1,4 @@
-/// A kind of request, as the card of a deck names it (clause 5.2.4.2).
+/// The kind of a request: a card of a deck (clause 5.2.4.2).
 #[derive(Clone, Copy, Debug, PartialEq, Eq)]
 pub enum Kind {
     NewOrder,

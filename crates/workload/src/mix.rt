@@ -5,7 +5,7 @@ use crate::Kind;
 use schema::NoMemory;
 use std::alloc::Global;
 
-/// How many cards of each kind a deck has: at most 1,000, and one at least in all.
+/// The number of cards of each kind in a deck: at most 1,000 of each, and at least one in all.
 #[derive(Clone, Copy, Debug, PartialEq, Eq)]
 pub struct Mix {
     pub new_orders: u32,
@@ -19,7 +19,7 @@ pub struct Mix {
 impl Mix {
     ghost use Rattle.workload.specs.Decks.{cards_of};
 
-    /// The mix of these numbers of cards, or `None` where one is more than 1,000, or none is there.
+    /// Returns the mix with these numbers of cards; `None` exactly if a number is greater than 1,000 or all are 0.
     pub fn checked_new(
         new_orders: u32,
         payments: u32,
@@ -53,7 +53,7 @@ impl Mix {
         }
     }
 
-    /// The cards of a deck before its first shuffle, by kind.
+    /// Returns the cards of a deck before its first shuffle, sorted by kind.
     #[tactic(auto, unfolding(crate::specs::Decks::cards_of))]
     pub fn cards(self, alloc: Global) -> Result<Vec<Kind>, NoMemory>
         ensures { IfOk result (λ cards. cards.items ≡ cards_of self) }

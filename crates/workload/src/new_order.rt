@@ -9,11 +9,11 @@ use requests::{Lines, NewOrder, OrderedLine};
 use schema::{DistrictKey, Moment, NoMemory, Scale};
 use std::alloc::Global;
 
-// The constant of clause 2.1.6 for OL_I_ID.
+// The constant C of clause 2.1.6 for OL_I_ID.
 const ITEM_CONSTANT: u32 = 4_000;
 
-/// A New-Order of the terminal (clause 2.4.1). One in 100 names an item at its end that is not there, so that
-/// it will be rolled back.
+/// Draws a New-Order of the terminal (clause 2.4.1). If a number from 1 to 100 is 1, its last line names an item that
+/// does not exist, so that the order is rolled back.
 #[tactic(auto, using(number_draws::proofs::Generators::beyond_twice), unfolding(crate::specs::NewOrders::new_order_drawn))]
 pub(crate) fn new_order(
     alloc: Global,
@@ -39,7 +39,7 @@ pub(crate) fn new_order(
     })
 }
 
-// So many lines, of which the last names an item that is not there if the order is to be rolled back.
+// Draws `count` lines. If the order is to be rolled back, the last one names an item that does not exist.
 fn lines(
     alloc: Global,
     draws: &mut NumberDraws,
@@ -57,7 +57,7 @@ fn lines(
     Ok(Lines::new(lines))
 }
 
-// A line, of an item that is not there if it is to be unused.
+// Draws a line. If it is to be unused, its item does not exist.
 #[tactic(auto, unfolding(crate::specs::NewOrders::line_drawn))]
 fn line(draws: &mut NumberDraws, terminal: &Terminal, unused: bool) -> OrderedLine
     ensures { (result, draws.new) ≡ line_drawn terminal.now unused draws.old }
@@ -71,7 +71,8 @@ fn line(draws: &mut NumberDraws, terminal: &Terminal, unused: bool) -> OrderedLi
     }
 }
 
-// I_ID of an item, unevenly drawn; the one behind the last, without a draw, if it is to be unused.
+// Returns the I_ID of an item, a non-uniform random number. If it is to be unused, returns the number after the last
+// item, without a draw.
 #[tactic(auto, unfolding(crate::specs::NewOrders::item_drawn))]
 fn item(draws: &mut NumberDraws, scale: Scale, unused: bool) -> u32
     ensures { (result, draws.new) ≡ item_drawn scale unused draws.old }

@@ -8,7 +8,7 @@ use number_draws::NumberDraws;
 use requests::Payment;
 use schema::{DistrictKey, Moment};
 
-/// A payment at the terminal (clause 2.5.1).
+/// Draws a payment at the terminal (clause 2.5.1).
 #[tactic(auto, using(number_draws::proofs::Generators::beyond_twice), unfolding(crate::specs::Payments::payment_drawn))]
 pub(crate) fn payment(draws: &mut NumberDraws, terminal: &Terminal, moment: Moment) -> Payment
     ensures { (result, draws.new) ≡ payment_drawn terminal.now moment draws.old }

@@ -13,7 +13,7 @@ use std::alloc::Global;
 // The last second of the year 9999.
 const LAST_SECOND: u64 = 253_402_300_799;
 
-/// A request of each of these kinds, in order, the first of this moment and each other a second later.
+/// Draws a request of each of these kinds, in order. The first is at moment `now`, each other one a second later.
 pub(crate) fn draw_requests(
     alloc: Global,
     draws: &mut NumberDraws,
@@ -32,7 +32,7 @@ pub(crate) fn draw_requests(
     Ok(requests)
 }
 
-// The moment so many seconds later, but none past the year 9999.
+// Returns the moment that many seconds later, at most the last second of the year 9999.
 fn moment_after(now: Moment, seconds: u64) -> Moment
     requires { seconds ≤ 2 ^ 32 }
     ensures { result ≡ moment_at now seconds }
@@ -40,7 +40,7 @@ fn moment_after(now: Moment, seconds: u64) -> Moment
     Moment::new((now.seconds() + seconds).min(LAST_SECOND))
 }
 
-// A request of that kind.
+// Draws a request of that kind.
 #[tactic(auto, unfolding(crate::specs::Requests::request_drawn))]
 fn request(
     alloc: Global,
@@ -67,7 +67,7 @@ fn request(
     }
 }
 
-// An Order-Status at the terminal (clause 2.6.1).
+// Draws an Order-Status at the terminal (clause 2.6.1).
 #[tactic(auto, using(number_draws::proofs::Generators::beyond_twice), unfolding(crate::specs::Requests::order_status_drawn))]
 fn order_status(draws: &mut NumberDraws, terminal: &Terminal) -> OrderStatus
     ensures { (result, draws.new) ≡ order_status_drawn terminal.now draws.old }

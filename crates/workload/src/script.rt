@@ -13,15 +13,15 @@ use requests::Script;
 use schema::NoMemory;
 use std::alloc::Global;
 
-// The seeds of the generators are so far apart, which is one more than the greatest seed of a workload.
+// The distance between the seeds of two generators: one more than the greatest seed of a workload.
 const STRIDE: u64 = 4_294_967_296;
 
-/// The script of a session, from 0 to 63: as many requests as the workload says.
+/// Returns the script of a session, 0 to 63: as many requests as the workload has for each session.
 ///
-/// Two generators draw it (`number_draws`), one the decks and the other the requests, so that a script of
-/// fewer requests is the beginning of a longer one of the same seed.
+/// Two generators (`number_draws`) draw it: one the decks, the other the requests. So a script of fewer requests is the
+/// beginning of a longer one of the same seed.
 ///
-/// `NoMemory` comes only where there is none for its kinds or its requests.
+/// Returns NoMemory if an allocation fails.
 pub fn draw_script(alloc: Global, workload: &Workload, session: u32) -> Result<Script, NoMemory>
     requires { session < 64 }
     ensures drawn { IfOk result (λ script. script ≡ script_drawn workload.now session) }

@@ -5,21 +5,21 @@ ghost use Rattle.schema.specs.Scale.{has_warehouse};
 use crate::{Mix, Terminal};
 use schema::{DistrictKey, Moment, Scale};
 
-/// What the requests of all sessions are drawn for.
+/// The parameters from which the requests of all sessions are drawn.
 #[derive(Clone, Copy, Debug, PartialEq, Eq)]
 pub struct Workload {
     pub scale: Scale,
-    /// The home warehouse of all sessions. Where there is none, session 0 is at home in warehouse 1, session 1
-    /// in warehouse 2, and so on, the first following the last.
+    /// The home warehouse of all sessions. If `None`, session 0 is at home in warehouse 1, session 1 in warehouse 2,
+    /// and so on; the first warehouse follows the last.
     pub home: Option<u32>,
     /// Whether other warehouses supply lines and other warehouses' customers pay.
     pub remote: bool,
     pub mix: Mix,
-    /// The moment of each session's first request. Each other comes a second later.
+    /// The moment of each session's first request. Each other request is one second after the one before it.
     pub start: Moment,
     /// The seed of all draws.
     pub seed: u32,
-    /// How many requests each session has.
+    /// The number of requests of each session.
     pub requests: u32,
     pub ghost of_scale: { ForSome home (λ w_id. IsTrue (has_warehouse scale w_id)) },
 }
@@ -27,7 +27,7 @@ pub struct Workload {
 impl Workload {
     ghost use Rattle.workload.specs.Sessions.{terminal_of};
 
-    /// The terminal of a session, from 0.
+    /// Returns the terminal of a session, 0 to 63.
     pub fn terminal(&self, session: u32) -> Terminal
         requires { session < 64 }
         ensures { result ≡ terminal_of self.now session }

@@ -5,7 +5,7 @@ use crate::Terminal;
 use number_draws::NumberDraws;
 use schema::DistrictKey;
 
-// A warehouse beside the home one, evenly drawn; the home one where there is no other.
+// Returns a warehouse other than the home one, drawn uniformly; the home one if there is no other.
 #[tactic(auto, unfolding(crate::specs::Warehouses::other_drawn))]
 fn other_warehouse(draws: &mut NumberDraws, terminal: &Terminal) -> u32
     ensures { (result, draws.new) ≡ other_drawn terminal.now draws.old }
@@ -19,7 +19,8 @@ fn other_warehouse(draws: &mut NumberDraws, terminal: &Terminal) -> u32
     if place < home { place } else { place + 1 }
 }
 
-/// The warehouse that supplies a line: 99 in 100 the home one.
+/// Returns the warehouse that supplies a line: the home one, unless other warehouses take part and a number from 1 to
+/// 100 is 1.
 #[tactic(auto, unfolding(crate::specs::Warehouses::supplier_drawn))]
 pub(crate) fn supplier(draws: &mut NumberDraws, terminal: &Terminal) -> u32
     ensures { (result, draws.new) ≡ supplier_drawn terminal.now draws.old }
@@ -31,7 +32,8 @@ pub(crate) fn supplier(draws: &mut NumberDraws, terminal: &Terminal) -> u32
     }
 }
 
-/// The district of the customer who pays in this one: 85 in 100 the same.
+/// Returns the district of the customer of a payment: `home`, unless other warehouses take part and a number from 1 to
+/// 100 is greater than 85.
 #[tactic(auto, unfolding(crate::specs::Warehouses::customer_home_drawn, crate::specs::Warehouses::other_district_drawn))]
 pub(crate) fn customer_home(
     draws: &mut NumberDraws,

@@ -1,4 +1,4 @@
--- The entries so far stand, and the engine has carried them out.
+-- The entries so far repeat, and the engine has carried them out.
 use Rattle.commit_log.proofs.Repeated.{SoFar}
 use Rattle.commit_log.proofs.replaying.replay.Given as goal
 

@@ -7,7 +7,7 @@ use Rattle.slices.proofs.LatestNoted.{raised_for, looked_through_for, noted_fits
 use Rattle.slices.proofs.indexed.note_latest.Goals as goal
 use Rattle.slices.proofs.indexed.note_latest.Goals.{in-Some, in_default, Joined-now}
 
--- what the index is once it was raised to the order that stands there
+-- the index after it is raised to the stored order
 raised_here : (c : Joined-now) → c.match-now.latest ≡ raised_for (home_slot c.args.rows.now.home) c.args.rows.now.tables.scale.customers c.args.key c.args.now c.args.latest.now
 raised_here c =
     let t = c.args.rows.now.tables in
