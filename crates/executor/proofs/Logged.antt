@@ -22,7 +22,7 @@ given_so true age claims given = given.0
 given_so false age claims given = given.0
 
 module _ {J : Type 0} (c : CommitView) (old new : List Entry) (logged : Logged J) (after : List (List ClaimView)) where
-  -- its session is told so
+  -- its answer is the refusal or the place
   pub answers : IsAskedBy c.number c.request c.pass → Logs (entry_committed c) c.pass old c.held logged new after → CarriesAnswer (answer_view c.age c.number logged.pass logged.answer)
   answers asked (inl logs) =
       subst (λ (l : Logged J). CarriesAnswer (answer_view c.age c.number l.pass l.answer)) (sym logs.2) (record {

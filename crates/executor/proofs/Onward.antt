@@ -67,7 +67,7 @@ module _ {J : Type 0} where
     abbrev recorded : Option Refusal → List Found → Following J → Type 0
     recorded refused found after = FollowsUnless refused phase_owner (transaction_of m.flow) held_then m.flow.progress found after
 
-    -- it is refused for the first death, or else for lack of memory
+    -- it is refused for the first death, or else with NoMemory
     follows_refused : (start : Option Refusal) (why : Refusal) → IfSome start (λ w. w ≡ refusal.NoMemory) → refusal_of start m.rans ≡ Some why
         → Follows m (Over (refused phase_owner (transaction_of m.flow) held_then why))
     follows_refused None why begun is = (phase_owner, (whole, subst (λ (o : Option Refusal). recorded o (found_in m.rans) (Over (refused phase_owner (transaction_of m.flow) held_then why))) (sym is) refl))
