@@ -1,4 +1,5 @@
--- An engine is opened: the log's seats tell what the tables have, nobody waits for the slices that were cut, and each place has its agreed phase.
+-- An engine is opened: the log's seats record the content of the tables, the slices that were cut have no waiting actions, and
+-- each place has its agreed phase.
 use Rattle.std.proofs.Common.{◌≡◌, ℕ, suc, ◌+◌, ◌<◌, List, [], ◌∷◌, length, map, get_or, refl, sym, ap, subst, ◌∙◌, arith}
 use Rattle.std.specs.Prelude.{All}
 use Rattle.std.proofs.lemmas.List.{get_or-map, get_or_default, length-map}
@@ -18,7 +19,7 @@ use Rattle.slices.specs.SliceView.{at_rest}
 use Rattle.slices.proofs.Opened.{opened_groups_have_boxes}
 use Rattle.engine.specs.Opening.{AreAgreedPhasesFrom, IsToOpen}
 
--- the log's seats tell what the tables have
+-- the log's seats record the content of the tables
 pub seats_record : (t : Database) (openings : List OpenedGroup) (seats : List CommittedGroup) → AreOpenedFor t openings → AreInPlace t.scale.warehouses seats → contents_committed seats ≡ contents_opened openings
     → (place : ℕ) (d : CommittedGroup) → place < length seats → content t (get_or seats place d).group ≡ (get_or seats place d).content
 seats_record t openings seats opened in_place same place d small =

@@ -1,4 +1,4 @@
--- The executors have ended: what the log, the sessions and the slices tell makes the outcome.
+-- The executors have ended: the outcome follows from the log, the sessions and the slices.
 use Rattle.std.proofs.Common.{◌≡◌, ℕ, zero, suc, ◌<◌, ◌≤◌, List, [], ◌∷◌, length, Some, Result, sym, ap, subst, ◌∙◌}
 use Rattle.std.specs.List.{slice_get, slice_index_or, All}
 use Rattle.std.proofs.lemmas.List.Elements.{All-map}

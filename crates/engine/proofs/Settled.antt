@@ -90,7 +90,7 @@ group_wanted_for warehouses home group known at =
 
 -- ---- one slice
 
--- What is claimed of all groups of a slice tells what stands there, and so do the tables that the claims tell.
+-- The claims on all groups of a slice record the slice's content, and so do the tables that the claims record.
 pub slice_settled : (opening last : Database) (home : ℕ) (s : SliceView) (by : Holder) (claims : List ClaimView) (held : List (List ClaimView)) → IsBackAt opening home s
     → held ≡ claims ∷ [] → claims ≡ map (granted_in by s) (group_wants (wants_of_all home)) → Records (content last) (all_claims held) → IsSettledAt opening last home s
 slice_settled opening last home s by claims held back held_is granted records = record {
