@@ -1,4 +1,4 @@
--- The actions of a New-Order are the New-Order: from tables that their claims tell, the machine does the same.
+-- The actions of a New-Order are the New-Order: from tables that their claims record, the machine does the same.
 use Rattle.std.proofs.Common.{◌≡◌, ◌⊎◌, inl, inr, ◌&&◌, true, false, cond, List, [], ◌∷◌, ◌++◌, map, Option, Some, None, unwrap_or, Result, Ok, Err, refl, sym, ap, subst, ◌∙◌}
 use Rattle.std.specs.Prelude.{length}
 use Rattle.std.specs.List.{AllByRecursion, list_all, list_any}

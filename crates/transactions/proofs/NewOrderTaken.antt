@@ -291,7 +291,7 @@ suppliers_in scale group lines all =
 module _
     (t : Database) (n : NewOrder) (group : Group) (was : ClaimView) (on : IsExclusiveOn group was) (new : IsFresh was) (left : was.left ≡ content t was.group)
   where
-    -- other tables that the claim tells have the same in the group
+    -- other tables that the claim records have the same content of the group
     recorded_alike : (s : Database) (now : ClaimView) → now.group ≡ was.group → now.recorded ≡ was.recorded → content s now.group ≡ now.recorded → content s group ≡ content t group
     recorded_alike s now same recorded records =
         ap (content s) (sym on.group ∙ sym same) ∙ records ∙ recorded ∙ sym new.left ∙ left ∙ ap (content t) on.group

@@ -1,4 +1,4 @@
--- The actions of an Order-Status are the Order-Status: from tables that their claims tell, the machine does the same.
+-- The actions of an Order-Status are the Order-Status: from tables that their claims record, the machine does the same.
 use Rattle.std.proofs.Common.{◌≡◌, Bool, true, false, cond, [], ◌∷◌, Option, Some, None, refl, sym, ap, ◌∙◌}
 use Rattle.std.proofs.lemmas.List.Elements.{recursion_from_All}
 use Rattle.rows.specs.Keys.{district_of_customer}

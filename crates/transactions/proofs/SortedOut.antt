@@ -46,7 +46,7 @@ module _ {J : Type 0} where
   none_before None rans is = is
   none_before (Some why) rans is = absurd (stays_refused why rans is)
 
-  -- lack of memory is answered only where no one died
+  -- NoMemory is the reason only if no action died
   pub memory_last : (rans : List (Ran J))
       → ((refusal_of None rans ≡ None) × (refusal_of (Some refusal.NoMemory) rans ≡ Some refusal.NoMemory)) ⊎ (refusal_of (Some refusal.NoMemory) rans ≡ refusal_of None rans)
   memory_last [] = inl (refl, refl)
@@ -56,7 +56,7 @@ module _ {J : Type 0} where
 
 -- ---- why it is refused
 
--- the death that is told is the one before, or this one
+-- the death that is recorded is the one before, or this one
 first_recorded : (why : Refusal) (group : Group) (holder : ℕ) → (earlier_death why group holder ≡ why) ⊎ (earlier_death why group holder ≡ refusal.Died group holder)
 first_recorded (refusal.Died first older) group holder = inl refl
 first_recorded refusal.NoMemory group holder = inr refl
