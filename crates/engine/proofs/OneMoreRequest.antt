@@ -17,7 +17,7 @@ use Rattle.engine.proofs.Together.{longer}
 
 -- ---- lists with one more at the end
 
--- what stands in a list with one more
+-- the items of a list with one more item
 slice_get-push : {X : Type 0} (xs : List X) (x : X) (n : ℕ) → slice_get (xs ++ x ∷ []) n ≡ cond (eqb n (length xs)) (Some x) (slice_get xs n)
 slice_get-push [] x zero = refl
 slice_get-push [] x (suc n) = let e : eqb (suc n) 0 ≡ false = grind (arith, nat_tests) in rw e refl

@@ -19,7 +19,7 @@ abbrev pub says_full : Result ℕ Refusal → Bool
 says_full (Err LogFull) = true
 says_full _ = false
 
--- how far a session has to know the log to have reached: only if the log was full for it
+-- how far the session's pass has to record that the log has reached: only if the log was full for it
 abbrev pub known_of : Bool → ℕ → ℕ
 known_of is_full reached = if is_full then reached else 0
 

@@ -137,7 +137,7 @@ fn audit_left<J: ServeNames>(
     Ok(asked)
 }
 
-// Audits the sessions by which nobody asked: the log has no entry of theirs.
+// Audits the sessions that were not used: the log has no entry of theirs.
 fn audit_idle<J: ServeNames>(log: &mut Log<J>, idle: Idle<J>)
     ensures none { (s : ℕ) → idle.first ≤ s → s < 64 → items_of s log.old ≡ [] }
     ensures same { log.new ≡ log.old }

@@ -269,7 +269,7 @@ impl<J: ServeNames, G: Gate, R: Wait> AtWork<'_, '_, J, G, R> {
         }
     }
 
-    // ---- what comes of them
+    // ---- the steps of transactions
 
     // Takes an action's report to its phase. With the last report the transaction goes on.
     fn report(&mut self, report: Report<J>) {

@@ -80,7 +80,7 @@ pub struct Opened<'a, J: ServeNames, G: Gate> {
     pub catalog: Catalog,
     /// The sessions that ask interactively, in the order of their numbers.
     pub sessions: Vec<Session<J>>,
-    /// The sessions by which nobody asks.
+    /// The sessions that are not used.
     pub idle: Idle<J>,
 }
 

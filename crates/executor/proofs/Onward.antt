@@ -34,7 +34,7 @@ module _ (opening : Database) (request : Request) (progress : Progress) (held : 
   pub has_found : HasFound progress found
   has_found = (shared_of opening, met.own, met.done)
 
-  -- the next phase is given what is known to it
+  -- the facts that the next phase needs
   pub next_reached : (next : Progress) → FollowsFrom progress found (Next next) → IsReached (shared_of opening) request next held
   next_reached next follows = subst (λ h. IsReached (shared_of opening) request next h) (sym met.held_is) (follows (shared_of opening) request met.earlier met.own met.reached met.done)
 

@@ -61,7 +61,7 @@ module _ (t : Database) (home : DistrictKey) (carrier moment : ℕ) where
       sym (get-rows_of-own customers_total customers_exact group_of_customer t.customers (customer_key home c_id))
       ∙ ap (λ (r : Customers). table.get r (customer_key home c_id)) same
 
-  -- what becomes of the customer of the oldest new order
+  -- the customer of the oldest new order
   received : (order : OrderDelivered) (oldest : IsOldestOrder t home order) (rows : Customers) → content t customers_of ≡ OfCustomers rows
       → receiver t (order_key home order.o_id) oldest.row ≡ row_credited rows home order
   received order oldest rows has =

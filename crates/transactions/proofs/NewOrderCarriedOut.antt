@@ -52,7 +52,7 @@ use Rattle.transactions.proofs.NewOrderSettled.{settled, stocks_leave}
 use Rattle.transactions.proofs.NewOrderSold.{all_items, all_placed, are_placed, each_in_order, found_by, found_in, items_missing, items_there, none_placed}
 use Rattle.transactions.proofs.NewOrderSupplies.{supplies_are_stock}
 
--- ---- what becomes of an order
+-- ---- the decision on an order
 
 module _ (n : NewOrder) (home : HomeShown) (orderer : Orderer) (found : List StockTaken) where
   -- its lines in order
@@ -102,7 +102,7 @@ module _ (n : NewOrder) (home : HomeShown) (orderer : Orderer) (found : List Sto
 
 -- ---- the rows that are there
 
--- who is shown has a row
+-- a customer that is shown has a row
 pub record HasRow (orderer : Orderer) (row : Option Customer) : Type 0 where
   pub customer : Customer
   pub there : row ≡ Some customer

@@ -153,7 +153,7 @@ module _ (t : Database) (n : NewOrder) (group : Group) where
   abbrev supplied : List Numbered
   supplied = lines_in group n.lines
 
-  -- what is known of each row that is put
+  -- the facts of each row that is put
   pub record ArePuts (lines : List Numbered) (puts : List StockPut) : Type 0 where
     pub in_turn : puts_done puts t.stocks ≡ stocks_put (bare lines) (map (λ (put : StockPut). put.row) puts) t.stocks
     pub taken : AreTaken n.home.w_id (bare supplied) t.stocks (bare lines) (map (λ (put : StockPut). put.row) puts)

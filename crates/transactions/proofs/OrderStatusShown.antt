@@ -1,4 +1,4 @@
--- What the actions of an Order-Status find, by what stands in the tables.
+-- What the actions of an Order-Status find, by the content of the tables.
 use Rattle.std.proofs.Common.{◌≡◌, Option, sym, ap, ◌∙◌}
 use Rattle.rows.specs.Keys.{district_of_customer}
 use Rattle.rows.specs.declared.keys.CustomerKey.{CustomerKey}

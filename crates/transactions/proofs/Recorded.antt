@@ -45,7 +45,7 @@ chosen_among customers home (LastName last) = ap middle (namesakes_among custome
 recorded_of : (t : Database) (own : Group) (claim : ClaimView) (has : Content) → content t claim.group ≡ claim.recorded → claim.group ≡ own → claim.recorded ≡ has → content t own ≡ has
 recorded_of t own claim has records on is = ap (content t) (sym on) ∙ records ∙ is
 
--- who is chosen in a district is chosen among its customers alone
+-- a customer that is chosen in a district is chosen among the district's customers alone
 pub chosen_recorded : (t : Database) (home : DistrictKey) (choice : Choice) (claim : ClaimView) → content t claim.group ≡ claim.recorded → claim.group ≡ g.Customers home.w_id home.d_id
     → (rows : Customers) → claim.recorded ≡ OfCustomers rows → chosen t.customers home choice ≡ chosen rows home choice
 chosen_recorded t home choice claim records on rows is =

@@ -1,4 +1,4 @@
--- What comes of the actions of a phase, sorted out.
+-- The results of a phase's actions, collected.
 use Rattle.std.proofs.Common.{◌≡◌, ◌≤◌, ◌⊎◌, inl, inr, ℕ, List, [], ◌∷◌, length, Option, Some, None, refl, sym, subst, ⊎_elim, arith}
 use Rattle.std.specs.Prelude.{All, IfSome}
 use Rattle.std.proofs.lemmas.List.{length-append}
@@ -27,7 +27,7 @@ module _ {J : Type 0} where
   few_held [] = omega arith
   few_held (r ∷ rans) = omega (arith, one_holds r, few_held rans, length-append (held_by r) (held_in rans))
 
-  -- who isn't refused now wasn't before
+  -- a transaction that isn't refused now wasn't refused before
   pub was_none : (why : Option Refusal) (own : Ran J) → refused_by why own ≡ None → why ≡ None
   was_none None own is = refl
   was_none (Some why) own is = absurd (cc)
