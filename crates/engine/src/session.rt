@@ -106,7 +106,7 @@ impl<J: ServeNames> Model for Away<J> {
 pub enum AskFault<J: ServeNames> {
     /// An allocation failed: the request was not asked, and the session is unchanged.
     NoMemory(Session<J>),
-    /// The executors were stopped: the session is lost.
+    /// No answer came: the executors were stopped, or the answer was for another session. The session is lost.
     Stopped,
 }
 
@@ -284,7 +284,7 @@ impl<J: ServeNames> Asker<J> {
         (session, Err(refusal))
     }
 
-    // Asks the request, which its check accepts. Returns `None` if the executors were stopped.
+    // Asks the request, which its check accepts. Returns `None` if the executors were stopped, or if the answer is another session's.
     fn call<G: Gate>(
         self,
         rt: &impl Wait,
