@@ -41,7 +41,8 @@ impl From<AllocError> for CloseFault {
 /// Why scripts were not served.
 #[derive(Clone, Copy, Debug, PartialEq, Eq)]
 pub enum ServeFault {
-    /// An allocation failed: as the opening tables were checked, as the engine was opened or its threads were started, or for the outcome.
+    /// An allocation failed: as the opening tables were checked, as the engine was opened or its threads were started, or for the
+    /// outcome.
     NoMemory,
     /// The opening tables break the consistency condition of this number, and none of a lower one: 1 to 10, or 12 (TPC-C 5.11,
     /// clause 3.3.2).

@@ -284,7 +284,8 @@ impl<J: ServeNames> Asker<J> {
         (session, Err(refusal))
     }
 
-    // Asks the request, which its check accepts. Returns `None` if the executors were stopped, or if the answer is another session's.
+    // Asks the request, which its check accepts. Returns `None` if the executors were stopped, or if the answer is another
+    // session's.
     fn call<G: Gate>(
         self,
         rt: &impl Wait,
