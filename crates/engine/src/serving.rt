@@ -31,9 +31,9 @@ const ROOM: usize = 1024;
 
 /// Serves the scripts from the opening tables. Script s is session s, which asks its requests one after the other. `executors`
 /// executors share the tables' warehouses, each in a thread of its own: warehouse w is at executor
-/// `(w-1) * executors / warehouses`. A request that was refused with Died or NoMemory is asked again until it was asked `tries` times. The gate is
-/// called for each request that the check accepts and that begins. The moves are made meanwhile, one after the other, all of
-/// them: the warehouses of a move's range go to its executor, and requests go on.
+/// `(w-1) * executors / warehouses`. A request that was refused with Died or NoMemory is asked again until it was asked `tries`
+/// times. The gate is called for each request that the check accepts and that begins. The moves are made meanwhile, one after
+/// the other, all of them: the warehouses of a move's range go to its executor, and requests go on.
 ///
 /// Errors: `BadMove` is the place, from 0, of the first move that there can't be: its range ends before it begins, or one of its
 /// numbers is out of range. It is checked before anything else. `NotConsistent` is the least of the consistency conditions 1 to
