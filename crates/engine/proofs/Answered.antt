@@ -1,4 +1,4 @@
--- A session has one answer more: what is known of it then.
+-- A session has one more answer: its facts then.
 use Rattle.std.proofs.Common.{◌≡◌, ℕ, ◌+◌, ◌<◌, ◌≤◌, max, Bool, true, false, List, [], ◌∷◌, ◌++◌, length, Result, Ok, Err, inr, refl, sym, ap, subst, ◌∙◌, arith}
 use Rattle.std.proofs.lemmas.List.Elements.{Contains-push}
 use Rattle.schema.specs.declared.scale.Scale.{Scale}

@@ -1,4 +1,5 @@
--- An engine is opened: the log's seats tell what the tables have, nobody waits for the slices that were cut, and each place has its agreed phase.
+-- An engine is opened: the log's seats record the content of the tables, the slices that were cut have no waiting actions, and
+-- each place has its agreed phase.
 use Rattle.std.proofs.Common.{◌≡◌, ℕ, suc, ◌+◌, ◌<◌, List, [], ◌∷◌, length, map, get_or, refl, sym, ap, subst, ◌∙◌, arith}
 use Rattle.std.specs.Prelude.{All}
 use Rattle.std.proofs.lemmas.List.{get_or-map, get_or_default, length-map}
@@ -18,7 +19,7 @@ use Rattle.slices.specs.SliceView.{at_rest}
 use Rattle.slices.proofs.Opened.{opened_groups_have_boxes}
 use Rattle.engine.specs.Opening.{AreAgreedPhasesFrom, IsToOpen}
 
--- the log's seats tell what the tables have
+-- the log's seats record the content of the tables
 pub seats_record : (t : Database) (openings : List OpenedGroup) (seats : List CommittedGroup) → AreOpenedFor t openings → AreInPlace t.scale.warehouses seats → contents_committed seats ≡ contents_opened openings
     → (place : ℕ) (d : CommittedGroup) → place < length seats → content t (get_or seats place d).group ≡ (get_or seats place d).content
 seats_record t openings seats opened in_place same place d small =
@@ -28,7 +29,7 @@ seats_record t openings seats opened in_place same place d small =
     let here : IsBoxOf t place (box_beside (get_or seats place d)) = subst (IsBoxOf t place) (get_or-map box_beside seats place d (box_beside d) small) is in
     sym (ap (λ (b : TicketBoxView). b.left) here.has)
 
--- slices that were just cut have what all share, and nobody waits for them
+-- slices that were just cut have the shared tables, and no waiting actions
 pub cut_to_open : (t : Database) (ids : List ℕ) → All (IsToOpen t) (map at_rest (map (part_of t) ids))
 cut_to_open t [] = All-nil (IsToOpen t)
 cut_to_open t (id ∷ ids) = All-cons (IsToOpen t) (at_rest (part_of t id)) (map at_rest (map (part_of t) ids)) (record { shared_is = refl; nobody = refl }) (cut_to_open t ids)
@@ -40,7 +41,7 @@ agreed_phases_next agreed_phase first table tables h = (
   λ k other found. let at : first + 1 + k ≡ first + suc k = omega arith in ap agreed_phase at ∙ h (suc k) other found,
 )
 
--- the names of the groups' agreements are picked from what was opened for their places
+-- the type parameter identifies the agreements that were opened for the groups' places
 pub agreements_named : (t : Database) (openings : List OpenedGroup) (d : OpenedGroup) → AreOpenedFor t openings
     → AreNamed t.scale.warehouses (λ group. (get_or openings (place_of group) d).committed) (λ group. (get_or openings (place_of group) d).work) openings
 agreements_named t openings d opened = λ group e known.

@@ -1,4 +1,4 @@
--- The executors have ended: what the log, the sessions and the slices tell makes the outcome.
+-- The executors have ended: the outcome follows from the log, the sessions and the slices.
 use Rattle.std.proofs.Common.{◌≡◌, ℕ, zero, suc, ◌<◌, ◌≤◌, List, [], ◌∷◌, length, Some, Result, sym, ap, subst, ◌∙◌}
 use Rattle.std.specs.List.{slice_get, slice_index_or, All}
 use Rattle.std.proofs.lemmas.List.Elements.{All-map}
@@ -19,7 +19,7 @@ use Rattle.engine.specs.Served.{ServedEach}
 use Rattle.engine.proofs.Settled.{settled_tables}
 use Rattle.engine.proofs.Together.{together}
 
--- what stands at a place has what all have
+-- the item at a place has what all items have
 of_all : {X : Type 0} (P : X → Type 0) (xs : List X) (n : ℕ) (x : X) → All P xs → slice_get xs n ≡ Some x → P x
 of_all P xs n x all at = subst P (stands_at xs n x at) (all n x (slice_get_within xs n x at))
   where

@@ -1,4 +1,4 @@
--- What a session that asks interactively is told.
+-- The answers to a session that asks interactively.
 use Rattle.std.proofs.Common.{◌≡◌, ℕ, [], ◌∷◌, ◌++◌, length, Result, Ok, Err, inr, refl, ap, subst, ◌∙◌}
 use Rattle.schema.specs.declared.scale.Scale.{Scale}
 use Rattle.requests.specs.declared.request.Request.{Request}
@@ -21,7 +21,7 @@ module _ (scale : Scale) where
   came_refused before request why rightly =
       (refl, refl, longer scale (known_of before.is_full before.pass.reached) before.pass.reached request why (known_below before.is_full before.pass.reached) rightly)
 
-  -- what the answer tells of a request that its check accepts
+  -- the answer to a request that its check accepts
   pub came_recorded : (before : ReadyView) (asks : Asking) (request : Request) (after : PassView) (number : ℕ) (answer : Result ℕ Refusal) → check_of scale request ≡ Ok tt
       → asks ≡ asking number request before.pass.seen before.pass.mine → number ≡ length before.script → IsRecordedBy asks after answer → Came scale before request after answer
   came_recorded before asks request after number answer accepted asks_is number_is recorded = of_answer answer (subst (λ (a : Asking). IsRecordedBy a after answer) asks_is recorded)

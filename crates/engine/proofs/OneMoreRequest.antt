@@ -17,7 +17,7 @@ use Rattle.engine.proofs.Together.{longer}
 
 -- ---- lists with one more at the end
 
--- what stands in a list with one more
+-- the items of a list with one more item
 slice_get-push : {X : Type 0} (xs : List X) (x : X) (n : ℕ) → slice_get (xs ++ x ∷ []) n ≡ cond (eqb n (length xs)) (Some x) (slice_get xs n)
 slice_get-push [] x zero = refl
 slice_get-push [] x (suc n) = let e : eqb (suc n) 0 ≡ false = grind (arith, nat_tests) in rw e refl
@@ -45,7 +45,7 @@ stays xs x y n h =
 
 -- ---- one request more
 
--- an answer says the same when the session has logged more, and knows the log to reach further
+-- an answer means the same when the session has logged more and its pass records a longer log
 answers_still : (scale : Scale) (reached further : ℕ) (mine rest : List Item) (k : ℕ) (request : Request) (answer : Result ℕ Refusal) → reached ≤ further
     → IsAnswerTo scale reached mine k request answer → IsAnswerTo scale further (mine ++ rest) k request answer
 answers_still scale reached further mine rest k request (Ok place) grown h = (h.0, h.1, Contains-append_left mine rest (item place k request h.1) h.2)

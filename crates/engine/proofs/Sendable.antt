@@ -1,4 +1,4 @@
--- Executors may go to another thread, and what they have in common may be shared by threads, where the names and the gate may.
+-- Executors may go to another thread, and what they share may be shared by threads, if the type parameter and the gate may.
 use denote.RattleType.{RattleType}
 use denote.Ref.{NamedLft}
 use denote.Param.Send.{IsSend, IsSync, sendable, view_send}

@@ -45,14 +45,14 @@ new_next first pass seat lanes h low =
           subst (λ n. slice_get lanes k ≡ Some (new_pass n, new_seat n)) there (h (suc k) inside),
     )
 
--- a new session that has logged just what stands of it has nothing there
+-- a new session that has logged exactly its entries in the log has none there
 pub none_of : (session : ℕ) (pass : PassView) (before log : List Entry) → pass ≡ new_pass session → pass.mine ≡ items_of pass.session before → before ≡ log → items_of session log ≡ []
 none_of session pass before log new mine same =
     let whose : pass.session ≡ session = ap (λ (p : PassView). p.session) new in
     let none : pass.mine ≡ [] = ap (λ (p : PassView). p.mine) new in
     sym (ap (λ n. items_of n before) whose ∙ ap (items_of session) same) ∙ sym mine ∙ none
 
--- one session more of which nothing stands in the log
+-- one more session that has no entry in the log
 pub none_next : (first session : ℕ) (entries : List Entry) → ((s : ℕ) → first ≤ s → s < session → items_of s entries ≡ []) → items_of session entries ≡ []
     → (s : ℕ) → first ≤ s → s < session + 1 → items_of s entries ≡ []
 none_next first session entries before here s from up =
@@ -117,13 +117,13 @@ served_among scale scripts more entries answers even each = λ s script recorded
     let low : s < length answers = slice_get_within answers s recorded is_recorded in
     each s script recorded (sym (at_left scripts more s (omega (arith, low, even))) ∙ asked) is_recorded
 
--- what the sessions asked stands behind the scripts
+-- what the sessions asked is behind the scripts
 pub asked_behind : {J : Type 0} (scripts : List (List Request)) (left : List (Left J)) (first : ℕ) → first ≡ length scripts → AreAskedFrom first (scripts ++ map (λ (one : Left J). one.session.script) left) left
 asked_behind {J = J} scripts left first is = λ k one found.
     let asked = λ (l : Left J). l.session.script in
     ap (λ (n : ℕ). slice_get (scripts ++ map asked left) (n + k)) is ∙ at_right scripts (map asked left) k ∙ slice_get-map asked left k ∙ ap (option_map asked) found
 
--- the next of these sessions has asked what stands there
+-- the next of these sessions has asked the script at its place
 pub asked_next : {J : Type 0} (first : ℕ) (scripts : List (List Request)) (all done rest : List (Left J)) (one : Left J) → all ≡ done ++ one ∷ rest → AreAskedFrom first scripts all
     → slice_get scripts (first + length done) ≡ Some one.session.script
 asked_next first scripts all done rest one is asked = asked (length done) one (ap (λ l. slice_get l (length done)) is ∙ at_seam done one rest)

@@ -72,7 +72,7 @@ each_kind kind.Orders = Contains-get_or kinds 3 kind.Warehouse (omega arith)
 each_kind kind.History = Contains-get_or kinds 4 kind.Warehouse (omega arith)
 each_kind kind.Stock = Contains-get_or kinds 5 kind.Warehouse (omega arith)
 
--- a group stands under its kind
+-- a group is among those of its kind
 under_kind : (warehouses : ℕ) (group : Group) → IsGroupOf warehouses group → (k : Kind) × Contains (groups_under k (warehouse_of group)) group
 under_kind warehouses (g.Warehouse w_id) known = (kind.Warehouse, contains_here (g.Warehouse w_id) [])
 under_kind warehouses (g.District w_id d_id) known = (kind.District, numbered_has (λ d. g.District w_id d) 1 10 d_id known.1.0 (let up = known.1.1 in omega arith))
@@ -90,7 +90,7 @@ group_wanted_for warehouses home group known at =
 
 -- ---- one slice
 
--- What is claimed of all groups of a slice tells what stands there, and so do the tables that the claims tell.
+-- The claims on all groups of a slice record the slice's content, and so do the tables that the claims record.
 pub slice_settled : (opening last : Database) (home : ℕ) (s : SliceView) (by : Holder) (claims : List ClaimView) (held : List (List ClaimView)) → IsBackAt opening home s
     → held ≡ claims ∷ [] → claims ≡ map (granted_in by s) (group_wants (wants_of_all home)) → Records (content last) (all_claims held) → IsSettledAt opening last home s
 slice_settled opening last home s by claims held back held_is granted records = record {
@@ -102,7 +102,7 @@ slice_settled opening last home s by claims held back held_is granted records = 
       (contains_map (granted_in by s) (group_wants (wants_of_all home)) group_want (group_wanted_for opening.scale.warehouses home group known at)));
 }
 
--- the slice is the same, but for who holds its groups
+-- the slice is the same, but for the holders of its groups
 pub settled_still : (opening last : Database) (home : ℕ) (old new : SliceView) → new.home ≡ old.home → new.tables ≡ old.tables → IsSettledAt opening last home old → IsSettledAt opening last home new
 settled_still opening last home old new home_is tables_are h = record {
   back = record {

@@ -21,7 +21,7 @@ use Rattle.engine.specs.Served.{IsAnswerTo, ServedEach}
 
 -- ---- lists
 
--- what stands in a list of lists stands in one of them
+-- an item of a list of lists is in one of them
 at_parts : {X : Type 0} (lists : List (List X)) (s k : ℕ) (x : X) → item_at lists s k ≡ Some x
     → (list : List X) × (slice_get lists s ≡ Some list) × (slice_get list k ≡ Some x)
 at_parts {X = X} lists s k x h =
@@ -101,7 +101,7 @@ entry_listed start (first ∷ es) (suc j) e h =
     Contains-append_right (if e.session == first.session then item start first.number first.request first.reply ∷ [] else []) (items_from e.session ((start + 1)) es) (item (start + suc j) e.number e.request e.reply)
     (subst (λ n. Contains (items_from e.session ((start + 1)) es) (item n e.number e.request e.reply)) placed (entry_listed ((start + 1)) es j e h))
 
--- what a session has logged stands in the log, at its place
+-- what a session has logged is in the log, at its place
 stands_in_log : (session : ℕ) (es : List Entry) (place number : ℕ) (request : Request) (reply : Reply) → Contains (items_of session es) (item place number request reply)
     → slice_get es place ≡ Some (entry_of session number request reply)
 stands_in_log session es place number request reply h =
@@ -110,7 +110,7 @@ stands_in_log session es place number request reply h =
     let at : place ≡ d.0 = omega arith in
     ap (slice_get es) at ∙ d.2
 
--- and what stands there its session has logged
+-- and its session has logged what is there
 logged_by_session : (es : List Entry) (place : ℕ) (e : Entry) → slice_get es place ≡ Some e → Contains (items_of e.session es) (item place e.number e.request e.reply)
 logged_by_session es place e h =
     let at : 0 + place ≡ place = omega arith in
@@ -118,7 +118,7 @@ logged_by_session es place e h =
 
 -- ---- the outcome
 
--- a refusal stands when the log is longer
+-- a refusal still holds when the log is longer
 pub longer : (scale : Scale) (reached entries : ℕ) (request : Request) (refusal : Refusal) → reached ≤ entries
     → IsRefusal scale reached request refusal → IsRefusal scale entries request refusal
 longer scale reached entries request why grown (inl refused) = inl refused

@@ -10,21 +10,21 @@ use Rattle.commit_log.specs.PassView.{PassView, SessionSeatView}
 use Rattle.engine.specs.Outcome.{IsRefusal}
 use Rattle.engine.specs.Served.{Served}
 
--- every place that was answered is one that the session has seen
+-- the session has seen every place that was answered
 abbrev pub HasSeen : ℕ → List (Result ℕ Refusal) → Type 0
 HasSeen seen answers = (k place : ℕ) → slice_get answers k ≡ Some (Ok place) → place < seen
 
--- whether an answer says that the log is full
+-- whether an answer is LogFull
 abbrev pub says_full : Result ℕ Refusal → Bool
 says_full (Err LogFull) = true
 says_full _ = false
 
--- how far a session has to know the log to have reached: only where the log was full for it
+-- how far the session's pass has to record that the log has reached: only if the log was full for it
 abbrev pub known_of : Bool → ℕ → ℕ
 known_of is_full reached = if is_full then reached else 0
 
--- What a contract sees of a session none of whose requests is in flight: the requests that it asks, its seat, its pass, the answers so far, and
--- whether the log was full for it.
+-- What contracts see of a session none of whose requests is in flight: the requests that it asks, its seat, its pass, the answers
+-- so far, and whether the log was full for it.
 pub record ReadyView : Type 0 where
   pub script : List Request
   pub seat : SessionSeatView
@@ -35,14 +35,14 @@ pub record ReadyView : Type 0 where
 abbrev pub ready_view : List Request → SessionSeatView → PassView → List (Result ℕ Refusal) → Bool → ReadyView
 ready_view script seat pass answers is_full = record { script = script; seat = seat; pass = pass; answers = answers; is_full = is_full }
 
--- Its pass is here. It was asked just these requests, and the answers say what came of them.
+-- A session that has its pass. It was asked exactly these requests, and each answer is the result of its request.
 pub record IsResting (scale : Scale) (s : ReadyView) : Type 0 where
   pub seat_is : s.seat.session ≡ s.pass.session
   pub served : Served scale s.script s.answers s.pass.mine (known_of s.is_full s.pass.reached)
   pub has_seen : HasSeen s.pass.seen s.answers
   pub full : s.is_full ≡ true → 16777216 ≤ s.pass.reached
 
--- what a contract sees of a session whose next request is in flight
+-- what contracts see of a session whose next request is in flight
 pub record AskedView : Type 0 where
   pub script : List Request
   pub seat : SessionSeatView
@@ -51,8 +51,8 @@ pub record AskedView : Type 0 where
 abbrev pub asked_view : List Request → SessionSeatView → List (Result ℕ Refusal) → AskedView
 asked_view script seat answers = record { script = script; seat = seat; answers = answers }
 
--- Its pass goes with the request: its seat tells what it asked, and what the pass was then. Before, it was asked just these requests, and the
--- answers say what came of them.
+-- A session whose pass goes with its request: its seat records what it asked, and what the pass was then. Before, it was asked
+-- exactly these requests, and each answer is the result of its request.
 pub record IsAway (scale : Scale) (s : AskedView) : Type 0 where
   pub served : Served scale s.script s.answers s.seat.asking.mine 0
   pub has_seen : HasSeen s.seat.asking.seen s.answers
@@ -65,21 +65,21 @@ pub record IsAway (scale : Scale) (s : AskedView) : Type 0 where
 abbrev pub asked_of : List Request → List (Result ℕ Refusal) → List Request
 asked_of script answers = take (length answers) script
 
--- It was asked the first requests of its script. There is room for all answers.
+-- It was asked the first requests of its script. There is capacity for all answers.
 pub record IsReady (scale : Scale) (scripts : List (List Request)) (s : ReadyView) (room : ℕ) : Type 0 where
   pub script_is : slice_get scripts s.pass.session ≡ Some s.script
   pub few : length s.answers ≤ length s.script
   pub so_far : IsResting scale (ready_view (asked_of s.script s.answers) s.seat s.pass s.answers s.is_full)
   pub room_is : length s.script ≤ room
 
--- The next one of its script is in flight.
+-- The next request of its script is in flight.
 pub record IsAsked (scale : Scale) (scripts : List (List Request)) (s : AskedView) (room : ℕ) : Type 0 where
   pub script_is : slice_get scripts s.seat.session ≡ Some s.script
   pub next : slice_get s.script (length s.answers) ≡ Some s.seat.asking.request
   pub so_far : IsAway scale (asked_view (asked_of s.script s.answers) s.seat s.answers)
   pub room_is : length s.script ≤ room
 
--- the session's next request is refused for a reason that holds
+-- the session's next request may be refused for this reason
 abbrev pub IsRefusedNext : Scale → ReadyView → Refusal → Type 0
 IsRefusedNext scale s why =
     (request : Request) × (slice_get s.script (length s.answers) ≡ Some request) × IsRefusal scale (known_of s.is_full s.pass.reached) request why

@@ -1,4 +1,4 @@
--- A session that asks interactively: whoever asks by it has every answer, and knows what came of it all.
+-- A session that asks interactively: its caller has every answer, and what it proves.
 use Rattle.std.specs.Prelude.{◌≡◌, ℕ, ◌+◌, ◌<◌, ◌≤◌, List, [], ◌∷◌, ◌++◌, length, map, Result, Ok, Err}
 use Rattle.schema.specs.declared.scale.Scale.{Scale}
 use Rattle.requests.specs.declared.request.Request.{Request}
@@ -13,8 +13,9 @@ use Rattle.engine.specs.declared.session.AskFault.{AskFault}
 use Rattle.engine.specs.declared.session.AskFault.TheVariants.{NoMemory, Stopped}
 use Rattle.engine.specs.declared.session.Left.{Left}
 
--- What came of a request. It was done: its entry stands behind all that the session had seen; the session has logged this one more, and has seen
--- the log up to there. Or it was refused, for a reason that holds: the session has logged and seen what it had.
+-- The result of a request. Either it was carried out: its entry is behind all that the session had seen, the session has logged
+-- this one more, and it has seen the log up to there. Or it was refused, for a reason that IsRefusal permits: the session has
+-- logged and seen what it had.
 abbrev pub Came : Scale → ReadyView → Request → PassView → Result ℕ Refusal → Type 0
 Came scale before request after (Ok place) =
     (check_of scale request ≡ Ok tt) × (before.pass.seen ≤ place) × (after.seen ≡ place + 1)
@@ -22,20 +23,20 @@ Came scale before request after (Ok place) =
 Came scale before request after (Err why) =
     (after.seen ≡ before.pass.seen) × (after.mine ≡ before.pass.mine) × IsRefusal scale after.reached request why
 
--- the session has asked this request, and has had this answer
+-- the session has asked this request and has had this answer
 pub record Asks (scale : Scale) (before : ReadyView) (request : Request) (after : ReadyView) (answer : Result ℕ Refusal) : Type 0 where
   pub session_is : after.pass.session ≡ before.pass.session
   pub noted : after.script ≡ before.script ++ request ∷ []
   pub answered : after.answers ≡ before.answers ++ answer ∷ []
   pub came : Came scale before request after.pass answer
 
--- the session has met another, and is as it was but for what it has seen
+-- the session has met another; only what it has seen is changed
 pub record HasMet (before other after : ReadyView) : Type 0 where
   pub pass_is : after.pass ≡ having_met before.pass other.pass
   pub noted : after.script ≡ before.script
   pub answered : after.answers ≡ before.answers
 
--- the session comes back as it was, or is gone
+-- the session comes back unchanged, or is lost
 abbrev pub IsBackIn : {J : Type 0} → ReadyView → AskFault J → Type 0
 IsBackIn before (NoMemory session) = session ≡ before
 IsBackIn before Stopped = Unit
@@ -50,13 +51,13 @@ module _ {J : Type 0} where
   abbrev pub asked_by : List (Left J) → List (List Request)
   asked_by left = map (λ one. one.session.script) left
 
-  -- and what it was answered
+  -- and its answers
   abbrev pub recorded_by : List (Left J) → List (List (Result ℕ Refusal))
   recorded_by left = map (λ one. one.session.answers) left
 
--- ---- what the session keeps
+-- ---- the state of a request that the session asks
 
--- a session, and what it is to ask
+-- a session and its next request
 pub record AskerView : Type 0 where
   pub before : ReadyView
   pub request : Request
@@ -64,14 +65,14 @@ pub record AskerView : Type 0 where
 abbrev pub asker_view : ReadyView → Request → AskerView
 asker_view before request = record { before = before; request = request }
 
--- the next request has this number, and there is room to keep it and its answer
+-- the next request has this number, and there is capacity to keep it and its answer
 pub record IsCalling (scale : Scale) (s : ReadyView) (number room_to_ask room_to_answer : ℕ) : Type 0 where
   pub before : IsResting scale s
   pub number_is : number ≡ length s.answers
   pub can_keep : length s.script < room_to_ask
   pub can_answer : length s.answers < room_to_answer
 
--- this request is in flight, and there is room to keep it and its answer
+-- this request is in flight, and there is capacity to keep it and its answer
 pub record IsCalled (scale : Scale) (s : AskedView) (request : Request) (room_to_ask room_to_answer : ℕ) : Type 0 where
   pub so_far : IsAway scale s
   pub request_is : s.seat.asking.request ≡ request

@@ -1,4 +1,4 @@
--- For what an engine is opened.
+-- The state for which an engine is opened.
 use Rattle.std.specs.Prelude.{◌≡◌, ◌<◌, ◌≤◌, ℕ, ◌+◌, List, [], Some, length}
 use Rattle.std.specs.List.{slice_get}
 use Rattle.atomic_table.specs.Seated.{TableId}
@@ -17,8 +17,9 @@ use Rattle.engine.specs.declared.opening.Opening.{Opening}
 abbrev pub AreAgreedPhasesFrom : (ℕ → TableId) → ℕ → List TableId → Type 0
 AreAgreedPhasesFrom agreed_phase first tables = (k : ℕ) (table : TableId) → slice_get tables k ≡ Some table → agreed_phase (first + k) ≡ table
 
--- An engine's names were picked for these tables, these scripts and this opening: there are agreements for each group of the tables,
--- with what the group has; and the names of the agreements are those that were opened.
+-- The type parameter identifies these tables, these scripts and this opening's agreements: there is an agreement for each group
+-- of the tables, with the group's content; the log and the agreed phases are those that were opened; and each script has an
+-- agreed phase.
 pub record IsNamedFor {J : Type 0} (log : LogNames J) (groups : GroupNames J) (agreed_phase : ℕ → TableId) (named : List (List Request)) (tables : Database) (scripts : List (List Request)) (opening : Opening) : Type 0 where
   pub opened : AreOpenedFor tables opening.groups.items
   pub tables_are : log.opening ≡ tables
@@ -31,7 +32,7 @@ pub record IsNamedFor {J : Type 0} (log : LogNames J) (groups : GroupNames J) (a
   pub enough : length scripts ≤ length opening.agreed_phases.items
   pub scripts_are : named ≡ scripts
 
--- a slice of the opening, for which nobody waits
+-- a slice of the opening that has no waiting action
 pub record IsToOpen (opening : Database) (s : SliceView) : Type 0 where
   pub shared_is : shared_of s.tables ≡ shared_of opening
   pub nobody : s.waiters ≡ []

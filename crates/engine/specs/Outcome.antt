@@ -1,4 +1,4 @@
--- What serving scripts of requests comes to.
+-- The outcome of serving scripts of requests.
 use Rattle.std.specs.Prelude.{◌≡◌, ◌⊎◌, ℕ, ◌<◌, List, length, Option, Some, Result, Ok, Err}
 use Rattle.std.specs.List.{slice_get}
 use Rattle.std.specs.Option.{option_map, option_and_then}
@@ -13,26 +13,26 @@ use Rattle.commit_log.specs.Items.{entry_of}
 use Rattle.commit_log.specs.Log.{IsLegal}
 use Rattle.executor.specs.Answers.{MayBeRefused}
 
--- what stands at place k of list s
+-- the item at place k of list s
 abbrev pub item_at : {X : Type 0} → List (List X) → ℕ → ℕ → Option X
 item_at lists s k = option_and_then (λ list. slice_get list k) (slice_get lists s)
 
--- A request that its check refuses is refused so. Another may be refused where the log has so many entries: since it died on a group that it
--- claims, since there was no memory, or since the log has its most entries.
+-- If the check refuses the request, it is refused for that reason. Else, when the log has this many entries, it may be refused
+-- since it died on a group of its footprint, since an allocation failed, or since the log has its most entries.
 abbrev pub IsRefusal : Scale → ℕ → Request → Refusal → Type 0
 IsRefusal scale entries request refusal = (check_of scale request ≡ Err refusal) ⊎ ((check_of scale request ≡ Ok tt) × MayBeRefused entries request refusal)
 
--- Script s is session s, and its request at place k has the number k. It is answered by a place in the log, where the reply stands, or by why it
--- was refused.
+-- Script s is session s, and its request at place k has the number k. Its answer is the place of its entry, with its reply, in
+-- the log, or why it was refused.
 pub record IsOutcome (opening : Database) (scripts : List (List Request)) (log : List Entry) (last : Database) (answers : List (List (Result ℕ Refusal))) : Type 0 where
-  -- the log's replies are those of a machine from the opening, and the tables are its last
+  -- the log's replies are those of a machine from the opening, and the tables are the machine's last
   pub legal : IsLegal opening log last
   -- every request has one answer
   pub answered : (s : ℕ) → option_map length (slice_get answers s) ≡ option_map length (slice_get scripts s)
-  -- where a place answers a request, its entry stands there
+  -- an entry is at each place that is an answer, and it is the request's
   pub done : (s k place : ℕ) → item_at answers s k ≡ Some (Ok place)
       → (request : Request) × (item_at scripts s k ≡ Some request) × (reply : Reply) × (slice_get log place ≡ Some (entry_of s k request reply))
-  -- and the place of every entry answers its request
+  -- and the place of every entry is its request's answer
   pub logged : (place : ℕ) (entry : Entry) → slice_get log place ≡ Some entry → item_at answers entry.session entry.number ≡ Some (Ok place)
   -- the places of one script ascend
   pub ascending : (s j k place later : ℕ) → j < k → item_at answers s j ≡ Some (Ok place) → item_at answers s k ≡ Some (Ok later) → place < later

@@ -1,4 +1,4 @@
--- What a session that asks a script comes to.
+-- A session that asks a script, and its answers.
 use Rattle.std.specs.Prelude.{◌≡◌, ℕ, ◌<◌, List, length, Some, Result, Ok, Err, Contains}
 use Rattle.std.specs.List.{slice_get}
 use Rattle.schema.specs.declared.scale.Scale.{Scale}
@@ -11,24 +11,24 @@ use Rattle.commit_log.specs.declared.entry.Entry.{Entry}
 use Rattle.commit_log.specs.Items.{item, items_of}
 use Rattle.engine.specs.Outcome.{IsRefusal}
 
--- What an answer says of a request, when the session has logged `mine`, and has seen the log reach so many entries:
--- the place at which it is logged, and then its check accepts it; or that it was refused, for a reason that holds.
+-- What an answer to a request means when the session has logged `mine` and has seen the log reach this many entries. A place: the
+-- check accepts the request, and it is logged there. A refusal: the request may be refused for this reason.
 abbrev pub IsAnswerTo : Scale → ℕ → List Item → ℕ → Request → Result ℕ Refusal → Type 0
 IsAnswerTo scale reached mine number request (Ok place) = (check_of scale request ≡ Ok tt) × (reply : Reply) × Contains mine (item place number request reply)
 IsAnswerTo scale reached mine number request (Err refusal) = IsRefusal scale reached request refusal
 
--- A session was asked this script from its beginning, and gave these answers; `mine` is all that it has logged.
+-- A session was asked this script from its beginning and has these answers; `mine` is all that it has logged.
 pub record Served (scale : Scale) (script : List Request) (answers : List (Result ℕ Refusal)) (mine : List Item) (reached : ℕ) : Type 0 where
   -- every request has one answer
   pub answered : length answers ≡ length script
-  -- which says what came of it
+  -- each answer is the result of its request
   pub each : (k : ℕ) (request : Request) (answer : Result ℕ Refusal) → slice_get script k ≡ Some request → slice_get answers k ≡ Some answer → IsAnswerTo scale reached mine k request answer
-  -- whatever it has logged was answered so
+  -- whatever it has logged was answered with its place
   pub logged : (x : Item) → Contains mine x → slice_get answers x.number ≡ Some (Ok x.place)
   -- and the places ascend
   pub ascending : (j k place later : ℕ) → j < k → slice_get answers j ≡ Some (Ok place) → slice_get answers k ≡ Some (Ok later) → place < later
 
--- each script was served its answers, and what its session logged is what stands of it in the log of these entries
+-- each script has these answers, and its session has logged exactly its entries in the log
 abbrev pub ServedEach : Scale → List (List Request) → List Entry → List (List (Result ℕ Refusal)) → Type 0
 ServedEach scale scripts entries answers =
     (s : ℕ) (script : List Request) (recorded : List (Result ℕ Refusal)) → slice_get scripts s ≡ Some script → slice_get answers s ≡ Some recorded

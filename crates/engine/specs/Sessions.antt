@@ -9,6 +9,6 @@ use Rattle.engine.specs.declared.session.Left.{Left}
 abbrev pub AreNewFrom : ℕ → List (PassView × SessionSeatView) → Type 0
 AreNewFrom first lanes = (k : ℕ) → first + k < 64 → slice_get lanes k ≡ Some (new_pass (first + k), new_seat (first + k))
 
--- what these sessions have asked is, in order, what stands among the scripts from this place on
+-- what these sessions have asked are, in order, the scripts from this place on
 abbrev pub AreAskedFrom : {J : Type 0} → ℕ → List (List Request) → List (Left J) → Type 0
 AreAskedFrom first scripts left = (k : ℕ) (one : _) → slice_get left k ≡ Some one → slice_get scripts (first + k) ≡ Some one.session.script

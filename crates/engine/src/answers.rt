@@ -3,8 +3,8 @@ ghost use Rattle.std.specs.Prelude.{◌≡◌};
 use requests::Refusal;
 use std::marker::Model;
 
-/// The answers to the requests of one script, by the requests' numbers: the place in the log of a request's entry, where its reply
-/// stands, or why it was refused.
+/// The answers to the requests of one script, by the requests' numbers: the place of the request's entry, with its reply, in the
+/// log, or why the request was refused.
 #[derive(Drop)]
 pub struct Answers {
     answers: Vec<Result<u32, Refusal>>,
@@ -20,7 +20,7 @@ impl Model for Answers {
 }
 
 impl Answers {
-    // These answers.
+    // Wraps these answers.
     pub(crate) fn of(answers: Vec<Result<u32, Refusal>>) -> Answers
         ensures { result ≡ answers.items }
     {

@@ -1,4 +1,4 @@
-//! A session and its script: between two requests, and while one is in flight.
+//! A session that asks a script: between two requests, and while one is in flight.
 ghost use Rattle.std.specs.Prelude.{◌≡◌, [], length, false, Some, Ok, Err, IfSome, IsTrue, slice_get};
 ghost use Rattle.requests.specs.Check.{check_of};
 ghost use Rattle.commit_log.specs.Items.{items_of};
@@ -17,18 +17,18 @@ use std::marker::Model;
 use std::sync::atomic::{AtomicU64, Ordering};
 use transactions::home_of_request;
 
-/// A session none of whose requests is in flight: its pass is here. It keeps that its requests so far have the answers that
-/// are here, each of which says what came of it.
+/// A session none of whose requests is in flight. It has its pass. Invariant: its requests so far have these answers, each of
+/// which is the result of its request.
 #[derive(Drop)]
 pub(crate) struct Ready<'a, J: ServeNames> {
     script: &'a Script,
     seat: SessionSeat<J>,
     pass: Pass<J>,
-    // There is room for the answers to all requests.
+    // It has capacity for the answers to all requests.
     answers: Vec<Result<u32, Refusal>>,
     // How often its next request may still be asked.
     tries_left: u32,
-    // Whether the log was full when it asked: it asks no more then.
+    // Whether it has had the answer LogFull. It asks no more then.
     is_full: bool,
 }
 
@@ -45,7 +45,8 @@ impl<'a, J: ServeNames> Model for Ready<'a, J> {
     ghost invariant = { λ r. IsReady J.opening.scale J.scripts (ready_view r.script.now r.seat r.pass r.answers.items r.is_full) (vec_capacity r.answers) };
 }
 
-/// A session one of whose requests is in flight: its pass goes with it. It keeps the same of the requests before.
+/// A session one of whose requests is in flight; its pass goes with the request. Invariant: its requests before have these
+/// answers, each of which is the result of its request.
 #[derive(Drop)]
 pub(crate) struct Asked<'a, J: ServeNames> {
     script: &'a Script,
@@ -67,19 +68,19 @@ impl<'a, J: ServeNames> Model for Asked<'a, J> {
     ghost invariant = { λ a. IsAsked J.opening.scale J.scripts (asked_view a.script.now a.seat a.answers.items) (vec_capacity a.answers) };
 }
 
-/// What comes next of a session.
+/// The result of `Ready::next`.
 #[derive(Drop)]
 pub(crate) enum Next<'a, J: ServeNames> {
     /// Its next request was refused at once, or is to be asked again.
     Ready(Ready<'a, J>),
-    /// Its next request is on its way.
+    /// Its next request begins.
     Asks(Asked<'a, J>, Flow<J>),
     /// Its script is at its end.
     Ended(Ready<'a, J>),
 }
 
 impl<'a, J: ServeNames> Ready<'a, J> {
-    /// A session before the first request of its script, with room for all answers.
+    /// A session before the first request of its script, with capacity for all answers. Returns NoMemory if the allocation fails.
     pub(crate) fn open(
         alloc: Global,
         script: &'a Script,
@@ -102,8 +103,8 @@ impl<'a, J: ServeNames> Ready<'a, J> {
         })
     }
 
-    /// The session comes to its next request: what its check refuses is answered so; anything else begins in this slot, with
-    /// the next age; and once the log was full for it, all else is refused so.
+    /// Takes the session's next request. If the check refuses it, that is its answer. If the log is full for the session, the
+    /// answer is LogFull. Else the request begins in this slot, with the next age.
     pub(crate) fn next(
         self,
         alloc: Global,
@@ -124,7 +125,7 @@ impl<'a, J: ServeNames> Ready<'a, J> {
         }
     }
 
-    // Its next request is refused.
+    // Answers its next request with a refusal.
     fn refused(self, refusal: Refusal, tries: u32) -> Ready<'a, J>
         requires { IsRefusedNext J.opening.scale self refusal }
     {
@@ -147,7 +148,7 @@ impl<'a, J: ServeNames> Ready<'a, J> {
         }
     }
 
-    // Its next request, which its check accepts, is asked.
+    // Asks its next request, which its check accepts.
     fn ask(
         self,
         alloc: Global,
@@ -184,19 +185,19 @@ impl<'a, J: ServeNames> Ready<'a, J> {
         }
     }
 
-    /// The W_ID of the warehouse whose terminal asks its next request.
+    /// The W_ID of the warehouse whose terminal asks its next request. `None` at the script's end.
     pub(crate) fn next_home(&self) -> Option<u32> {
         let request = self.script.requests().get(self.answers.len())?;
         Some(home_of_request(request))
     }
 
-    /// How often its next request was asked, of so many times that it may be, and died or found no memory.
+    /// How often its next request was asked, of the `tries` times that it may be, and was refused with Died or NoMemory.
     pub(crate) fn deaths(&self, tries: u32) -> u32 {
         tries.saturating_sub(self.tries_left)
     }
 
-    /// The answers to the whole script, once they are compared with the log: the session has logged just what stands there of
-    /// it. `None` where it is another session, or its script is not at its end.
+    /// The answers to the whole script, after an audit of the session: it has logged exactly its entries in the log. Returns
+    /// `None` if it is another session, or if its script is not at its end.
     pub(crate) fn audit(mut self, log: &mut Log<J>, session: usize) -> Option<Answers>
         ensures served { IfSome result (λ answers. (script : _) → slice_get J.scripts session ≡ Some script → Served J.opening.scale script answers (items_of session log.old) (length log.old)) }
         ensures same { log.new ≡ log.old }
@@ -212,7 +213,7 @@ impl<'a, J: ServeNames> Ready<'a, J> {
 }
 
 impl<'a, J: ServeNames> Asked<'a, J> {
-    /// The session and the number of its request, if that was not asked before.
+    /// The session and the number of its request, if the request was not asked before.
     pub(crate) fn first_try(&self, tries: u32) -> Option<(u32, u32)> {
         if self.tries_left != tries {
             return None;
@@ -221,7 +222,7 @@ impl<'a, J: ServeNames> Asked<'a, J> {
         Some((self.seat.session(), number))
     }
 
-    /// The answer has come. Where the request died or found no memory it is asked again, as long as it may. `None` where the
+    /// Takes the answer. A request that died or found no memory is to be asked again as long as it may. Returns `None` if the
     /// answer is another session's.
     pub(crate) fn finish(mut self, recorded: SessionAnswer<J>, tries: u32) -> Option<Ready<'a, J>> {
         let (mut pass, answer) = recorded.into_parts();
@@ -232,7 +233,7 @@ impl<'a, J: ServeNames> Asked<'a, J> {
         Some(self.answered(pass, answer, tries))
     }
 
-    // The pass has come back with this answer.
+    // Takes the pass back with this answer.
     fn answered(self, pass: Pass<J>, answer: Result<u32, Refusal>, tries: u32) -> Ready<'a, J>
         requires session { pass.session ≡ self.seat.session }
         requires recorded { IsRecordedBy self.seat.asking pass answer }
@@ -266,14 +267,14 @@ impl<'a, J: ServeNames> Asked<'a, J> {
     }
 }
 
-// Whether a request with this answer is asked again: it died, or there was no memory.
+// Whether a request with this answer is asked again: it was refused with Died or NoMemory.
 fn is_asked_again(answer: &Result<u32, Refusal>) -> bool
     ensures { IsTrue result → (why : Refusal) × (answer.now ≡ Err why) }
 {
     matches!(answer, Err(Refusal::Died { .. } | Refusal::NoMemory))
 }
 
-/// Whether an answer says that the log is full.
+/// Whether the answer is LogFull.
 pub(crate) fn says_full(answer: &Result<u32, Refusal>) -> bool
     ensures { result ≡ spec.says_full answer.now }
 {

@@ -1,4 +1,4 @@
-//! What an executor has to itself.
+//! The state that an executor has to itself.
 use crate::MOST_SESSIONS;
 use crate::message::Message;
 use executor::{ExecutorShards, PhaseNames};
@@ -7,57 +7,58 @@ use schema::NoMemory;
 use std::alloc::Global;
 use std::collections::VecDeque;
 
-/// The most messages that an executor has to itself, that found an inbox full, or that are parked: 64 transactions have no more, with
-/// a fetch or a parcel for each warehouse.
+/// Capacity of an executor's own lane, of its outbox and of its parked messages: 64 transactions have no more messages, with a
+/// fetch or a parcel for each warehouse.
 const ROOM: usize = 4096;
 
-/// How often a request may die and be asked again at once.
+/// How often a request may die and still be asked again at once.
 const MOST_AT_ONCE: u32 = 3;
 
-/// With how many deaths a request waits the longest before it is asked again: 2,500 steps.
+/// The number of deaths from which on the wait grows no more. It is 2,500 steps then.
 const MOST_DEATHS: u32 = 100;
 
-/// How many microseconds of rest are a step.
+/// Microseconds of rest that count as one step.
 pub(crate) const STEP: u64 = 20;
 
 /// A session that is to ask its next request here.
 #[derive(Clone, Copy, Drop)]
 pub(crate) struct Turn {
     slot: usize,
-    /// The step from which on it may.
+    /// The first step in which it may begin it.
     from: u64,
 }
 
-/// An executor: the shards of its warehouses, and the messages that it has still to take or to send.
+/// An executor: the shards of its warehouses, and the messages that it is to take or to send.
 #[derive(Drop)]
 pub struct Executor<J: PhaseNames> {
     pub(crate) number: u32,
     pub(crate) shards: ExecutorShards<J>,
-    /// To whom the shard of a warehouse has gone, since a move last brought it here; by the warehouse's W_ID less one.
+    /// The executor to which the shard of a warehouse has gone since a move last brought it here; by the warehouse's W_ID less
+    /// one.
     notes: Vec<Option<u32>>,
-    /// From the others.
+    /// Messages from other executors.
     pub(crate) inbox: Taker<Message<J>>,
-    /// Into the inboxes of all, by the executors' numbers.
+    /// Senders into the inboxes of all executors, by their numbers.
     pub(crate) outlets: Vec<Sender<Message<J>>>,
-    /// To itself.
+    /// Messages to itself.
     pub(crate) lane: VecDeque<Message<J>>,
-    /// Warehouses at whose shards claims have come back while somebody may have waited there, who may go on now.
+    /// Warehouses whose shards may have waiting actions that need not wait any more, since claims have come back.
     pub(crate) freed: VecDeque<u32>,
-    /// To others whose inbox was full.
+    /// Messages to executors whose inbox was full.
     pub(crate) outbox: VecDeque<(u32, Message<J>)>,
-    /// For shards that are on their way here, each with the W_ID of its warehouse.
+    /// Messages for shards that are on their way here, each with the W_ID of its warehouse.
     parked: VecDeque<(u32, Message<J>)>,
     /// The sessions that are to begin their next request here.
     ready: VecDeque<Turn>,
-    /// How many transactions it has begun that are not over.
+    /// The number of transactions it has begun that are not finished.
     pub(crate) begun: usize,
-    /// How many steps it has gone: rounds in which it had something to do, and so many microseconds of rest.
+    /// Its steps so far: rounds in which it had work, and its rests in units of STEP.
     steps: u64,
 }
 
 impl<J: PhaseNames> Executor<J> {
-    /// An executor without shards, with room for those of so many warehouses, which takes from this
-    /// inbox and puts into those.
+    /// Opens an executor without shards, with room for those of this many warehouses, that takes from this inbox and puts into
+    /// these outlets. Returns NoMemory if an allocation fails.
     pub(crate) fn open(
         alloc: Global,
         number: u32,
@@ -93,14 +94,14 @@ impl<J: PhaseNames> Executor<J> {
 
     // ---- sessions
 
-    /// A session is to begin its next request here, which has died so often. What it died of may be in the hands of an executor whose
-    /// thread has no processor: so it is given time, the more the more often it has died.
+    /// Queues a session that is to begin its next request here, which has died this often. A conflicting holder may be at an
+    /// executor whose thread has no processor, so the request waits the longer the more often it has died.
     pub(crate) fn get_ready(&mut self, slot: usize, deaths: u32) -> Result<(), NoMemory> {
         let from = self.steps.saturating_add(steps_after(deaths));
         Ok(self.ready.push_back(Turn { slot, from })?)
     }
 
-    /// The session that is to begin its next request: of those that may, the one that has waited longest.
+    /// Takes the session that is to begin its next request: of those that may begin now, the one that has waited longest.
     pub(crate) fn next_ready(&mut self) -> Option<usize> {
         let mut first = None;
         for (place, turn) in self.ready.iter().enumerate() {
@@ -112,12 +113,12 @@ impl<J: PhaseNames> Executor<J> {
         Some(self.ready.remove(first?)?.slot)
     }
 
-    /// It has gone so many steps more.
+    /// Counts this many steps.
     pub(crate) fn go(&mut self, steps: u64) {
         self.steps = self.steps.saturating_add(steps);
     }
 
-    /// In how many steps the first session may begin; `None` where there is none.
+    /// The number of steps until a session may begin its next request; `None` if no session is to.
     pub(crate) fn steps_to_next(&self) -> Option<u64> {
         let mut from = self.ready.front()?.from;
         for turn in self.ready.iter() {
@@ -128,14 +129,14 @@ impl<J: PhaseNames> Executor<J> {
 
     // ---- where shards have gone
 
-    /// Notes to whom the shard of a warehouse goes; with `None`, forgets it.
+    /// Notes the executor to which the shard of a warehouse goes; `None` clears the note.
     pub(crate) fn note(&mut self, home: u32, to: Option<u32>) {
         if let Some(note) = self.notes.get_mut(place_of(home)) {
             *note = to;
         }
     }
 
-    /// To whom the shard of a warehouse has gone, if that is noted.
+    /// The executor to which the shard of a warehouse has gone, if that is noted.
     pub(crate) fn noted(&self, home: u32) -> Option<u32> {
         *self.notes.get(place_of(home))?
     }
@@ -147,7 +148,7 @@ impl<J: PhaseNames> Executor<J> {
         Ok(self.parked.push_back((home, message))?)
     }
 
-    /// Sends itself each message that is parked for the shard of a warehouse, in order.
+    /// Moves each message that is parked for the shard of a warehouse to its own lane, in order.
     pub(crate) fn unpark(&mut self, home: u32) -> Result<(), NoMemory> {
         for _ in 0..self.parked.len() {
             let Some((parked_for, message)) = self.parked.pop_front() else {
@@ -163,7 +164,7 @@ impl<J: PhaseNames> Executor<J> {
     }
 }
 
-// How many steps a request waits that has died so often: none at first.
+// The number of steps that a request waits that has died this often. 0 up to MOST_AT_ONCE deaths.
 fn steps_after(deaths: u32) -> u64 {
     if deaths <= MOST_AT_ONCE {
         return 0;
@@ -172,7 +173,7 @@ fn steps_after(deaths: u32) -> u64 {
     deaths.saturating_mul(deaths) / 4
 }
 
-// The place of a warehouse among all.
+// The index of a warehouse.
 fn place_of(home: u32) -> usize {
     home.wrapping_sub(1) as usize
 }

@@ -6,18 +6,19 @@ use std::alloc::Global;
 use std::sync::Wait;
 use std::thread::Threads;
 
-/// Who asks interactively. Whatever a client does, what came of it keeps its promise.
+/// A program that asks interactively. Its promise holds of the outcome, whatever executors do.
 pub trait Client {
     ghost use Rattle.std.specs.Prelude.{ℕ, List, Result};
     ghost use Rattle.schema.specs.Database.{Database};
     ghost use Rattle.requests.specs.declared.request.Request.{Request};
     ghost use Rattle.requests.specs.declared.refusal.Refusal.{Refusal};
 
-    /// What the client promises, from these opening tables, of what each of its sessions has asked, and of the answers.
+    /// What the client promises of the requests that each of its sessions has asked and of their answers, for these opening
+    /// tables.
     ghost promises: { Self → Database → List (List Request) → List (List (Result ℕ Refusal)) → Type 0 };
 
-    /// Asks by these sessions, which are in the order of their numbers, while executors are at work in threads of their own; and
-    /// gives each back, in this order, once it has left.
+    /// Asks by these sessions, which are in the order of their numbers, while executors work in threads of their own. Returns the
+    /// sessions, in this order, once they have left.
     fn ask_all<J: ServeNames + Send + Sync, G: Gate, R: Threads + Wait + Sync>(
         &self,
         rt: &R,

@@ -1,4 +1,4 @@
-//! The executors have ended: what came of it all.
+//! The outcome, once all executors have ended.
 ghost use Rattle.std.specs.Prelude.{◌≡◌, ◌<◌, ◌≤◌, ◌+◌, ℕ, List, [], ◌∷◌, ◌++◌, IfOk, IfSome, OnOk, drop, length};
 ghost use Rattle.partitions.specs.Parts.{shared_of};
 ghost use Rattle.schema.specs.Database.{IsWithinScale};
@@ -29,9 +29,10 @@ use std::sync::Mutex;
 use tickets::Claims;
 use wait_die::Holder;
 
-/// The log, the answers and the last tables. Each session is compared with the log, and so is what each group has: so the
-/// answers are those that the log has, and the tables those that its transactions have left. `Unsettled` where something is
-/// not back: a session that asked interactively, in the order of their numbers, a slice or a claim.
+/// Returns the log, the answers and the last tables. It audits each session against the log, and claims each group and has the
+/// log compare the claim. So the answers are those of the log, and the tables are those that its transactions have left. Returns
+/// `Unsettled` if something is not back: a session that asked interactively, in the order of the numbers, a slice or a claim.
+/// Returns NoMemory if an allocation fails.
 pub fn close<J: ServeNames, G: Gate + Drop>(
     alloc: Global,
     engine: Engine<'_, J, G>,
@@ -74,7 +75,7 @@ pub fn close<J: ServeNames, G: Gate + Drop>(
     })
 }
 
-// One item more at the end.
+// Appends an item.
 fn put<T: Drop>(items: &mut Vec<T>, item: T) -> Result<(), NoMemory>
     ensures { OnOk result (items.new.items ≡ items.old.items ++ item ∷ []) }
 {
@@ -83,7 +84,7 @@ fn put<T: Drop>(items: &mut Vec<T>, item: T) -> Result<(), NoMemory>
 
 // ---- the sessions
 
-// The answers to the scripts, whose sessions are compared with the log: each has logged just what stands there of it.
+// Audits the sessions that have a script: each has logged exactly its entries in the log. Returns their answers.
 fn audit_served<J: ServeNames>(
     alloc: Global,
     log: &mut Log<J>,
@@ -112,7 +113,7 @@ fn audit_served<J: ServeNames>(
     Ok(answers)
 }
 
-// What the sessions have asked that asked interactively, which are compared with the log. Their answers follow those of the scripts.
+// Audits the sessions that asked interactively. Returns what they have asked; appends their answers to those of the scripts.
 fn audit_left<J: ServeNames>(
     alloc: Global,
     log: &mut Log<J>,
@@ -136,7 +137,7 @@ fn audit_left<J: ServeNames>(
     Ok(asked)
 }
 
-// The sessions by which nobody asked are compared with the log: nothing stands there of them.
+// Audits the sessions that were not used: the log has no entry of theirs.
 fn audit_idle<J: ServeNames>(log: &mut Log<J>, idle: Idle<J>)
     ensures none { (s : ℕ) → idle.first ≤ s → s < 64 → items_of s log.old ≡ [] }
     ensures same { log.new ≡ log.old }
@@ -152,7 +153,7 @@ fn audit_idle<J: ServeNames>(log: &mut Log<J>, idle: Idle<J>)
 
 // ---- the tables
 
-// The slices of all warehouses, in order, each of whose groups has what the log's transactions have left there.
+// The slices of all warehouses, in order. The content of each of their groups is what the log's transactions have left.
 fn settle_all<J: ServeNames>(
     alloc: Global,
     log: &mut Log<J>,
@@ -204,8 +205,8 @@ fn shard_of<J: ServeNames>(
     None
 }
 
-// The slice, once all its groups were claimed and the log has looked at the claims: each has what the log's transactions have
-// left there. `None` where a claim is still out.
+// Claims all groups of the slice and has the log compare the claims: the content of each group is what the log's transactions
+// have left. Returns `None` if a claim is still out.
 fn settle<J: ServeNames>(
     alloc: Global,
     log: &mut Log<J>,
@@ -238,7 +239,7 @@ fn one<J: ServeNames>(alloc: Global, claims: Claims<J>) -> Result<Vec<Claims<J>>
     Ok(held)
 }
 
-// All groups of a warehouse, to change them.
+// All groups of a warehouse, exclusively.
 fn all_groups(home: u32) -> [Want; 6]
     ensures { result ≡ wants_of_all home }
 {

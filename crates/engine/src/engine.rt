@@ -1,4 +1,4 @@
-//! What all executors share.
+//! The state that all executors share.
 ghost use Rattle.std.specs.Prelude.{◌≡◌};
 
 use crate::moves::Moves;
@@ -15,17 +15,17 @@ use std::alloc::Global;
 use std::sync::atomic::{AtomicBool, AtomicU64, AtomicUsize, Ordering};
 use std::sync::{Mutex, MutexGuard, Wait};
 
-/// The request that a session asks next.
+/// The next request of a session.
 #[derive(Drop)]
 pub(crate) struct Upcoming {
-    /// Which executor has the warehouse whose terminal asks it.
+    /// The executor that has the warehouse whose terminal asks it.
     pub(crate) executor: u32,
-    /// How often it was asked before, and died or found no memory.
+    /// How often it was asked before and was refused with Died or NoMemory.
     pub(crate) deaths: u32,
 }
 
-/// What all executors share: the log under its lock, the place of each session under a lock of its own, and what needs no
-/// lock. No lock is common to all executors but the log's, and nobody takes one while it has another.
+/// The state that all executors share: the log under its lock, the place of each session under a lock of its own, and atomics.
+/// The log's lock is the only lock common to all executors, and no thread takes a lock while it holds another.
 #[derive(Drop)]
 pub struct Engine<'a, J: ServeNames, G: Gate> {
     pub(crate) scale: Scale,
@@ -40,42 +40,42 @@ pub struct Engine<'a, J: ServeNames, G: Gate> {
     pub(crate) places: Vec<Mutex<Place<'a, J>>>,
     /// By the executors' numbers.
     pub(crate) parkings: Vec<Parking>,
-    /// Where those sessions wait for their answers that ask interactively, which are the sessions after those that have a script.
+    /// Where the sessions that ask interactively wait for their answers. They are the sessions after those that have a script.
     pub(crate) waiters: Vec<Parking>,
     /// The age of the next transaction.
     pub(crate) ages: AtomicU64,
-    /// How many sessions have still something to ask.
+    /// The number of sessions that are to ask more.
     pub(crate) unserved: AtomicUsize,
-    /// Whether the executors are to end, be all served or not.
+    /// Whether the executors are to end even if not all is served.
     pub(crate) is_stopped: AtomicBool,
     ghost opening_scale: { scale ≡ J.opening.scale },
 }
 
 impl<J: ServeNames, G: Gate> Engine<'_, J, G> {
-    /// Whether all scripts are served and all moves are over, or the executors are to end without.
+    /// Whether all scripts are served, all interactive sessions have left and all moves are made, or `stop` was called.
     pub fn is_over(&self) -> bool {
         self.is_done() || self.is_stopped.load(Ordering::SeqCst)
     }
 
-    // Whether all scripts are served and all moves are over.
+    // Whether all scripts are served, all interactive sessions have left and all moves are made.
     fn is_done(&self) -> bool {
         self.unserved.load(Ordering::SeqCst) == 0 && self.moves.are_over()
     }
 
-    /// The executors are to end.
+    /// Makes all executors end soon.
     pub fn stop(&self) {
         self.is_stopped.store(true, Ordering::SeqCst);
         self.wake_all();
     }
 
-    /// A session asks no more. With the last one, and the last move, the executors end.
+    /// Counts a session that asks no more. After the last session and the last move the executors end.
     pub(crate) fn end_session(&self) {
         if self.unserved.fetch_sub(1, Ordering::SeqCst) == 1 {
             self.wake_all();
         }
     }
 
-    /// All executors, and all who wait for an answer, look whether they are to end.
+    /// Wakes all executors and all sessions that wait for an answer, so that they check whether to end.
     pub(crate) fn wake_all(&self) {
         for parking in self.parkings.iter() {
             parking.wake();
@@ -85,14 +85,14 @@ impl<J: ServeNames, G: Gate> Engine<'_, J, G> {
         }
     }
 
-    /// A message has come for this executor.
+    /// Wakes this executor for a message, if it rests.
     pub(crate) fn call(&self, executor: u32) {
         if let Some(parking) = self.parkings.get(executor as usize) {
             parking.call();
         }
     }
 
-    /// The session of this slot has an answer: it is called, if it asks interactively.
+    /// Wakes the session of this slot for its answer, if it asks interactively.
     pub(crate) fn call_session(&self, slot: usize) {
         if let Some(parking) = self.waits_at(slot) {
             parking.call();
@@ -104,7 +104,7 @@ impl<J: ServeNames, G: Gate> Engine<'_, J, G> {
         self.waiters.get(slot.checked_sub(self.scripts.len())?)
     }
 
-    /// The request of this number in this session's script.
+    /// The request of this number in this session's script. `None` for a session without a script.
     pub(crate) fn request(&self, session: u32, number: u32) -> Option<&Request> {
         self.scripts
             .get(session as usize)?
@@ -112,14 +112,15 @@ impl<J: ServeNames, G: Gate> Engine<'_, J, G> {
             .get(number as usize)
     }
 
-    /// The log, under its lock: no request is logged while this is held.
+    /// Takes the log's lock and returns the log. No request is logged while it is held.
     pub fn log(&self, rt: &impl Wait) -> MutexGuard<'_, Log<J>> {
         self.log.lock(rt)
     }
 
     // ---- the places of sessions
 
-    /// An action reports to the phase in this slot: `None` where another has not yet.
+    /// Takes an action's report to the phase in this slot. Returns the phase's results with the last report; `None` if another
+    /// action is still awaited.
     pub(crate) fn collect_report(
         &self,
         rt: &impl Wait,
@@ -132,14 +133,14 @@ impl<J: ServeNames, G: Gate> Engine<'_, J, G> {
         }
     }
 
-    /// A phase of the transaction in this slot is in flight by messages.
+    /// Stores the phase of the transaction in this slot that is in flight by messages.
     pub(crate) fn begin_phase(&self, rt: &impl Wait, slot: usize, phase: Phase<J>) {
         if let Some(place) = self.places.get(slot) {
             place.lock(rt).set_phase(phase);
         }
     }
 
-    /// The transaction in this slot is over.
+    /// Ends the transaction in this slot.
     pub(crate) fn end(
         &self,
         rt: &impl Wait,
@@ -156,13 +157,13 @@ impl<J: ServeNames, G: Gate> Engine<'_, J, G> {
         }
     }
 
-    /// An action of the transaction in this slot, which is over, has given its claims back. The executor that began it, if it was
-    /// the last action.
+    /// Counts an action of the finished transaction in this slot whose claims are back. After the last one, returns the executor
+    /// that began the transaction.
     pub(crate) fn give_back(&self, rt: &impl Wait, slot: usize) -> Option<u32> {
         self.places.get(slot)?.lock(rt).give_back()
     }
 
-    /// The session of this slot asks a request interactively, at the terminal of this warehouse.
+    /// Stores a request that the session of this slot asks interactively, at the terminal of this warehouse.
     pub(crate) fn ask(
         &self,
         rt: &impl Wait,
@@ -176,7 +177,8 @@ impl<J: ServeNames, G: Gate> Engine<'_, J, G> {
         }
     }
 
-    /// Waits for the answer to what the session of this slot has asked interactively. `None` where the executors end without.
+    /// Waits for the answer to the request that the session of this slot has asked interactively. Returns `None` if the executors
+    /// were stopped before.
     pub(crate) fn wait_for_answer(&self, rt: &impl Wait, slot: usize) -> Option<SessionAnswer<J>> {
         let place = self.places.get(slot)?;
         let parking = self.waits_at(slot)?;
@@ -197,7 +199,7 @@ impl<J: ServeNames, G: Gate> Engine<'_, J, G> {
         unreachable!()
     }
 
-    /// The session of this slot asks no more interactively.
+    /// Marks the session of this slot, which asks interactively, as asking no more.
     pub(crate) fn leave(&self, rt: &impl Wait, slot: usize) -> Result<(), Unexpected> {
         match self.places.get(slot) {
             Some(place) => place.lock(rt).leave(),
@@ -205,7 +207,7 @@ impl<J: ServeNames, G: Gate> Engine<'_, J, G> {
         }
     }
 
-    /// What the session of this slot asks next.
+    /// The next request of the session of this slot, if it is ready to ask one.
     pub(crate) fn upcoming(&self, rt: &impl Wait, slot: usize) -> Option<Upcoming> {
         let (home, deaths) = self.places.get(slot)?.lock(rt).next_home(self.tries)?;
         Some(Upcoming {
@@ -214,7 +216,7 @@ impl<J: ServeNames, G: Gate> Engine<'_, J, G> {
         })
     }
 
-    /// The session of this slot goes on with its script, at this executor.
+    /// The session of this slot takes its next request, at this executor.
     pub(crate) fn ask_next_of(
         &self,
         rt: &impl Wait,

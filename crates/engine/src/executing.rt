@@ -10,11 +10,11 @@ use std::alloc::Global;
 use std::sync::Wait;
 use std::time::Duration;
 
-/// How many transactions an executor has begun at a time, at most, that are not over. Those of one warehouse are in each other's way
-/// from their first action on, and all but the oldest die: so one more would cost more than it brings (docs/COSTS.md).
+/// The largest number of unfinished transactions that an executor has begun. Transactions of one warehouse conflict from their
+/// first action on, and all but the oldest die: so one more costs more than it gains (docs/COSTS.md).
 const MOST_BEGUN: usize = 1;
 
-/// How many messages to itself and shards that were freed an executor takes at most before it looks at its inbox.
+/// How many messages to itself and freed shards an executor takes at most before it looks at its inbox.
 const MOST_OWN: u32 = 16;
 
 /// An executor at work in its thread.
@@ -27,7 +27,8 @@ pub struct AtWork<'e, 'a, J: ServeNames, G: Gate, R: Wait> {
 }
 
 impl<J: ServeNames, G: Gate, R: Wait> AtWork<'_, '_, J, G, R> {
-    /// Works on messages, and begins the requests of sessions, until all scripts are served and all moves are over.
+    /// Works on messages and begins the requests of sessions, until all scripts are served, all interactive sessions have left
+    /// and all moves are made, or the executors are stopped. Returns the executor then.
     pub fn run(mut self) -> Executor<J> {
         let rt = self.rt;
         let backoff = Backoff::new();
@@ -50,7 +51,8 @@ impl<J: ServeNames, G: Gate, R: Wait> AtWork<'_, '_, J, G, R> {
         unreachable!()
     }
 
-    // Works on what it has to itself and on the next message of others, and begins a request. Whether there was any.
+    // One round: works on its own messages and on the next one of the inbox, and begins a request. Returns whether there was any
+    // work.
     fn work(&mut self) -> bool {
         self.send_again();
         let own = self.take_own();
@@ -58,7 +60,7 @@ impl<J: ServeNames, G: Gate, R: Wait> AtWork<'_, '_, J, G, R> {
         self.begin_next() || own || theirs
     }
 
-    // Takes the first message from its inbox. Whether there was one.
+    // Takes the first message from its inbox. Returns whether there was one.
     fn take_theirs(&mut self) -> bool {
         let Some(sent) = self.own.inbox.take(self.rt) else {
             return false;
@@ -67,7 +69,7 @@ impl<J: ServeNames, G: Gate, R: Wait> AtWork<'_, '_, J, G, R> {
         true
     }
 
-    // Takes what it has to itself, up to so many. Whether there was any.
+    // Takes its own messages and freed shards, up to MOST_OWN. Returns whether there was any.
     fn take_own(&mut self) -> bool {
         for taken in 0..MOST_OWN {
             if !(self.free_next() || self.take_next()) {
@@ -77,7 +79,7 @@ impl<J: ServeNames, G: Gate, R: Wait> AtWork<'_, '_, J, G, R> {
         true
     }
 
-    // Those who wait at the first shard that somebody has left have their turn. Whether there was one.
+    // Runs the waiting actions of the first freed shard. Returns whether there was one.
     fn free_next(&mut self) -> bool {
         let Some(home) = self.own.freed.pop_front() else {
             return false;
@@ -86,7 +88,7 @@ impl<J: ServeNames, G: Gate, R: Wait> AtWork<'_, '_, J, G, R> {
         true
     }
 
-    // The first message to itself. Whether there was one.
+    // Takes the first message to itself. Returns whether there was one.
     fn take_next(&mut self) -> bool {
         let Some(message) = self.own.lane.pop_front() else {
             return false;
@@ -95,7 +97,7 @@ impl<J: ServeNames, G: Gate, R: Wait> AtWork<'_, '_, J, G, R> {
         true
     }
 
-    // In how many steps it may begin the next request; `None` where that needs a message.
+    // The number of steps until it may begin the next request; `None` if only a message can bring one.
     fn steps_to_next(&self) -> Option<u64> {
         if self.own.begun >= MOST_BEGUN {
             return None;
@@ -103,20 +105,20 @@ impl<J: ServeNames, G: Gate, R: Wait> AtWork<'_, '_, J, G, R> {
         self.own.steps_to_next()
     }
 
-    // Rests for so many steps, or until a message comes.
+    // Rests for this many steps, or until a message comes.
     fn pause(&mut self, steps: u64) {
         if !self.rest(Some(Duration::from_micros(steps.saturating_mul(STEP)))) {
             self.own.go(steps);
         }
     }
 
-    // Rests until a message comes, which it takes, or no longer than this. Whether one came.
+    // Rests until a message comes, and takes it, or for `longest` at most. Returns whether one came.
     fn rest(&mut self, longest: Option<Duration>) -> bool {
         let Some(parking) = self.engine.parkings.get(self.own.number as usize) else {
             return false;
         };
         parking.lie_down();
-        // (one that came before is one of which nobody calls)
+        // (for a message that came before, nobody calls)
         let came = self.take_theirs();
         if !came {
             parking.rest(self.rt, longest);
@@ -127,14 +129,15 @@ impl<J: ServeNames, G: Gate, R: Wait> AtWork<'_, '_, J, G, R> {
 
     // ---- sessions
 
-    // A session is to begin its next request here, which has died so often.
+    // Queues a session that is to begin its next request here, which has died this often.
     fn get_ready(&mut self, slot: usize, deaths: u32) {
         if self.own.get_ready(slot, deaths).is_err() {
             self.engine.stop();
         }
     }
 
-    // Begins the next request of the session that has waited longest, unless it has begun enough. Whether it did.
+    // Begins the next request of the session that has waited longest, unless MOST_BEGUN transactions are unfinished. Returns
+    // whether it did.
     fn begin_next(&mut self) -> bool {
         if self.own.begun >= MOST_BEGUN {
             return false;
@@ -146,7 +149,7 @@ impl<J: ServeNames, G: Gate, R: Wait> AtWork<'_, '_, J, G, R> {
         true
     }
 
-    // The session goes on with its script as far as it can.
+    // The session takes its next requests until one begins, it waits or it ends.
     fn serve_session(&mut self, slot: usize) {
         for _ in self.rt.forever() {
             match self
@@ -173,7 +176,7 @@ impl<J: ServeNames, G: Gate, R: Wait> AtWork<'_, '_, J, G, R> {
         }
     }
 
-    // A session asks the request of this number for the first time.
+    // Calls the gate if a session asks the request of this number for the first time.
     fn record_asked(&self, first: Option<(u32, u32)>) {
         if let Some((session, number)) = first
             && let Some(request) = self.engine.request(session, number)
@@ -182,7 +185,7 @@ impl<J: ServeNames, G: Gate, R: Wait> AtWork<'_, '_, J, G, R> {
         }
     }
 
-    // A transaction that was begun here is over: its session goes to where it asks its next request.
+    // A transaction that was begun here is finished: its session goes to the executor that is to begin its next request.
     fn over(&mut self, slot: usize) {
         self.own.begun = self.own.begun.saturating_sub(1);
         match self.engine.upcoming(self.rt, slot) {
@@ -210,7 +213,7 @@ impl<J: ServeNames, G: Gate, R: Wait> AtWork<'_, '_, J, G, R> {
         }
     }
 
-    // An action asks at its shard, and reports unless it waits there.
+    // An action asks for its locks at its shard, and reports unless it waits there.
     fn perform(&mut self, act: Act<J>) {
         let home = act.home();
         let Some(shard) = self.own.shards.get_mut(home) else {
@@ -223,7 +226,7 @@ impl<J: ServeNames, G: Gate, R: Wait> AtWork<'_, '_, J, G, R> {
         self.take_turns(home);
     }
 
-    // Claims come back to their shard.
+    // Gives claims back to their shard, or passes them on.
     fn take_back(&mut self, given: GivenBack<J>) {
         let slot = given.slot();
         match self.give_back_here(given) {
@@ -232,7 +235,7 @@ impl<J: ServeNames, G: Gate, R: Wait> AtWork<'_, '_, J, G, R> {
         }
     }
 
-    // Claims go back to their shard, if that is here.
+    // Gives claims back to their shard, if it is here.
     fn give_back_here(&mut self, given: GivenBack<J>) -> Result<(), GivenBack<J>> {
         let home = given.home();
         self.own.shards.give_back(given)?;
@@ -245,7 +248,7 @@ impl<J: ServeNames, G: Gate, R: Wait> AtWork<'_, '_, J, G, R> {
         Ok(())
     }
 
-    /// Each of those who wait at a shard and need not any more has its turn, and reports. Mostly nobody waits.
+    /// Each waiting action of a shard that need not wait any more has its turn, and reports. Returns at once if no action waits.
     pub(crate) fn take_turns(&mut self, home: u32) {
         if let Some(shard) = self.own.shards.get_mut(home)
             && shard.may_have_waiters()
@@ -266,9 +269,9 @@ impl<J: ServeNames, G: Gate, R: Wait> AtWork<'_, '_, J, G, R> {
         }
     }
 
-    // ---- what comes of them
+    // ---- the steps of transactions
 
-    // An action reports to its phase. With the last report the transaction goes on.
+    // Takes an action's report to its phase. With the last report the transaction goes on.
     fn take_report(&mut self, report: Report<J>) {
         let slot = report.slot();
         match self.engine.collect_report(self.rt, slot, report) {
@@ -278,8 +281,8 @@ impl<J: ServeNames, G: Gate, R: Wait> AtWork<'_, '_, J, G, R> {
         }
     }
 
-    // A transaction goes on. Phases whose warehouses are all here run straight through, one after another, while nobody is in their
-    // way; any other goes by messages.
+    // Takes the next step of a transaction. Fast path: phases whose shards are all here run inline, one after another, while no
+    // lock conflicts; any other phase goes by messages.
     fn run_on(&mut self, slot: usize, following: Following<J>) {
         let mut following = following;
         for _ in self.rt.forever() {
@@ -294,7 +297,7 @@ impl<J: ServeNames, G: Gate, R: Wait> AtWork<'_, '_, J, G, R> {
         }
     }
 
-    // The next phase of a transaction goes by messages.
+    // Begins the next phase of a transaction by messages.
     fn send_out(&mut self, slot: usize, paused: Paused<J>) {
         match paused.send_out(self.alloc) {
             Ok((phase, acts)) => {
@@ -307,7 +310,7 @@ impl<J: ServeNames, G: Gate, R: Wait> AtWork<'_, '_, J, G, R> {
         }
     }
 
-    // The transaction is logged, or refused by the log.
+    // Logs the transaction, or the log refuses it.
     fn commit(&mut self, slot: usize, commit: Commit<J>) {
         self.engine
             .gate
@@ -316,7 +319,7 @@ impl<J: ServeNames, G: Gate, R: Wait> AtWork<'_, '_, J, G, R> {
         self.release(slot, release);
     }
 
-    // The transaction is over: its claims go back, and its session has the answer.
+    // Ends the transaction: its claims go back and its session has the answer.
     fn release(&mut self, slot: usize, release: Release<J>) {
         let (recorded, mut returns, phase_owner) = release.into_parts();
         let session = recorded.session();
@@ -346,7 +349,8 @@ impl<J: ServeNames, G: Gate, R: Wait> AtWork<'_, '_, J, G, R> {
         self.send_over(slot, ended.over);
     }
 
-    // The claims of the last actions go back to their shards, as long as these are here. The first that go elsewhere, if some do.
+    // Gives the claims of the last actions back to their shards, as long as these are here. Returns the first claims whose shard
+    // is elsewhere, if there are some.
     fn give_back_last(&mut self, returns: &mut Returns<J>) -> Option<GivenBack<J>> {
         for _ in 0..returns.len() {
             if let Err(given) = self.give_back_here(returns.next_back()?) {
@@ -356,12 +360,12 @@ impl<J: ServeNames, G: Gate, R: Wait> AtWork<'_, '_, J, G, R> {
         None
     }
 
-    // The claims of an action go back to who has their warehouse.
+    // Sends the claims of an action to the executor that has their warehouse.
     fn send_back(&mut self, given: GivenBack<J>) {
         self.send(given.home(), Message::GivenBack(given));
     }
 
-    // The request of this number has its answer, unless it is asked again.
+    // Calls the gate if the request of this number has its answer and is not asked again.
     fn record_answered(&self, session: u32, number: u32, ended: Ended) {
         if ended.is_answered
             && let Some(request) = self.engine.request(session, number)
@@ -370,13 +374,13 @@ impl<J: ServeNames, G: Gate, R: Wait> AtWork<'_, '_, J, G, R> {
         }
     }
 
-    // The claims of an action of a transaction that is over have come back by a message.
+    // Counts an action of a finished transaction whose claims have come back by a message.
     fn count_back(&mut self, slot: usize) {
         let over = self.engine.give_back(self.rt, slot);
         self.send_over(slot, over);
     }
 
-    // The transaction is over, and all its claims are back: who began it is told.
+    // If all claims of a finished transaction are back, notifies the executor that began it.
     fn send_over(&mut self, slot: usize, over: Option<u32>) {
         match over {
             Some(by) if by == self.own.number => self.over(slot),
@@ -387,7 +391,7 @@ impl<J: ServeNames, G: Gate, R: Wait> AtWork<'_, '_, J, G, R> {
 
     // ---- sending
 
-    // Sends a message to who has this warehouse.
+    // Sends a message to the executor that has this warehouse.
     fn send(&mut self, home: u32, message: Message<J>) {
         let to = self.engine.routing.route(home);
         self.send_to(to, message);
@@ -402,7 +406,7 @@ impl<J: ServeNames, G: Gate, R: Wait> AtWork<'_, '_, J, G, R> {
         }
     }
 
-    // There is no room for a message: so nobody can go on.
+    // There is no room for a message: drops it and stops the engine.
     #[cold]
     #[inline(never)]
     fn stop_without(&self, message: Message<J>) {
@@ -410,7 +414,7 @@ impl<J: ServeNames, G: Gate, R: Wait> AtWork<'_, '_, J, G, R> {
         self.engine.stop();
     }
 
-    // Puts a message into another's inbox, or keeps it where that is full.
+    // Puts a message into another executor's inbox, or keeps it if the inbox is full.
     fn push(&mut self, to: u32, message: Message<J>) {
         let Some(outlet) = self.own.outlets.get_mut(to as usize) else {
             return self.stop_without(message);
@@ -421,7 +425,7 @@ impl<J: ServeNames, G: Gate, R: Wait> AtWork<'_, '_, J, G, R> {
         }
     }
 
-    // Keeps a message that found an inbox full.
+    // Keeps a message whose inbox was full.
     #[cold]
     #[inline(never)]
     fn keep(&mut self, to: u32, message: Message<J>) {
@@ -430,7 +434,7 @@ impl<J: ServeNames, G: Gate, R: Wait> AtWork<'_, '_, J, G, R> {
         }
     }
 
-    // Tries the first message once more that found an inbox full.
+    // Tries again to send the first message whose inbox was full.
     fn send_again(&mut self) {
         if let Some((to, message)) = self.own.outbox.pop_front() {
             self.push(to, message);

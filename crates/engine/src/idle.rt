@@ -6,7 +6,7 @@ use crate::ServeNames;
 use commit_log::{Pass, SessionSeat};
 use std::vec::IntoIter;
 
-/// The sessions from a number on, up to 63, by which nobody asks: they have seen, logged and asked nothing.
+/// The sessions from number `first` to 63, which are not used. Invariant: they have seen, logged and asked nothing.
 #[derive(Drop)]
 pub struct Idle<J: ServeNames> {
     pub(crate) first: usize,

@@ -1,6 +1,6 @@
-//! What executors in threads of their own do to serve sessions, which ask scripts or interactively: an engine is opened over tables, each
-//! executor works on messages and begins the requests of sessions, and what came of it all is told once they have ended. `serve` and
-//! `serve_client` start the threads; nothing else does.
+//! Executors in threads of their own that serve sessions, which ask scripts or interactively. `open` opens an engine over tables;
+//! each executor works on messages and begins the requests of sessions; `close` returns the outcome once all executors have
+//! ended. `serve` and `serve_client` start the threads; nothing else does.
 #![tactic(auto)]
 
 mod answers;
@@ -40,5 +40,5 @@ pub use routing::MOST_EXECUTORS;
 pub use serving::{serve, serve_client, serve_with_room};
 pub use session::{AskFault, Left, Session, meet};
 
-/// The most sessions that are served at a time.
+/// The largest number of sessions that are served at a time.
 pub const MOST_SESSIONS: usize = 64;

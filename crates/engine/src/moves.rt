@@ -1,14 +1,14 @@
-//! The moves that are ordered while scripts are served, one after the other.
+//! The moves that are made while scripts are served, one after the other.
 use range_moves::MoveOrder;
 use std::sync::atomic::{AtomicU32, AtomicUsize, Ordering};
 
-/// The moves that are ordered: the next one begins when all warehouses of the one before have come to where they go.
+/// The moves. The next one begins when all warehouses of the one before have arrived.
 #[derive(Drop)]
 pub(crate) struct Moves<'a> {
     orders: &'a [MoveOrder],
-    /// How many were begun; one more than there are, once all are over.
+    /// How many were begun; one more than there are, once all are made.
     begun: AtomicUsize,
-    /// How many warehouses of the move that is in flight have not yet come.
+    /// How many warehouses of the move in flight have not arrived yet.
     awaited: AtomicU32,
 }
 
@@ -22,7 +22,7 @@ impl<'a> Moves<'a> {
         }
     }
 
-    /// The next move, which is in flight from now on; `None` where all are over. None may be in flight.
+    /// Begins the next move and returns it; `None` if all are made. No move may be in flight.
     pub(crate) fn begin_next(&self) -> Option<MoveOrder> {
         let place = self.begun.fetch_add(1, Ordering::SeqCst);
         let order = *self.orders.get(place)?;
@@ -30,18 +30,18 @@ impl<'a> Moves<'a> {
         Some(order)
     }
 
-    /// A warehouse has come to where it goes: whether it was the last one of the move.
+    /// Counts a warehouse of the move that has arrived. Returns whether it was the last one.
     pub(crate) fn count_arrival(&self) -> bool {
         self.awaited.fetch_sub(1, Ordering::SeqCst) == 1
     }
 
-    /// Whether all moves are over.
+    /// Whether all moves are made.
     pub(crate) fn are_over(&self) -> bool {
         self.begun.load(Ordering::SeqCst) > self.orders.len()
     }
 }
 
-// How many warehouses a move has.
+// The number of warehouses of a move.
 fn size_of(order: &MoveOrder) -> u32 {
     order.hi.saturating_sub(order.lo).saturating_add(1)
 }

@@ -1,4 +1,4 @@
-//! What an executor does of moves: it fetches shards and sends them, and messages follow them.
+//! Moves at an executor: it fetches shards and sends them, and messages follow the shards.
 use crate::executing::AtWork;
 use crate::message::Message;
 use crate::{Gate, ServeNames};
@@ -7,7 +7,7 @@ use range_moves::MoveOrder;
 use std::sync::Wait;
 
 impl<J: ServeNames, G: Gate, R: Wait> AtWork<'_, '_, J, G, R> {
-    /// A move begins: the shards of its range are to be here. From now on messages for them come here too.
+    /// Begins a move: fetches the shards of its range. From now on messages for them are routed here.
     pub(crate) fn move_here(&mut self, order: MoveOrder) {
         let MoveOrder { lo, hi, .. } = order;
         for home in lo..=hi {
@@ -20,7 +20,7 @@ impl<J: ServeNames, G: Gate, R: Wait> AtWork<'_, '_, J, G, R> {
         }
     }
 
-    // Has the shard of a warehouse sent here.
+    // Asks the executor that has the shard of a warehouse to send it here.
     fn fetch(&mut self, home: u32) {
         let to = self.own.number;
         let from = self.engine.routing.route(home);
@@ -28,7 +28,7 @@ impl<J: ServeNames, G: Gate, R: Wait> AtWork<'_, '_, J, G, R> {
         self.send_to(from, Message::Fetch { home, to });
     }
 
-    /// The shard of a warehouse goes to this executor, with all who wait there.
+    /// Sends the shard of a warehouse to this executor, with its waiting actions.
     pub(crate) fn send_shard(&mut self, home: u32, to: u32) {
         match self.own.shards.take(home) {
             Some(shard) => {
@@ -39,7 +39,7 @@ impl<J: ServeNames, G: Gate, R: Wait> AtWork<'_, '_, J, G, R> {
         }
     }
 
-    /// The shard of a warehouse has come.
+    /// Installs the shard of a warehouse that has arrived.
     pub(crate) fn install(&mut self, shard: Box<CountedShard<J>>) {
         let home = shard.home();
         self.own.shards.put(shard);
@@ -47,12 +47,12 @@ impl<J: ServeNames, G: Gate, R: Wait> AtWork<'_, '_, J, G, R> {
         if self.own.unpark(home).is_err() {
             self.engine.stop();
         }
-        // (claims may have come back just before it went)
+        // (claims may have come back just before the shard was sent)
         self.take_turns(home);
     }
 
-    // A warehouse of the move that is in flight has come to where it goes. With the last one the next move begins; with the last
-    // move, the executors end once all scripts are served.
+    // Counts a warehouse of the move in flight that has arrived. After the last one the next move begins; after the last move,
+    // the executors end once all scripts are served.
     fn report_moved(&mut self) {
         if !self.engine.moves.count_arrival() {
             return;
@@ -63,8 +63,8 @@ impl<J: ServeNames, G: Gate, R: Wait> AtWork<'_, '_, J, G, R> {
         }
     }
 
-    /// A message for a shard that isn't here goes to where the shard went. If that is not noted, the shard is on its way here, and the
-    /// message is parked until it comes.
+    /// Passes a message for a shard that isn't here on to where the shard went. If that is not noted, the shard is on its way
+    /// here, and the message is parked until it arrives.
     pub(crate) fn pass_on(&mut self, home: u32, message: Message<J>) {
         match self.own.noted(home) {
             Some(to) => self.send_to(to, message),
@@ -72,7 +72,7 @@ impl<J: ServeNames, G: Gate, R: Wait> AtWork<'_, '_, J, G, R> {
         }
     }
 
-    // What is for no warehouse at all can't wait for one.
+    // Parks a message. A message for a W_ID that no warehouse has stops the engine.
     fn park(&mut self, home: u32, message: Message<J>) {
         if !self.own.shards.is_warehouse(home) || self.own.park(home, message).is_err() {
             self.engine.stop();

@@ -1,4 +1,4 @@
-//! An engine is opened over tables, for scripts.
+//! Opens an engine over tables, for scripts.
 ghost use Rattle.std.specs.Prelude.{◌≡◌, ◌≤◌, ◌<◌, All, IfOk, vec_len};
 ghost use Rattle.partitions.specs.Parts.{shared_of};
 ghost use Rattle.slices.specs.Openings.{AreOpenedFor};
@@ -30,7 +30,7 @@ use std::vec::IntoIter;
 use tickets::{GroupSeats, named_all};
 use transactions::home_of_request;
 
-/// What all that is in flight will agree on, before it has a name: what a name is picked from.
+/// The agreements of an engine before the type parameter identifies their tables.
 #[derive(Drop)]
 pub struct Opening {
     /// The seats of all groups, by their places.
@@ -41,8 +41,8 @@ pub struct Opening {
 }
 
 impl Opening {
-    /// The agreements of the tables' groups, of a log without entries, and of so many sessions' agreed phases. Nothing is left after
-    /// an error.
+    /// Opens the agreements of the tables' groups, of a log without entries, and of the agreed phases of this many sessions.
+    /// Returns NoMemory if an allocation fails; nothing is left then.
     pub fn open(alloc: Global, tables: &Tables, sessions: usize) -> Result<Opening, NoMemory>
         ensures groups { IfOk result (λ opening. AreOpenedFor tables.now opening.groups.items) }
         ensures agreed_phases { IfOk result (λ opening. vec_len opening.agreed_phases ≡ sessions) }
@@ -68,26 +68,26 @@ fn open_agreed_phases(alloc: Global, sessions: usize) -> Result<Vec<OpenedPhaseA
     Ok(agreed_phases)
 }
 
-/// The senders into each inbox that nobody has yet.
+/// The senders into each inbox that are not given away yet.
 type Senders<J> = Vec<IntoIter<Sender<Message<J>>>>;
 
-/// An engine that was opened: what its threads share, the executors, what the tables' parts share, and the sessions without a
-/// script.
+/// An opened engine: the state that its threads share, the executors, the catalog that the tables' slices share, and the sessions
+/// without a script.
 #[derive(Drop)]
 pub struct Opened<'a, J: ServeNames, G: Gate> {
     pub engine: Engine<'a, J, G>,
     pub executors: Vec<Executor<J>>,
     pub catalog: Catalog,
-    /// Those that ask interactively, in the order of their numbers.
+    /// The sessions that ask interactively, in the order of their numbers.
     pub sessions: Vec<Session<J>>,
-    /// Those by which nobody asks.
+    /// The sessions that are not used.
     pub idle: Idle<J>,
 }
 
-/// An engine over these tables, with so many executors, for these scripts and moves. Session s asks script s; the sessions after
-/// these, as many as the opening has, ask interactively. An inbox holds `room` messages at most; one that finds it full waits at its
-/// sender. There has to be a way to make each move (`MoveOrder::is_within`), else its executors may never end. Nothing is left
-/// after an error.
+/// Opens an engine over these tables, with this many executors, for these scripts and moves. Session s asks script s; the
+/// sessions after these, as many as the opening has, ask interactively. An inbox holds at most `room` messages; a message whose
+/// inbox is full waits at its sender. If there can't be one of the moves (`MoveOrder::is_within`), the executors may never end.
+/// Returns NoMemory if an allocation fails; nothing is left then.
 pub fn open<'a, J: ServeNames, G: Gate + Drop>(
     alloc: Global,
     opening: Opening,
@@ -163,7 +163,7 @@ pub fn open<'a, J: ServeNames, G: Gate + Drop>(
     })
 }
 
-// How many requests the scripts have.
+// The number of requests of all scripts.
 fn requests_in(scripts: &[Script]) -> usize {
     let mut count: usize = 0;
     for script in scripts {
@@ -172,7 +172,7 @@ fn requests_in(scripts: &[Script]) -> usize {
     count
 }
 
-// The executors have the shards of their warehouses.
+// Gives each executor the shards of its warehouses.
 fn open_posts<J: ServeNames>(
     alloc: Global,
     executors: &mut Vec<Executor<J>>,
@@ -189,7 +189,7 @@ fn open_posts<J: ServeNames>(
     Ok(())
 }
 
-// An executor has this shard. One that nobody has would be missed at the end.
+// Gives an executor this shard. `close` finds a shard that no executor has.
 fn put_shard<J: ServeNames>(
     executors: &mut Vec<Executor<J>>,
     to: usize,
@@ -200,7 +200,7 @@ fn put_shard<J: ServeNames>(
     }
 }
 
-// Each session is to begin its first request at the executor of the warehouse whose terminal asks it.
+// Queues each session at the executor of the warehouse whose terminal asks its first request.
 fn begin_sessions<J: ServeNames>(
     executors: &mut Vec<Executor<J>>,
     routing: &Routing,
@@ -218,7 +218,7 @@ fn begin_sessions<J: ServeNames>(
     Ok(())
 }
 
-// The first move begins at the executor to which it goes.
+// Begins the first move at the executor to which it goes.
 fn begin_move<J: ServeNames>(
     executors: &mut Vec<Executor<J>>,
     order: MoveOrder,
@@ -229,7 +229,8 @@ fn begin_move<J: ServeNames>(
     }
 }
 
-// So many executors, each with its inbox, and no shards yet; and the further senders into each inbox, for so many sessions.
+// Opens this many executors, each with its inbox and without shards; also returns further senders into each inbox, for this many
+// sessions.
 fn open_idle<J: ServeNames>(
     alloc: Global,
     count: u32,
@@ -281,7 +282,7 @@ fn parkings_for(alloc: Global, executors: usize) -> Result<Vec<Parking>, NoMemor
     Ok(parkings)
 }
 
-/// The sessions, once they have their places.
+/// The sessions and their places.
 #[derive(Drop)]
 struct Seated<'a, J: ServeNames> {
     places: Vec<Mutex<Place<'a, J>>>,
@@ -289,7 +290,7 @@ struct Seated<'a, J: ServeNames> {
     idle: Idle<J>,
 }
 
-// A place for each agreed phase: those of the sessions that have a script, and then those of sessions that ask interactively.
+// Makes a place for each agreed phase: first for the sessions that have a script, then for those that ask interactively.
 fn open_places<'a, J: ServeNames>(
     alloc: Global,
     lanes: Vec<(Pass<J>, SessionSeat<J>)>,

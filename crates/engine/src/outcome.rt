@@ -8,23 +8,23 @@ use requests::Script;
 use schema::Tables;
 use std::alloc::AllocError;
 
-/// What came of scripts.
+/// The outcome of scripts.
 #[derive(Drop)]
 pub struct Outcome {
-    /// What was carried out, in the order in which it was.
+    /// The log: what was carried out, in commit order.
     pub log: Vec<Entry>,
     /// The tables as the log's transactions have left them.
     pub tables: Tables,
     /// The answers to each script, and then to what each session asked interactively.
     pub answers: Vec<Answers>,
-    /// What each session asked interactively, by their numbers, from that of the first one on.
+    /// The requests that each session asked interactively, in the order of the sessions' numbers.
     pub asked: Vec<Script>,
 }
 
 /// Why executors that have ended came to no outcome.
 #[derive(Clone, Copy, Debug, PartialEq, Eq)]
 pub enum CloseFault {
-    /// There was no memory for the outcome.
+    /// An allocation failed.
     NoMemory,
     /// A session, a slice or a claim was not back.
     Unsettled,
@@ -41,12 +41,13 @@ impl From<AllocError> for CloseFault {
 /// Why scripts were not served.
 #[derive(Clone, Copy, Debug, PartialEq, Eq)]
 pub enum ServeFault {
-    /// There was no memory to check the opening tables, to open the engine, or for what came of it.
+    /// An allocation failed: as the opening tables were checked, as the engine was opened or its threads were started, or for the
+    /// outcome.
     NoMemory,
-    /// The opening tables break the consistency condition of this number, and none of a lower one: 1 to 10, or 12
-    /// (TPC-C 5.11, clause 3.3.2).
+    /// The opening tables break the consistency condition of this number, and none of a lower one: 1 to 10, or 12 (TPC-C 5.11,
+    /// clause 3.3.2).
     NotConsistent(u8),
-    /// There can't be the move of this place, from 0, and it is the first: its range ends before it begins, or a number of it is out of
+    /// The place, from 0, of the first move that there can't be: its range ends before it begins, or one of its numbers is out of
     /// range.
     BadMove(usize),
     /// A thread could not be started.

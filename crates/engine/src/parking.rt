@@ -1,19 +1,20 @@
-//! Where an executor rests while it has nothing to do.
+//! The parking place of an executor or of a session.
 use std::sync::Wait;
 use std::sync::atomic::{AtomicBool, Ordering};
 use std::thread::Parker;
 use std::time::Duration;
 
-/// Where an executor rests while no message comes. Whoever has put one into its inbox calls it.
+/// A parking place: its owner, an executor or an interactive session, rests there until it is woken. A sender that has put a
+/// message into the owner's inbox calls it.
 #[derive(Drop)]
 pub(crate) struct Parking {
-    /// Whether its executor rests, or is about to.
+    /// Whether its owner rests or is about to.
     is_taken: AtomicBool,
     parker: Parker,
 }
 
 impl Parking {
-    /// A parking place that nobody has taken.
+    /// A parking place whose owner is awake.
     pub(crate) fn new() -> Parking {
         Parking {
             is_taken: AtomicBool::new(false),
@@ -21,13 +22,12 @@ impl Parking {
         }
     }
 
-    /// The executor is about to rest. A message that came before is one that it has to look for once more: from here on it is
-    /// called.
+    /// The owner is about to rest; from now on it is called. It has to look once more for a message that came before.
     pub(crate) fn lie_down(&self) {
         self.is_taken.store(true, Ordering::SeqCst);
     }
 
-    /// The executor rests until it is called, or woken; or no longer than this.
+    /// Parks the owner's thread until it is woken, or for `longest` at most.
     pub(crate) fn rest(&self, rt: &impl Wait, longest: Option<Duration>) {
         match longest {
             Some(longest) => self.parker.park_timeout(rt, longest),
@@ -35,19 +35,19 @@ impl Parking {
         }
     }
 
-    /// The executor has something to do.
+    /// The owner is awake.
     pub(crate) fn get_up(&self) {
         self.is_taken.store(false, Ordering::SeqCst);
     }
 
-    /// A message has come: the executor gets up, if it rests or is about to.
+    /// Wakes the owner if it rests or is about to.
     pub(crate) fn call(&self) {
         if self.is_taken.load(Ordering::SeqCst) {
             self.wake();
         }
     }
 
-    /// Wakes the executor, or keeps it from resting the next time.
+    /// Wakes the owner, or keeps it from resting the next time.
     pub(crate) fn wake(&self) {
         self.parker.unpark();
     }

@@ -1,4 +1,4 @@
-//! What is known of a session and of its request that is in flight, by whoever has the lock.
+//! The state of a session and of its transaction in flight, under the session's lock.
 ghost use Rattle.std.specs.Prelude.{◌≡◌};
 
 use crate::ServeNames;
@@ -8,71 +8,71 @@ use schema::Scale;
 use std::alloc::Global;
 use std::sync::atomic::AtomicU64;
 
-/// The place of a session: it has room for one transaction. Each message of the transaction names it, and it can't have the
-/// next one before all claims of this one are given back.
+/// The place of a session. It has room for one transaction, whose messages contain its slot. The next transaction can't begin
+/// before all claims of this one are given back.
 #[derive(Drop)]
 pub(crate) struct Place<'a, J: ServeNames> {
     stage: Option<Stage<'a, J>>,
-    // The phase that is in flight, if one is.
+    // The phase in flight by messages, if there is one.
     phase: Option<Phase<J>>,
-    // The phase owner of the agreed phase, while no phase is in flight.
+    // The phase owner, while no transaction is in flight.
     phase_owner: Option<PhaseOwner<J>>,
     // The executor that began the transaction.
     begun_by: u32,
-    // How many actions of a transaction that is over have still to give their claims back.
+    // The number of actions of a finished transaction whose claims are still to come back.
     ending: usize,
 }
 
-/// What a session is at: one that has a script, or one that asks interactively.
+/// The stage of a session. `Ready`, `Asked` and `Ended` are for a session that has a script, the others for one that asks
+/// interactively.
 #[derive(Drop)]
 enum Stage<'a, J: ServeNames> {
     Ready(Ready<'a, J>),
     Asked(Asked<'a, J>),
     /// Its script is at its end.
     Ended(Ready<'a, J>),
-    /// By hand it asks nothing.
+    /// It asks nothing.
     Free,
-    /// By hand it asks a request, at the terminal of this warehouse, which has not begun.
+    /// It asks a request, at the terminal of this warehouse, that has not begun.
     Calls { home: u32, flow: Flow<J> },
-    /// What it asks interactively is in flight.
+    /// Its request is in flight.
     Away,
-    /// What it asked interactively has this answer, which it has not taken.
+    /// Its request has this answer, which it has not taken.
     Answered(SessionAnswer<J>),
-    /// By hand it asks no more, which was not told yet.
+    /// It asks no more; that is not counted yet.
     Leaves,
     /// It asks no more.
     Gone,
 }
 
-/// Something came to a place that does not belong there. Nothing is lost but that: all that is proved of what was logged
-/// stands, but nobody can go on here.
+/// A message came to a place that does not expect it. All that is proved of the log still holds, but the session can't go on.
 #[derive(Clone, Copy, Debug, PartialEq, Eq)]
 pub(crate) struct Unexpected;
 
-/// What comes of the end of a transaction.
+/// The result of `Place::end`.
 #[derive(Clone, Copy, Debug)]
 pub(crate) struct Ended {
-    /// Whether its request has its answer, and is not asked again.
+    /// Whether the request has its answer and is not asked again.
     pub(crate) is_answered: bool,
-    /// The executor that began it, if all its claims are given back.
+    /// The executor that began the transaction, if all its claims are given back.
     pub(crate) over: Option<u32>,
 }
 
-/// How a session gets on.
+/// The result of `Place::advance`.
 #[derive(Drop)]
 pub(crate) enum Advanced<J: ServeNames> {
     /// A request was answered at once, and the next one may follow.
     Answered,
-    /// This request begins. If it was not asked before, these are its session and its number.
+    /// A request begins. If it was not asked before, these are its session and its number.
     Begins(Option<(u32, u32)>, Paused<J>),
-    /// It has to wait for what is in flight.
+    /// The session waits: a transaction of it is unfinished, or it asks nothing.
     Waits,
-    /// Its script has come to its end: this is answered once.
+    /// The session has ended. This is returned once.
     Ended,
 }
 
 impl<'a, J: ServeNames> Place<'a, J> {
-    /// The place of a session that is to ask its script, with who keeps the agreed phases of its transactions.
+    /// The place of a session that has a script, with its phase owner.
     pub(crate) fn new(session: Ready<'a, J>, phase_owner: PhaseOwner<J>) -> Place<'a, J> {
         Place {
             stage: Some(Stage::Ready(session)),
@@ -83,7 +83,7 @@ impl<'a, J: ServeNames> Place<'a, J> {
         }
     }
 
-    /// The place of a session that asks interactively, with who keeps the agreed phases of its transactions.
+    /// The place of a session that asks interactively, with its phase owner.
     pub(crate) fn free(phase_owner: PhaseOwner<J>) -> Place<'a, J> {
         Place {
             stage: Some(Stage::Free),
@@ -105,7 +105,8 @@ impl<'a, J: ServeNames> Place<'a, J> {
 
     // ---- a session that asks interactively
 
-    /// It asks a request, at the terminal of this warehouse, which begins once all claims of the one before are back.
+    /// Stores a request that the session asks at the terminal of this warehouse. It begins once all claims of the transaction
+    /// before are back.
     pub(crate) fn call(&mut self, home: u32, flow: Flow<J>) -> Result<(), Unexpected> {
         let Some(Stage::Free) = self.stage.take() else {
             return Err(Unexpected);
@@ -114,7 +115,7 @@ impl<'a, J: ServeNames> Place<'a, J> {
         Ok(())
     }
 
-    /// It takes its answer, if that has come.
+    /// Takes the session's answer, if there is one.
     pub(crate) fn take_recorded(&mut self) -> Option<SessionAnswer<J>> {
         match self.stage.take() {
             Some(Stage::Answered(recorded)) => {
@@ -128,7 +129,7 @@ impl<'a, J: ServeNames> Place<'a, J> {
         }
     }
 
-    /// It asks no more.
+    /// Marks the session as asking no more.
     pub(crate) fn leave(&mut self) -> Result<(), Unexpected> {
         let Some(Stage::Free) = self.stage.take() else {
             return Err(Unexpected);
@@ -139,7 +140,7 @@ impl<'a, J: ServeNames> Place<'a, J> {
 
     // ---- transactions
 
-    /// The session goes on with its next request, unless one is in flight or has still claims to give back.
+    /// Takes the session's next request, unless its transaction is in flight or has claims that are not back.
     pub(crate) fn ask_next(
         &mut self,
         alloc: Global,
@@ -176,7 +177,7 @@ impl<'a, J: ServeNames> Place<'a, J> {
         }
     }
 
-    // What the session asks interactively begins, or it asks no more. It stays at any other stage.
+    // Begins what the session asks interactively, or ends it if it asks no more. Any other stage stays.
     fn ask_next_interactive(
         &mut self,
         stage: Option<Stage<'a, J>>,
@@ -199,7 +200,7 @@ impl<'a, J: ServeNames> Place<'a, J> {
         }
     }
 
-    // A transaction begins.
+    // Begins a transaction.
     fn begin(
         &mut self,
         first: Option<(u32, u32)>,
@@ -214,7 +215,7 @@ impl<'a, J: ServeNames> Place<'a, J> {
         }
     }
 
-    /// An action reports: `None` where another has not yet.
+    /// Takes an action's report. Returns the phase's results with the last report; `None` if another action is still awaited.
     pub(crate) fn collect(&mut self, report: Report<J>) -> Result<Option<Met<J>>, Unexpected> {
         let Some(phase) = self.phase.take() else {
             return Err(Unexpected);
@@ -229,12 +230,12 @@ impl<'a, J: ServeNames> Place<'a, J> {
         }
     }
 
-    /// A phase is in flight by messages.
+    /// Stores the phase that is in flight by messages.
     pub(crate) fn set_phase(&mut self, phase: Phase<J>) {
         self.phase = Some(phase);
     }
 
-    /// The transaction is over: its session is told, and so many actions have still to give their claims back.
+    /// Ends the transaction: its session gets the answer. The claims of `ending` actions are still to come back.
     pub(crate) fn end(
         &mut self,
         recorded: SessionAnswer<J>,
@@ -267,8 +268,8 @@ impl<'a, J: ServeNames> Place<'a, J> {
         Ok(Ended { is_answered, over })
     }
 
-    /// An action of the transaction that is over has given its claims back. The executor that began the transaction, if it
-    /// was the last action.
+    /// Counts an action of the finished transaction whose claims are back. After the last one, returns the executor that began
+    /// the transaction.
     pub(crate) fn give_back(&mut self) -> Option<u32> {
         self.ending = self.ending.checked_sub(1)?;
         if self.ending == 0 {
@@ -278,8 +279,8 @@ impl<'a, J: ServeNames> Place<'a, J> {
         }
     }
 
-    /// The W_ID of the warehouse whose terminal asks the session's next request, if no request of it is in flight; and how often
-    /// that has died.
+    /// The W_ID of the warehouse whose terminal asks the session's next request, and how often that has died; `None` if a request
+    /// of it is in flight or it has none.
     pub(crate) fn next_home(&self, tries: u32) -> Option<(u32, u32)> {
         match &self.stage {
             Some(Stage::Ready(ready)) => Some((ready.next_home()?, ready.deaths(tries))),
@@ -289,7 +290,7 @@ impl<'a, J: ServeNames> Place<'a, J> {
     }
 }
 
-// A report has come to a phase that doesn't await it.
+// Drops a report to a phase that doesn't await it.
 #[cold]
 #[inline(never)]
 fn unexpected_report<J: ServeNames>(phase: Phase<J>, report: Report<J>) -> Unexpected {

@@ -1,4 +1,4 @@
-//! Scripts are served by executors, each in a thread of its own.
+//! Serves scripts and clients by executors, each in a thread of its own.
 ghost use Rattle.std.specs.Prelude.{◌≡◌, ◌≤◌, ◌<◌, ◌+◌, [], ◌++◌, drop, length, vec_len, All, IfOk, OnOk, IfErr, IfSome, IfNone};
 ghost use Rattle.schema.specs.Consistency.{Consistent};
 ghost use Rattle.range_moves.specs.Orders.{IsWithin};
@@ -26,20 +26,21 @@ use std::marker::Brand;
 use std::sync::Wait;
 use std::thread::Threads;
 
-/// The most messages that an inbox holds, where it isn't said.
+/// The largest number of messages in an inbox, if the caller does not set it.
 const ROOM: usize = 1024;
 
-/// Serves the scripts from the opening tables: script s is session s, which asks its requests one after the other. So many
-/// executors have the tables' warehouses between them, each in a thread of its own: warehouse w is at executor
-/// `(w-1) * executors / warehouses`. A request that died or found no memory is asked again, as long as it was asked less than
-/// `tries` times. A request that its check accepts passes the gate. Meanwhile the moves are made, one after the other, all of them: the
-/// warehouses of a move's range go to its executor, and requests go on.
+/// Serves the scripts from the opening tables. Script s is session s, which asks its requests one after the other. `executors`
+/// executors share the tables' warehouses, each in a thread of its own: warehouse w is at executor
+/// `(w-1) * executors / warehouses`. A request that was refused with Died or NoMemory is asked again until it was asked `tries`
+/// times. The gate is called for each request that the check accepts and that begins. The moves are made meanwhile, one after
+/// the other, all of them: the warehouses of a move's range go to its executor, and requests go on.
 ///
-/// `BadMove` tells the first move that there can't be, from 0: its range ends before it begins, or a number of it is out of range. It
-/// is asked before anything else. `NotConsistent` tells the least of the consistency conditions 1 to 10 and 12 that the opening tables
-/// break (TPC-C 5.11, clause 3.3.2): it is asked before a thread starts. `NoThread` is answered where a thread could not be started, when all that
-/// were started have ended; `NoMemory` where there was none to check the opening tables, to open the engine or for what came of
-/// it; `Unsettled` where something was not back once all executors had ended.
+/// Errors: `BadMove` is the place, from 0, of the first move that there can't be: its range ends before it begins, or one of its
+/// numbers is out of range. It is checked before anything else. `NotConsistent` is the least of the consistency conditions 1 to
+/// 10 and 12 that the opening tables break (TPC-C 5.11, clause 3.3.2); it is checked before a thread starts. `NoThread` if a
+/// thread could not be started; all that were started have ended then. `NoMemory` if an allocation failed: as the opening tables
+/// were checked, as the engine was opened or its threads were started, or for the outcome. `Unsettled` if something was not back
+/// once all executors had ended.
 pub fn serve<R: Threads + Wait + Sync, G: Gate + Send + Sync + Drop>(
     rt: &R,
     alloc: Global,
@@ -64,7 +65,7 @@ pub fn serve<R: Threads + Wait + Sync, G: Gate + Send + Sync + Drop>(
     )
 }
 
-/// The same by executors whose inboxes hold `room` messages each. A message that finds an inbox full waits at its sender.
+/// Like `serve`, with inboxes that hold `room` messages each. A message whose inbox is full waits at its sender.
 pub fn serve_with_room<R: Threads + Wait + Sync, G: Gate + Send + Sync + Drop>(
     rt: &R,
     alloc: Global,
@@ -91,12 +92,12 @@ pub fn serve_with_room<R: Threads + Wait + Sync, G: Gate + Send + Sync + Drop>(
     )
 }
 
-/// Has a client ask interactively, by so many sessions, from the opening tables. So many executors, each in a thread of its own, have
-/// the tables' warehouses between them meanwhile, as in `serve`. Once all sessions have left, what each of them asked is as a script
-/// (`asked`) with the answers that it had.
+/// Has a client ask interactively by `sessions` sessions, from the opening tables. `executors` executors share the tables'
+/// warehouses meanwhile, each in a thread of its own, as in `serve`. The outcome contains what each session asked as a script
+/// (`asked`), and the answers that it had.
 ///
-/// `NotConsistent`, `NoThread` and `NoMemory` are as those of `serve`; `Unsettled` is answered where a session was not given back in
-/// its place, or something else was not back once all executors had ended.
+/// Errors: `NotConsistent`, `NoThread` and `NoMemory` as in `serve`; `Unsettled` if a session was not given back in its place, or
+/// something else was not back once all executors had ended.
 pub fn serve_client<R: Threads + Wait + Sync, C: Client>(
     rt: &R,
     alloc: Global,
@@ -148,7 +149,7 @@ impl Client for Nobody {
     }
 }
 
-// Serves scripts, and so many sessions more, by which a client asks.
+// Serves scripts, and this many further sessions by which a client asks.
 fn serve_all<R: Threads + Wait + Sync, G: Gate + Send + Sync + Drop, C: Client>(
     rt: &R,
     alloc: Global,
@@ -197,7 +198,7 @@ fn first_bad(moves: &[MoveOrder], warehouses: u32, executors: u32) -> Option<usi
     None
 }
 
-// Serves the scripts, and what the client asks, by an engine whose names are `J`.
+// Serves the scripts and the client's sessions by an engine whose type parameter is `J`.
 fn serve_from<
     J: ServeNames + Send + Sync,
     R: Threads + Wait + Sync,
@@ -242,8 +243,8 @@ fn serve_from<
     }
 }
 
-// All executors work, each in a thread of its own, and are given back once all have ended, also where a thread could not be
-// started. Meanwhile the client asks.
+// Runs all executors, each in a thread of its own, and the client meanwhile. Returns the executors and the client's sessions once
+// all threads have ended. If a thread can't be started, stops the others and returns the fault.
 fn work_all<
     J: ServeNames + Send + Sync,
     G: Gate + Send + Sync,
@@ -272,7 +273,7 @@ fn work_all<
     work_on_each(rt, alloc, &crew, executors, asking)
 }
 
-/// A client, the sessions by which it asks, and whom.
+/// A client, its sessions, and the engine by which they ask.
 #[derive(Drop)]
 struct Asking<'e, 'a, J: ServeNames, G: Gate, R: Wait, C: Client> {
     rt: &'e R,
@@ -282,7 +283,7 @@ struct Asking<'e, 'a, J: ServeNames, G: Gate, R: Wait, C: Client> {
     sessions: Vec<Session<J>>,
 }
 
-/// What executors have in common as they work.
+/// What the executors' threads share.
 #[derive(Drop)]
 struct Crew<'e, 'a, J: ServeNames, G: Gate, R: Wait> {
     rt: &'e R,
@@ -317,7 +318,7 @@ impl<J: ServeNames + Send + Sync, G: Gate, R: Threads + Wait + Sync, C: Client> 
 
     ghost gives = { λ asking left. C.promises asking.client.now J.opening (asked_by left.items) (recorded_by left.items) };
 
-    // The client asks. Where it keeps a session back, the executors are to end without.
+    // Runs the client. If it keeps a session back, stops the executors.
     fn run(self) -> Vec<Left<J>> {
         let Asking {
             rt,

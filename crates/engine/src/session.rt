@@ -1,4 +1,4 @@
-//! A session that asks interactively: it belongs to whoever asks by it, and waits for each answer.
+//! A session that asks interactively. Its caller owns it and waits for each answer.
 ghost use Rattle.std.specs.Prelude.{◌≡◌, ◌≤◌, [], ◌∷◌, ◌++◌, length, false, Ok, IfOk, IfErr, IfSome};
 ghost use Rattle.requests.specs.Check.{check_of};
 ghost use Rattle.commit_log.specs.Items.{items_of};
@@ -24,17 +24,17 @@ use transactions::home_of_request;
 
 /// A session that asks interactively, none of whose requests is in flight.
 ///
-/// Contracts see what it has asked so far (`script`), its pass, with what it has seen of the log and logged (`pass`), and its answers
-/// (`answers`). It keeps that each answer says what came of its request.
+/// Contracts see what it has asked so far (`script`), its pass, which records what it has seen of the log and logged (`pass`),
+/// and its answers (`answers`). Invariant: each answer is the result of its request.
 #[derive(Drop)]
 pub struct Session<J: ServeNames> {
     seat: SessionSeat<J>,
     pass: Pass<J>,
     requests: Vec<Request>,
     answers: Vec<Result<u32, Refusal>>,
-    // Whether the log was full when it asked: it asks no more then.
+    // Whether it has had the answer LogFull. It asks no more then.
     is_full: bool,
-    // Into the inboxes of all executors, by their numbers.
+    // Senders into the inboxes of all executors, by their numbers.
     outlets: Vec<Sender<Message<J>>>,
 }
 
@@ -50,7 +50,7 @@ impl<J: ServeNames> Model for Session<J> {
     ghost invariant = { λ s. IsResting J.opening.scale (ready_view s.requests.items s.seat s.pass s.answers.items s.is_full) };
 }
 
-/// A session with a request that it is to ask, and room to keep it and its answer.
+/// A session with its next request, and with capacity to keep the request and its answer.
 #[derive(Drop)]
 struct Asker<J: ServeNames> {
     seat: SessionSeat<J>,
@@ -77,7 +77,7 @@ impl<J: ServeNames> Model for Asker<J> {
     ghost invariant = { λ s. IsCalling J.opening.scale (ready_view s.requests.items s.seat s.pass s.answers.items s.is_full) s.number (vec_capacity s.requests) (vec_capacity s.answers) };
 }
 
-/// A session whose request is in flight: its pass goes with it.
+/// A session whose request is in flight; its pass goes with the request.
 #[derive(Drop)]
 struct Away<J: ServeNames> {
     seat: SessionSeat<J>,
@@ -101,12 +101,12 @@ impl<J: ServeNames> Model for Away<J> {
     ghost invariant = { λ s. IsCalled J.opening.scale (asked_view s.requests.items s.seat s.answers.items) s.request (vec_capacity s.requests) (vec_capacity s.answers) };
 }
 
-/// Why a session has no answer to what it asked interactively.
+/// Why a session has no answer to a request.
 #[derive(Drop)]
 pub enum AskFault<J: ServeNames> {
-    /// There was no memory to keep the request: it was not asked, and the session is as it was.
+    /// An allocation failed: the request was not asked, and the session is unchanged.
     NoMemory(Session<J>),
-    /// The executors have ended: so the session is gone.
+    /// No answer came: the executors were stopped, or the answer was for another session. The session is lost.
     Stopped,
 }
 
@@ -117,7 +117,7 @@ pub struct Left<J: ServeNames> {
 }
 
 impl<J: ServeNames> Session<J> {
-    /// A session that has asked nothing, and puts messages into these inboxes.
+    /// A session that has asked nothing and puts messages into these inboxes.
     pub(crate) fn new(
         alloc: Global,
         pass: Pass<J>,
@@ -145,30 +145,30 @@ impl<J: ServeNames> Session<J> {
         self.pass.session()
     }
 
-    /// How many entries of the log it has seen: each request that it asks from now on stands behind them.
+    /// The number of entries of the log that it has seen. The entry of each request that it asks from now on is behind them.
     pub fn seen(&self) -> u32
         ensures { result ≡ self.now.pass.seen }
     {
         self.pass.seen()
     }
 
-    /// What it has asked, in order.
+    /// The requests it has asked, in order.
     pub fn requests(&self) -> &[Request]
         ensures { result.now ≡ self.now.script }
     {
         self.requests.as_slice()
     }
 
-    /// The answers to what it has asked: the place of a request's entry in the log, or why it was refused.
+    /// The answers to its requests: the place of a request's entry in the log, or why the request was refused.
     pub fn answers(&self) -> &[Result<u32, Refusal>]
         ensures { result.now ≡ self.now.answers }
     {
         self.answers.as_slice()
     }
 
-    /// Asks a request, and waits for its answer: the place of its entry in the log (`Engine::log`), which is behind all that the
-    /// session and those that it met have seen, or why it was refused, and then it has seen and logged what it had. It is asked once:
-    /// one that died, or found no memory, may be asked again.
+    /// Asks a request and waits for its answer: the place of its entry in the log (`Engine::log`), or why it was refused. The
+    /// entry is behind all that the session and those that it met have seen. After a refusal the session has seen and logged what
+    /// it had before. The request is asked once; the caller may ask one again that was refused with Died or NoMemory.
     pub fn ask<G: Gate>(
         self,
         rt: &impl Wait,
@@ -220,7 +220,8 @@ impl<J: ServeNames> Session<J> {
         }
     }
 
-    /// It asks no more. The executors end once all sessions have left, and all scripts are served.
+    /// Ends the session: it asks no more. The executors end once all sessions have left, all scripts are served and all moves are
+    /// made.
     pub fn leave<G: Gate>(self, rt: &impl Wait, engine: &Engine<'_, J, G>) -> Left<J>
         ensures { result.session ≡ self }
     {
@@ -233,7 +234,8 @@ impl<J: ServeNames> Session<J> {
         Left { session }
     }
 
-    /// Learns that it has logged just what stands of it in the log, which has reached all that it has seen. Both stay as they were.
+    /// Proves that the session has logged exactly its entries in the log, and that the log has reached all that it has seen.
+    /// Changes neither.
     pub fn audit(&mut self, log: &mut Log<J>)
         ensures seen { self.old.pass.seen ≤ length log.old }
         ensures reached { self.old.pass.reached ≤ length log.old }
@@ -244,8 +246,8 @@ impl<J: ServeNames> Session<J> {
     }
 }
 
-/// Two sessions meet: both have seen the larger number of entries from then on, so what either asks from now on stands behind all that
-/// the other was answered. It waits for nobody.
+/// Lets two sessions meet: from now on both have seen the larger number of entries, so the entry of what either asks from now on
+/// is behind the entries that the other was answered. Never waits.
 pub fn meet<J: ServeNames>(one: &mut Session<J>, other: &mut Session<J>)
     ensures one { HasMet one.old other.old one.new }
     ensures other { HasMet other.old one.old other.new }
@@ -254,7 +256,7 @@ pub fn meet<J: ServeNames>(one: &mut Session<J>, other: &mut Session<J>)
 }
 
 impl<J: ServeNames> Asker<J> {
-    // The request is refused.
+    // Answers the request with a refusal.
     fn refused(self, refusal: Refusal) -> (Session<J>, Result<u32, Refusal>)
         requires { IsRefusal J.opening.scale (known_of self.before.is_full self.before.pass.reached) self.request refusal }
         ensures { Asks J.opening.scale self.before self.request result.0 result.1 }
@@ -282,7 +284,8 @@ impl<J: ServeNames> Asker<J> {
         (session, Err(refusal))
     }
 
-    // The request, which its check accepts, is asked. `None` where the executors have ended.
+    // Asks the request, which its check accepts. Returns `None` if the executors were stopped, or if the answer is another
+    // session's.
     fn call<G: Gate>(
         self,
         rt: &impl Wait,
@@ -332,7 +335,7 @@ impl<J: ServeNames> Asker<J> {
 }
 
 impl<J: ServeNames> Away<J> {
-    // Its flow begins where its warehouse is.
+    // Stores the flow at the session's place and has it begun at the executor of its warehouse.
     fn send<G: Gate>(
         &mut self,
         rt: &impl Wait,
@@ -352,7 +355,7 @@ impl<J: ServeNames> Away<J> {
         }
     }
 
-    // The pass has come back with this answer.
+    // Takes the pass back with this answer.
     fn answered(
         self,
         pass: Pass<J>,
@@ -388,8 +391,8 @@ impl<J: ServeNames> Away<J> {
 }
 
 impl<J: ServeNames> Left<J> {
-    /// What it has asked, and the answers, once they are compared with the log: it has logged just what stands there of it. `None`
-    /// where it is another session, or has asked more than a script can have.
+    /// The requests it has asked and their answers, after an audit of the session: it has logged exactly its entries in the log.
+    /// Returns `None` if it is another session, or if it has asked more than a script can have.
     pub(crate) fn audit(self, log: &mut Log<J>, number: usize) -> Option<(Script, Answers)>
         ensures asked { IfSome result (λ r. r.0 ≡ self.session.script) }
         ensures recorded { IfSome result (λ r. r.1 ≡ self.session.answers) }
@@ -412,7 +415,7 @@ impl<J: ServeNames> Left<J> {
     }
 }
 
-// The session of this slot begins at this executor what it asks, or ends there.
+// Has this executor begin the request of the session of this slot, or end the session.
 fn begin_at<J: ServeNames, G: Gate>(
     rt: &impl Wait,
     engine: &Engine<'_, J, G>,

@@ -1,4 +1,4 @@
-//! Threads that work on what is handed to them.
+//! Threads that each work on one value.
 ghost use Rattle.std.specs.Prelude.{IfErr, IfOk};
 ghost use Rattle.engine.specs.Faults.{IsOfServing};
 
@@ -7,31 +7,31 @@ use std::alloc::Global;
 use std::sync::Wait;
 use std::thread::{self, JoinHandle, Scope, Threads};
 
-/// What threads do.
+/// The work of threads.
 pub(crate) trait Work<X> {
-    /// Works on what a thread was handed, and gives it back.
+    /// Works on a value and returns it.
     fn work(&self, own: X) -> X;
 
-    /// Has all that work end soon.
+    /// Makes all such work end soon.
     fn stop(&self);
 }
 
-/// What the thread does meanwhile that has started the others.
+/// What the starting thread does while the others work.
 pub(crate) trait Meanwhile<B> {
-    /// What it asks for.
+    /// What it requires.
     ghost may_run: { Self → Type 0 };
 
-    /// What may come of it.
+    /// What it ensures.
     ghost gives: { Self → B → Type 0 };
 
-    /// Does it, and returns what came of it.
+    /// Runs it.
     fn run(self) -> B
         requires { may_run self }
         ensures { gives self result };
 }
 
-/// Has each worked on in a thread of its own, and gives all back, in order, once all threads have ended; with what came of what was done
-/// meanwhile. Where a thread can't be started, those that were are stopped, and what they worked on is gone.
+/// Works on each value in a thread of its own, and runs `meanwhile`. Returns the values in order, and the result of `meanwhile`,
+/// once all threads have ended. If a thread can't be started, the started ones are stopped, and their values are lost.
 pub(crate) fn work_on_each<
     X: Send + Drop,
     W: Work<X> + Sync,
@@ -68,7 +68,7 @@ pub(crate) fn work_on_each<
     )
 }
 
-// Starts a thread for each.
+// Starts a thread for each value.
 fn start_all<'s, E, X: Send + Drop + 's, W: Work<X> + Sync>(
     scope: &Scope<'s, E>,
     alloc: Global,
@@ -91,7 +91,7 @@ fn start_all<'s, E, X: Send + Drop + 's, W: Work<X> + Sync>(
     Ok(threads)
 }
 
-// Waits for the threads, and gives back what they worked on.
+// Waits for the threads and returns their values.
 fn join_all<X: Drop, R: Threads>(
     rt: &R,
     alloc: Global,

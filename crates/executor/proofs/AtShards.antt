@@ -1,4 +1,4 @@
--- What comes of the actions that ask and wait at a shard.
+-- The results of the actions that ask and wait at a shard.
 use Rattle.std.proofs.Common.{◌≡◌, ℕ, ◌<◌, ◌≤◌, ◌+◌, arith, List, ◌∷◌, length, Option, Some, None, refl, sym, ap, subst, ◌∙◌}
 use Rattle.std.specs.Prelude.{All, IfNone, IfSome, slice_index_or}
 use Rattle.std.specs.List.{remove}
@@ -47,7 +47,7 @@ module _ (at_home : WorksAreDoneAtHome) (shared : SharedTables) where
     ran_by by age work old new (ran.Died group holder) aged is dies = (dies_on old.holdings by.age (group_wants_of work) group holder dies.0).group_wanted
     ran_by by age work old new ran.NoMemory aged is none = tt
 
-    -- one who would not wait
+    -- an action that does not wait
     pub ran_at_once : (by : Holder) (work : Work) (old new : ShardView (Carried J)) (came : Option (Ran J)) → shared_of old.slice.tables ≡ shared → IfSome came (λ one. RunsAs by work old one new)
         → IfSome came (IsRanBy shared by.age work)
     ran_at_once by work old new None is runs = tt
@@ -75,7 +75,7 @@ module _ (at_home : WorksAreDoneAtHome) (shared : SharedTables) where
           waiting = All-push (CarriesWaiting shared) old.parked (parked e.by e.work (carried_by e)) h.waiting carries;
         })
 
-    -- how many wait, whatever comes of it
+    -- how many wait, whatever the result
     pub counted : (e : ActView) (recorded : Carried J) (old new : ShardView (Carried J)) (one : Ran J) (waiting : ℕ) → AreAtMost waiting old.parked
         → ActsAs e.by e.work (carried_by e) old (acted.Ran one recorded) new → AreAtMost waiting new.parked
     counted e recorded old new one waiting h acts = subst (λ (ps : List (Parked (Carried J))). AreAtMost waiting ps) (sym acts.3) h
@@ -92,14 +92,14 @@ module _ (at_home : WorksAreDoneAtHome) (shared : SharedTables) where
     reports_recorded e recorded old new one h counted_shard acts =
         subst (λ (k : Carried J). CarriesReport shared (report_view k.number one k.share k.flow)) (sym acts.0) (reports e recorded old new one h counted_shard.shared_is acts)
 
-    -- the shard, whatever comes of it
+    -- the shard, whatever the result
     pub after_acts : (e : ActView) (old new : ShardView (Carried J)) (came : Acted J (Carried J)) → CarriesAct shared e → CarriesCountedShard shared old → ActsAs e.by e.work (carried_by e) old came new → CarriesCountedShard shared new
     after_acts e old new (acted.Ran one recorded) carries h acts = after_act e recorded old new one h acts
     after_acts e old new acted.Waits carries h acts = after_wait e old new carries h acts
 
     -- ---- a turn
 
-    -- one who has waited
+    -- an action that has waited
     waited : (old : ShardView (Carried J)) (index : ℕ) (p : Parked (Carried J)) → CarriesCountedShard shared old → index < length old.parked → ((d : Parked (Carried J)) → slice_index_or old.parked index d ≡ p) → CarriesWaiting shared p
     waited old index p h inside there = subst (CarriesWaiting shared) (there p) (h.waiting index p inside)
 
@@ -137,7 +137,7 @@ module _ (at_home : WorksAreDoneAtHome) (shared : SharedTables) where
         subst (λ (ps : List (Parked (Carried J))). AreAtMost less ps) (sym turn.rest)
         (λ least. omega (arith, (by least).1, h (by least).0, length-remove old.parked turn.index turn.inside))
 
-    -- or nobody has a turn
+    -- or no action has a turn
     pub after_turns : (old new : ShardView (Carried J)) (turned : Option (Turned J (Carried J))) → CarriesCountedShard shared old → IfSome turned (λ t. OneTurn old t new) → IfNone turned (new ≡ old) → CarriesCountedShard shared new
     after_turns old new None h turn same = subst (λ (s : ShardView (Carried J)). CarriesCountedShard shared s) (sym same) h
     after_turns old new (Some turned) h turn same = after_turn old new turned h turn

@@ -1,4 +1,4 @@
--- What becomes of a transaction by what came of it at the log.
+-- A transaction after its append to the log, by the log's answer.
 use Rattle.std.proofs.Common.{◌≡◌, ◌≤◌, ◌++◌, ◌∷◌, [], inl, inr, ℕ, Bool, true, false, List, Err, length, refl, sym, ap, ◌∙◌, subst}
 use Rattle.std.specs.Prelude.{All, ◌↔◌}
 use Rattle.std.proofs.lemmas.List.Elements.{All-weaker}
@@ -22,7 +22,7 @@ given_so true age claims given = given.0
 given_so false age claims given = given.0
 
 module _ {J : Type 0} (c : CommitView) (old new : List Entry) (logged : Logged J) (after : List (List ClaimView)) where
-  -- its session is told so
+  -- its answer is the refusal or the place
   pub answers : IsAskedBy c.number c.request c.pass → Logs (entry_committed c) c.pass old c.held logged new after → CarriesAnswer (answer_view c.age c.number logged.pass logged.answer)
   answers asked (inl logs) =
       subst (λ (l : Logged J). CarriesAnswer (answer_view c.age c.number l.pass l.answer)) (sym logs.2) (record {
@@ -41,13 +41,13 @@ module _ {J : Type 0} (c : CommitView) (old new : List Entry) (logged : Logged J
       by fault.NoMemory full = record { number_is = asked.number_is; recorded = (asked.seen, asked.mine, tt) }
       by fault.LogFull full = record { number_is = asked.number_is; recorded = (asked.seen, asked.mine, full.0 refl) }
 
-  -- its claims go back so
+  -- its claims go back as the answer requires
   pub gives : All (AreUndoneBy c.age) c.held → Logs (entry_committed c) c.pass old c.held logged new after → AreGiven logged.is_settled after
   gives undone logs =
       All-weaker (AreGivenBy logged.is_settled c.age) (IsGiven logged.is_settled) (given_so logged.is_settled c.age) after
       (given_back c.age (entry_committed c) c.pass old new c.held after logged logs undone)
 
-  -- and that is what becomes of it
+  -- and this is the contract of the commit
   pub commits : Logs (entry_committed c) c.pass old c.held logged new after
       → Commits c old (release_view (answer_view c.age c.number logged.pass logged.answer) (returns_view c.slot logged.is_settled after) c.phase_owner) new
   commits (inl logs) =

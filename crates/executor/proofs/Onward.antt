@@ -34,7 +34,7 @@ module _ (opening : Database) (request : Request) (progress : Progress) (held : 
   pub has_found : HasFound progress found
   has_found = (shared_of opening, met.own, met.done)
 
-  -- the next phase is given what is known to it
+  -- the facts that the next phase needs
   pub next_reached : (next : Progress) → FollowsFrom progress found (Next next) → IsReached (shared_of opening) request next held
   next_reached next follows = subst (λ h. IsReached (shared_of opening) request next h) (sym met.held_is) (follows (shared_of opening) request met.earlier met.own met.reached met.done)
 
@@ -67,7 +67,7 @@ module _ {J : Type 0} where
     abbrev recorded : Option Refusal → List Found → Following J → Type 0
     recorded refused found after = FollowsUnless refused phase_owner (transaction_of m.flow) held_then m.flow.progress found after
 
-    -- it is refused for the first death, or else for lack of memory
+    -- it is refused for the first death, or else with NoMemory
     follows_refused : (start : Option Refusal) (why : Refusal) → IfSome start (λ w. w ≡ refusal.NoMemory) → refusal_of start m.rans ≡ Some why
         → Follows m (Over (refused phase_owner (transaction_of m.flow) held_then why))
     follows_refused None why begun is = (phase_owner, (whole, subst (λ (o : Option Refusal). recorded o (found_in m.rans) (Over (refused phase_owner (transaction_of m.flow) held_then why))) (sym is) refl))

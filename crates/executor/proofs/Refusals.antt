@@ -40,7 +40,7 @@ module _ {J : Type 0} (shared : SharedTables) (age entries : ℕ) (request : Req
       All-cons (IfDied (MayBeRefused entries request)) own rans (one_died work own (λ group is. within group (first_group_want work works group is)) all.0)
       (all_died works rans (λ group is. within group (later_group_want work works group is)) all.1)
 
--- lack of memory may have been the reason before any action
+-- NoMemory may be the reason before any action
 at_first : (entries : ℕ) (request : Request) (start : Option Refusal) → IfSome start (λ w. w ≡ refusal.NoMemory) → IfSome start (MayBeRefused entries request)
 at_first entries request None begun = tt
 at_first entries request (Some why) begun = subst (MayBeRefused entries request) (sym begun) tt
@@ -54,7 +54,7 @@ module _ {J : Type 0} where
       (all_died shared j.age j.pass.reached j.request (works_of j.progress) rans (λ group is. of_footprint shared j.request j.progress j.held carries.reached group within is) are)
       (at_first j.pass.reached j.request start begun)
 
--- and in the end, where there may be no memory for what follows
+-- and in the end, when an allocation may fail for the next step
 pub may_in_the_end : (entries : ℕ) (request : Request) (sorted : Option Refusal) (why : Refusal) → IsRefusedFor sorted why → IfSome sorted (MayBeRefused entries request) → MayBeRefused entries request why
 may_in_the_end entries request None why is may = subst (MayBeRefused entries request) (sym is) tt
 may_in_the_end entries request (Some first) why is may = subst (MayBeRefused entries request) (sym is) may

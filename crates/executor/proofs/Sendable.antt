@@ -1,4 +1,4 @@
--- ExecutorShards, phases, and all that goes between executors may go to another thread, where the names may.
+-- ExecutorShards, phases, and all that goes between executors may go to another thread, if the type parameter may.
 use denote.RattleType.{RattleType}
 use denote.Param.Send.{IsSend, sendable, view_send}
 use denote.Param.SendFields.{declared_send, variants_send}

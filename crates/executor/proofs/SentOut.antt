@@ -12,7 +12,7 @@ use Rattle.executor.specs.Carrying.{ActView, IsCarriedAt}
 use Rattle.executor.specs.Flows.{FlowView}
 use Rattle.executor.specs.Phases.{AreRans, CarriesPhase, HasCome}
 
--- the first of what is left stands at its place
+-- the first of what is left is at its place
 pub stands_at : {X : Type 0} (xs : List X) (n : ℕ) (x : X) (rest : List X) → drop n xs ≡ x ∷ rest → slice_get xs n ≡ Some x
 stands_at [] zero x rest is = absurd (cc)
 stands_at [] (suc n) x rest is = absurd (cc)

@@ -18,7 +18,7 @@ module _ (table : TableId) where
   pub spent_pop : (was seats : List (SeatView AgreedPhase)) (seat : SeatView AgreedPhase) → AreSpent table was → was ≡ seats ++ seat ∷ [] → AreSpent table seats × IsSpent (agreed_phase_agreement table) seat
   spent_pop was seats seat all is = split_last seats seat (subst (AreSpent table) is all)
 
-  -- a seat tells what it tells
+  -- a seat with the agreed phase that it records
   records_own : (recorded : AgreedPhase) (share : ℕ) (seat : SeatView AgreedPhase) → seat ≡ agreed_phase_seat table recorded share → seat ≡ agreed_phase_seat table seat.value share
   records_own recorded share seat is = is ∙ ap (λ c. agreed_phase_seat table c share) (sym (ap (λ t. t.value) is))
 

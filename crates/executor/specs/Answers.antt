@@ -1,4 +1,4 @@
--- What an answer tells, and what goes back with it.
+-- What an answer contains, and which claims go back with it.
 use Rattle.std.specs.Prelude.{◌≡◌, ◌≤◌, ◌+◌, ℕ, Bool, true, false, List, [], ◌∷◌, ◌++◌, All, Contains, Result, Ok, Err}
 use Rattle.requests.specs.declared.request.Request.{Request}
 use Rattle.requests.specs.declared.reply.Reply.{Reply}
@@ -14,8 +14,8 @@ use Rattle.transactions.specs.Acting.{CanAllBeSettled, CanAllBeUndone}
 
 -- ---- the answer
 
--- an answer on its way: the transaction's age, the number of the request in its session, the session's pass, and the answer, which is the
--- place of the transaction's entry in the log, or why it was refused
+-- an answer: the transaction's age, the number of the request in its session, the session's pass, and the place of the
+-- transaction's entry in the log, or why it was refused
 pub record AnswerView : Type 0 where
   pub age : ℕ
   pub number : ℕ
@@ -25,29 +25,30 @@ pub record AnswerView : Type 0 where
 abbrev pub answer_view : ℕ → ℕ → PassView → Result ℕ Refusal → AnswerView
 answer_view age number pass answer = record { age = age; number = number; pass = pass; answer = answer }
 
--- For what a request may be refused that is in flight, where the log has reached so many entries: there was no memory; or the log has its
--- most entries; or an action died on a group that the request claims, of whomever. It is refused for nothing else.
+-- A request in flight may be refused for this reason, when the pass has seen the log reach this many entries: an allocation
+-- failed; or the log has its most entries; or an action died on a group of the request's footprint, whoever holds it. It may be
+-- refused for nothing else.
 abbrev pub MayBeRefused : ℕ → Request → Refusal → Type 0
 MayBeRefused entries request NoMemory = Unit {0}
 MayBeRefused entries request LogFull = 16777216 ≤ entries
 MayBeRefused entries request (Died group holder) = Contains (groups_of (footprint request)) group
 MayBeRefused entries request _ = ⊥
 
--- What the pass has seen and logged is what it had when the session asked this, and the answer: an entry behind all that it had
--- seen; or nothing more, where it was refused, and it may be refused for this.
+-- The pass has seen and logged what it had when the session asked, and the answer: an entry behind all that it had seen; or, for
+-- a refusal, nothing more, and the request may be refused for this reason.
 abbrev pub IsRecordedBy : Asking → PassView → Result ℕ Refusal → Type 0
 IsRecordedBy asks pass (Ok place) =
     (asks.seen ≤ place) × (pass.seen ≡ place + 1) × (shown : Reply) × (pass.mine ≡ asks.mine ++ item place asks.number asks.request shown ∷ [])
 IsRecordedBy asks pass (Err why) = (pass.seen ≡ asks.seen) × (pass.mine ≡ asks.mine) × MayBeRefused pass.reached asks.request why
 
--- an answer is to the request that its session asked with the pass, and the pass tells it
+-- an answer is to the request that its session asked with the pass, and the pass records it
 pub record CarriesAnswer (t : AnswerView) : Type 0 where
   pub number_is : t.pass.asks.number ≡ t.number
   pub recorded : IsRecordedBy t.pass.asks t.pass t.answer
 
 -- ---- what goes back
 
--- what the actions of a transaction that is over give back: its slot, whether their claims are settled, and the claims of each
+-- the claims of a finished transaction that are to give back: its slot, whether they are settled, and the claims of each action
 pub record ReturnsView : Type 0 where
   pub slot : ℕ
   pub settle : Bool
@@ -56,18 +57,18 @@ pub record ReturnsView : Type 0 where
 abbrev pub returns_view : ℕ → Bool → List (List ClaimView) → ReturnsView
 returns_view slot settle held = record { slot = slot; settle = settle; held = held }
 
--- what the claims of one action left is committed, or all that was done under them can be taken back
+-- if they are settled, what the claims of this action left is committed; else all that was done under them can be undone
 abbrev pub IsGiven : Bool → List ClaimView → Type 0
 IsGiven true claims = CanAllBeSettled claims
 IsGiven false claims = CanAllBeUndone claims
 
--- so are those of all
+-- so for the claims of all actions
 abbrev pub AreGiven : Bool → List (List ClaimView) → Type 0
 AreGiven settle held = All (IsGiven settle) held
 
--- ---- a transaction that is over
+-- ---- a finished transaction
 
--- what its session is told, what its actions give back, and who keeps its agreed phase
+-- a finished transaction: its answer, the claims to give back, and its phase owner
 pub record ReleaseView : Type 0 where
   pub recorded : AnswerView
   pub returns : ReturnsView

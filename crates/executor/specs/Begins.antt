@@ -1,4 +1,4 @@
--- A phase that begins.
+-- The actions of a phase that begins.
 use Rattle.std.specs.Prelude.{◌+◌, ℕ, List, [], ◌∷◌, Option, Some, None, length, replicate}
 use Rattle.transactions.specs.declared.work.Work.{Work}
 use Rattle.transactions.specs.Progresses.{works_of}
@@ -7,11 +7,11 @@ use Rattle.executor.specs.Carrying.{ActView, action_at, agreed_phase_of}
 use Rattle.executor.specs.Flows.{FlowView}
 use Rattle.executor.specs.Phases.{PhaseView}
 
--- the action of this number, which carries this
+-- the action of this number, with the transaction if it carries it
 abbrev pub act_at : ℕ → AgreedPhase → ℕ → Option FlowView → Work → ActView
 act_at slot recorded number carried work = record { by = action_at recorded number; number = number; work = work; slot = slot; agreed_phase = recorded; flow = carried }
 
--- the actions from this number on; the first of them carries this
+-- the actions from this number on; the first of them carries the transaction if there is one
 abbrev pub acts_from : ℕ → AgreedPhase → ℕ → Option FlowView → List Work → List ActView
 acts_from slot recorded number carried [] = []
 acts_from slot recorded number carried (work ∷ works) = act_at slot recorded number carried work ∷ acts_from slot recorded (number + 1) None works
@@ -20,6 +20,6 @@ acts_from slot recorded number carried (work ∷ works) = act_at slot recorded n
 abbrev pub acts_of : FlowView → List ActView
 acts_of j = acts_from j.slot (agreed_phase_of j) 0 (Some j) (works_of j.progress)
 
--- its phase, of which no action has reported
+-- the phase before any action has reported
 abbrev pub awaiting_all : {J : Type 0} → FlowView → PhaseView J
 awaiting_all j = record { slot = j.slot; agreed_phase = agreed_phase_of j; flow = None; rans = replicate (length (works_of j.progress)) None }

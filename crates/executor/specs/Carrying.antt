@@ -1,4 +1,4 @@
--- What an action carries with it on its way, and what its report does, whatever becomes of the others.
+-- What an action in flight and its report carry, whatever the other actions do.
 use Rattle.std.specs.Prelude.{◌≡◌, ◌+◌, ℕ, zero, suc, Option, Some, None, length}
 use Rattle.std.specs.List.{slice_get}
 use Rattle.partitions.specs.Parts.{SharedTables}
@@ -14,16 +14,16 @@ use Rattle.transactions.specs.Acting.{IsRanBy}
 
 -- ---- a transaction
 
--- its agreed phase
+-- the agreed phase of a transaction
 abbrev pub agreed_phase_of : FlowView → AgreedPhase
 agreed_phase_of j = agreed_phase j.age (length j.held) j.progress
 
--- the transaction in this slot has come as far as this
+-- the transaction is in this slot and has come to this agreed phase
 pub record IsOn (slot : ℕ) (recorded : AgreedPhase) (j : FlowView) : Type 0 where
   pub slot_is : j.slot ≡ slot
   pub agreed_phase_is : agreed_phase_of j ≡ recorded
 
--- the transaction goes with the first action of its phase, and with no other
+-- the first action of a phase carries the transaction, and no other does
 abbrev pub IsCarriedAt : ℕ → AgreedPhase → ℕ → Option FlowView → Type 0
 IsCarriedAt slot recorded zero None = ⊥
 IsCarriedAt slot recorded zero (Some j) = IsOn slot recorded j
@@ -32,16 +32,16 @@ IsCarriedAt slot recorded (suc number) (Some j) = ⊥
 
 -- ---- an action
 
--- the action of this number of the phase, from 0, does this
+-- this is the work of the action of this number, from 0, in the agreed phase
 abbrev pub IsWorkAt : AgreedPhase → ℕ → Work → Type 0
 IsWorkAt recorded number work = slice_get (works_of recorded.progress) number ≡ Some work
 
--- who it is: its transaction, by its age, and its place among all actions of it
+-- the holder of an action: its transaction's age, and its place among all actions of the transaction
 abbrev pub action_at : AgreedPhase → ℕ → Holder
 action_at recorded number = record { age = recorded.age; place = recorded.first + number }
 
--- an action on its way: who it is, its number in its phase, what it does; the slot of its transaction, the agreed phase that its share
--- tells, and the transaction, if it goes with it
+-- an action in flight: its holder, its number in its phase, its work; the slot of its transaction, the agreed phase that its
+-- share records, and the transaction, if it carries it
 pub record ActView : Type 0 where
   pub by : Holder
   pub number : ℕ
@@ -53,8 +53,8 @@ pub record ActView : Type 0 where
 abbrev pub act_view : Holder → ℕ → Work → ShareView → Option FlowView → ActView
 act_view by number work share flow = record { by = by; number = number; work = work; slot = share.slot; agreed_phase = share.agreed_phase; flow = flow }
 
--- An action on its way does the work of its number in the phase that the agreed phase tells, which can be done; and it brings the
--- transaction exactly where it is the first.
+-- The work is that of the action's number in the agreed phase, and can be done. The first action carries the transaction, and no
+-- other does.
 pub record CarriesAct (shared : SharedTables) (e : ActView) : Type 0 where
   pub by_is : e.by ≡ action_at e.agreed_phase e.number
   pub work_is : IsWorkAt e.agreed_phase e.number e.work
@@ -62,12 +62,12 @@ pub record CarriesAct (shared : SharedTables) (e : ActView) : Type 0 where
   pub flow_is : IsCarriedAt e.slot e.agreed_phase e.number e.flow
 
 module _ {J : Type 0} where
-  -- what came of the work of this number
+  -- this is a result of the work of this number in the agreed phase
   abbrev pub IsRanAt : SharedTables → AgreedPhase → ℕ → Ran J → Type 0
   IsRanAt shared recorded number ran = (work : Work) × (IsWorkAt recorded number work × IsRanBy shared recorded.age work ran)
 
--- a report: the number of the action in its phase, and what came of it; the slot of its transaction, the agreed phase that its share tells,
--- and the transaction, if it goes with it
+-- a report: the action's number in its phase, and its result; the slot of its transaction, the agreed phase that its share
+-- records, and the transaction, if it carries it
 pub record ReportView (J : Type 0) : Type 0 where
   pub number : ℕ
   pub ran : Ran J
@@ -79,7 +79,8 @@ module _ {J : Type 0} where
   abbrev pub report_view : ℕ → Ran J → ShareView → Option FlowView → ReportView J
   report_view number ran share flow = record { number = number; ran = ran; slot = share.slot; agreed_phase = share.agreed_phase; flow = flow }
 
-  -- A report is of the work of its number in the phase that the agreed phase tells, and brings the transaction as the action did.
+  -- The result is of the work of the report's number in the agreed phase, and the report carries the transaction if the action
+  -- did.
   pub record CarriesReport (shared : SharedTables) (r : ReportView J) : Type 0 where
     pub ran_is : IsRanAt shared r.agreed_phase r.number r.ran
     pub flow_is : IsCarriedAt r.slot r.agreed_phase r.number r.flow

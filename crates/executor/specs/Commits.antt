@@ -1,4 +1,4 @@
--- A transaction is logged.
+-- A transaction is appended to the log.
 use Rattle.std.specs.Prelude.{◌≡◌, ◌⊎◌, ◌<◌, ◌≤◌, ◌↔◌, ℕ, false, List, [], ◌∷◌, ◌++◌, All, length, map, Ok, Err}
 use Rattle.schema.specs.Database.{Database}
 use Rattle.requests.specs.declared.request.Request.{Request}
@@ -19,8 +19,8 @@ use Rattle.transactions.specs.Logged.{is_settled, why_refused}
 use Rattle.executor.specs.Transactions.{TransactionView}
 use Rattle.executor.specs.Answers.{ReleaseView, release_view, returns_view, answer_view}
 
--- a transaction that was carried out: who keeps its agreed phase, its age, its slot, the number of its request in its session, the request, the
--- session's pass, the claims of its actions, by place, and the reply
+-- a transaction that was carried out: its phase owner, its age, its slot, the number of its request in its session, the request,
+-- the session's pass, the claims of its actions, by place, and the reply
 pub record CommitView : Type 0 where
   pub phase_owner : PhaseOwnerView
   pub age : ℕ
@@ -35,8 +35,8 @@ abbrev pub commit_view : PhaseOwnerView → TransactionView → List (List Claim
 commit_view phase_owner t held shown =
     record { phase_owner = phase_owner; age = t.age; slot = t.slot; number = t.number; request = t.request; pass = t.pass; held = held; shown = shown }
 
--- Its session asks it; its check accepts the request, which was carried out under these claims with this reply; all that was done
--- under them can be taken back; and who keeps its agreed phase has all shares.
+-- Its session has asked it with this pass; the check accepts the request; the request was carried out under these claims with
+-- this reply; all that was done under them can be undone; and its phase owner has all shares.
 pub record CarriesCommit (opening : Database) (c : CommitView) : Type 0 where
   pub asked : IsAskedBy c.number c.request c.pass
   pub accepted : IsAccepted opening.scale c.request
@@ -48,17 +48,18 @@ pub record CarriesCommit (opening : Database) (c : CommitView) : Type 0 where
 abbrev pub entry_committed : CommitView → Entry
 entry_committed c = entry_of c.pass.session c.number c.request c.shown
 
--- It is logged at this place: its session is told so, and its claims go back, as they are then.
+-- It is logged at this place: the answer is the place, and its claims go back as the log leaves them.
 abbrev pub logging : CommitView → ℕ → ReleaseView
 logging c place =
     release_view (answer_view c.age c.number (after_item c.pass (item place c.number c.request c.shown)) (Ok place))
     (returns_view c.slot (is_settled c.shown) (map (claims_logged c.shown) c.held)) c.phase_owner
 
--- it is refused: its session is told so, with this pass, and what its actions did is taken back
+-- it is refused: the answer is the reason, with this pass, and what its actions did is undone
 abbrev pub refusing : CommitView → PassView → Refusal → ReleaseView
 refusing c pass why = release_view (answer_view c.age c.number pass (Err why)) (returns_view c.slot false c.held) c.phase_owner
 
--- The log has the entry more, at its end; or it refused it, and is as it was. A full log refuses every entry as such, and no other does.
+-- The log has one entry more, at its end; or it refused the entry and is unchanged. It refuses an entry with LogFull exactly if
+-- it is full.
 abbrev pub Commits : CommitView → List Entry → ReleaseView → List Entry → Type 0
 Commits c old release new =
     ((length old < 16777216) × ((release ≡ logging c (length old)) × (new ≡ old ++ entry_committed c ∷ [])))

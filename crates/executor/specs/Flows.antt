@@ -1,4 +1,4 @@
--- A transaction on its way.
+-- A transaction between two phases.
 use Rattle.std.specs.Prelude.{◌≡◌, ℕ, List, [], All}
 use Rattle.partitions.specs.Parts.{SharedTables}
 use Rattle.requests.specs.declared.request.Request.{Request}
@@ -8,15 +8,15 @@ use Rattle.transactions.specs.declared.progress.Progress.{Progress}
 use Rattle.transactions.specs.Acting.{AreUndoneBy}
 use Rattle.transactions.specs.Progresses.{IsReached}
 
--- Its session asks this request with this pass, and the pass is as it was when it asked: it has seen and logged nothing since.
+-- Its session has asked this request with this pass. The pass has seen and logged nothing since.
 pub record IsAskedBy (number : ℕ) (request : Request) (pass : PassView) : Type 0 where
   pub number_is : pass.asks.number ≡ number
   pub request_is : pass.asks.request ≡ request
   pub seen : pass.seen ≡ pass.asks.seen
   pub mine : pass.mine ≡ pass.asks.mine
 
--- a transaction on its way: its age, its slot, the number of its request in its session, the request, the session's pass, the claims
--- of its actions of earlier phases, by place, and how far it has come
+-- a transaction between two phases: its age, its slot, the number of its request in its session, the request, the session's pass,
+-- the claims of the actions of its earlier phases, by place, and how far it has come
 pub record FlowView : Type 0 where
   pub age : ℕ
   pub slot : ℕ
@@ -30,14 +30,14 @@ abbrev pub flow_view : ℕ → ℕ → ℕ → Request → PassView → List (Li
 flow_view age slot number request pass held progress =
     record { age = age; slot = slot; number = number; request = request; pass = pass; held = held; progress = progress }
 
--- A transaction on its way: its session asks it; its request has come so far under what its earlier actions hold; and all that these
--- did can be taken back.
+-- Its session has asked it; its request has come so far under the claims of its earlier actions; and all that was done under them
+-- can be undone.
 pub record CarriesFlow (shared : SharedTables) (j : FlowView) : Type 0 where
   pub asked : IsAskedBy j.number j.request j.pass
   pub reached : IsReached shared j.request j.progress j.held
   pub undone : All (AreUndoneBy j.age) j.held
 
--- it has begun: no action has claimed anything
+-- it has begun: it holds no claim
 pub record HasBegun (age slot number : ℕ) (request : Request) (pass : PassView) (j : FlowView) : Type 0 where
   pub age_is : j.age ≡ age
   pub slot_is : j.slot ≡ slot

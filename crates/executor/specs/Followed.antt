@@ -1,4 +1,4 @@
--- What follows when a phase has met.
+-- The step after a phase of which all actions have reported.
 use Rattle.std.specs.Prelude.{◌≡◌, List, ◌++◌, Option, Some, None}
 use Rattle.partitions.specs.Parts.{SharedTables}
 use Rattle.requests.specs.declared.request.Request.{Request}
@@ -21,8 +21,8 @@ use Rattle.transactions.specs.SortedOut.{found_in, held_in, refusal_of}
 use Rattle.executor.specs.Released.{refused}
 use Rattle.executor.specs.Commits.{commit_view}
 
--- The request has come to this phase under some of these claims, the others are those of the phase's actions, and these have done their
--- work and found this.
+-- The request has come to this phase under the earlier of these claims; the others are those of the phase's actions, which have
+-- done their work and found this.
 pub record HasMetUnder (shared : SharedTables) (request : Request) (progress : Progress) (held : List (List ClaimView)) (found : List Found) : Type 0 where
   pub earlier : List (List ClaimView)
   pub own : List (List ClaimView)
@@ -30,17 +30,17 @@ pub record HasMetUnder (shared : SharedTables) (request : Request) (progress : P
   pub reached : IsReached shared request progress earlier
   pub done : HaveAllDone shared (works_of progress) found own
 
--- who the transaction is
+-- the identity of the transaction, and its pass
 abbrev pub transaction_of : FlowView → TransactionView
 transaction_of j = record { age = j.age; slot = j.slot; number = j.number; request = j.request; pass = j.pass }
 
--- the transaction, come to another phase under these claims
+-- the transaction in another phase, under these claims
 abbrev pub moved : TransactionView → List (List ClaimView) → Progress → FlowView
 moved t held progress = flow_view t.age t.slot t.number t.request t.pass held progress
 
 module _ {J : Type 0} where
-  -- What follows of what was found is done: the next phase is to begin, or the transaction is to be logged, with the reply; unless there is
-  -- no memory for it: then the transaction is refused.
+  -- What was found is gathered: the next phase is to begin, or the transaction is to be logged with its reply; or an allocation
+  -- failed, and the transaction is refused with NoMemory.
   abbrev pub Gathers : PhaseOwnerView → TransactionView → List (List ClaimView) → Progress → List Found → Following J → Type 0
   Gathers phase_owner t held progress found (following.Next paused) =
       (next : Progress) × (FollowsFrom progress found (Next next) × (paused ≡ paused_view phase_owner (moved t held next)))
@@ -48,12 +48,12 @@ module _ {J : Type 0} where
       FollowsFrom progress found (Finish commit.shown) × (commit ≡ commit_view phase_owner t held commit.shown)
   Gathers phase_owner t held progress found (following.Over release) = release ≡ refused phase_owner t held refusal.NoMemory
 
-  -- One action has died or found no memory, and the transaction is refused; or all have done their work.
+  -- The transaction is refused for this reason; or all actions have done their work, and what they found is gathered.
   abbrev pub FollowsUnless : Option Refusal → PhaseOwnerView → TransactionView → List (List ClaimView) → Progress → List Found → Following J → Type 0
   FollowsUnless (Some why) phase_owner t held progress found after = after ≡ following.Over (refused phase_owner t held why)
   FollowsUnless None phase_owner t held progress found after = Gathers phase_owner t held progress found after
 
-  -- What follows when these have met, while this one keeps the agreed phase.
+  -- The step after these reports; the phase owner is that of the transaction's slot and has all shares.
   abbrev pub Follows : MetView J → Following J → Type 0
   Follows m after =
       (phase_owner : PhaseOwnerView) × (KeepsWhole m.flow.slot phase_owner

@@ -2,7 +2,7 @@
 use Rattle.executor.specs.AgreedPhases.{PhaseOwnerView}
 use Rattle.executor.specs.Flows.{FlowView}
 
--- the transaction, and who keeps its agreed phase
+-- the transaction and its phase owner
 pub record PausedView : Type 0 where
   pub flow : FlowView
   pub phase_owner : PhaseOwnerView

@@ -1,4 +1,4 @@
--- What a report does to its phase.
+-- A report to a phase.
 use Rattle.std.specs.Prelude.{◌≡◌, ◌≤◌, Some, length, map}
 use Rattle.rendezvous.specs.Awaited.{awaited_from}
 use Rattle.executor.specs.Carrying.{ReportView}
@@ -7,8 +7,8 @@ use Rattle.executor.specs.declared.phase.Reported.{Reported}
 use Rattle.executor.specs.declared.phase.Reported.TheVariants.{Unexpected, Awaits, Met}
 
 module _ {J : Type 0} where
-  -- The report is of the phase's transaction, and of an action that it awaits: then it is taken, and either another is awaited, or
-  -- all have reported.
+  -- The phase takes a report exactly if it is of the phase's slot and of an action that the phase awaits. Then another action is
+  -- still awaited, or all have reported.
   abbrev pub Reports : PhaseView J → ReportView J → Reported J → Type 0
   Reports p r (Unexpected phase report) = (phase ≡ p) × (report ≡ r) × ((r.slot ≡ p.slot) × AwaitsNumber p r.number → ⊥)
   Reports p r (Awaits phase) = (r.slot ≡ p.slot) × AwaitsNumber p r.number × (phase ≡ with_report p r) × (1 ≤ length (awaited_from 0 phase.rans))

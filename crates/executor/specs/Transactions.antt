@@ -1,4 +1,4 @@
--- Who a transaction is, as all steps of it pass it on.
+-- The identity of a transaction, which all its steps pass on.
 use Rattle.std.specs.Prelude.{ℕ}
 use Rattle.requests.specs.declared.request.Request.{Request}
 use Rattle.commit_log.specs.PassView.{PassView}

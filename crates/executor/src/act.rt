@@ -1,4 +1,4 @@
-//! An action on its way, what waits with it, and its report.
+//! An action in flight, what it keeps while it waits, and its report.
 ghost use Rattle.std.specs.Prelude.{◌≡◌};
 ghost use Rattle.transactions.specs.Works.{home_of};
 
@@ -7,11 +7,11 @@ use std::marker::Model;
 use transactions::{Ran, Work};
 use wait_die::Holder;
 
-/// An action on its way to the executor that has its warehouse.
+/// The message that carries an action to the executor that has its warehouse.
 ///
-/// Contracts see who it is to the lock tables, its number in its phase, from 0, its work; the slot of its transaction, and the
-/// agreed phase that its share tells; and the transaction, if it goes with it. It keeps that this is the work of its number in the
-/// phase that the agreed phase tells, and can be done; and that the transaction goes with the first action and with no other.
+/// Contracts see the holder as which it asks for locks; its number in its phase, from 0; its work; the slot of its transaction;
+/// the agreed phase that its share records; and the transaction, if it carries it. Invariant: this is the work of its number in
+/// the agreed phase, and the work can be done; the first action of a phase carries the transaction, and no other does.
 #[derive(Drop)]
 pub struct Act<J: PhaseNames> {
     pub(crate) by: Holder,
@@ -39,14 +39,14 @@ impl<J: PhaseNames> Model for Act<J> {
 }
 
 impl<J: PhaseNames> Act<J> {
-    /// The W_ID of the warehouse at which its work is done.
+    /// The W_ID of the warehouse at which it does its work.
     pub fn home(&self) -> u32
         ensures { result ≡ home_of self.now.work }
     {
         self.work.home()
     }
 
-    /// Who it is to the lock tables: its transaction, by its age, and its place among all actions of it.
+    /// The holder as which it asks for locks: its transaction's age, and its place among all actions of the transaction.
     pub fn by(&self) -> Holder
         ensures { result ≡ self.now.by }
     {
@@ -54,7 +54,7 @@ impl<J: PhaseNames> Act<J> {
     }
 }
 
-/// What an action that waits keeps with it beside its work.
+/// What a waiting action keeps beside its work.
 #[derive(Drop)]
 pub struct Carried<J: PhaseNames> {
     /// Its number in its phase, from 0.
@@ -63,10 +63,11 @@ pub struct Carried<J: PhaseNames> {
     pub(crate) flow: Option<Flow<J>>,
 }
 
-/// What an action reports where its phase meets.
+/// What an action reports to its phase.
 ///
-/// Contracts see its number in its phase, what came of it, the slot of its transaction, the agreed phase that its share tells, and
-/// the transaction, if it goes with it. It keeps that this came of the work of its number in the phase that the agreed phase tells.
+/// Contracts see its number in its phase, its result, the slot of its transaction, the agreed phase that its share records, and
+/// the transaction, if the report carries it. Invariant: this is the result of the work of its number in the agreed phase; the
+/// report of the first action carries the transaction, and no other does.
 #[derive(Drop)]
 pub struct Report<J: PhaseNames> {
     pub(crate) number: usize,

@@ -1,4 +1,4 @@
-//! The agreed phase of a transaction: how far it has come, as its actions and whoever keeps it agree.
+//! The agreed phase of a transaction: the phase on which its actions and its phase owner agree.
 ghost use Rattle.std.specs.Prelude.{◌≡◌, ◌↔◌, ◌+◌, ◌-◌, ◌<◌, ◌≤◌, IfOk, IsTrue, vec_len, vec_capacity};
 ghost use Rattle.executor.specs.AgreedPhases.{AreSpent, agreed_phase, agreed_phase_agreement, phase_owner_view, no_agreed_phase, share_view};
 
@@ -9,7 +9,7 @@ use std::alloc::Global;
 use std::marker::{Model, PhantomData};
 use transactions::{MOST_ACTIONS, Progress};
 
-/// How far a transaction has come. Contracts alone speak of it: no value of it is made.
+/// How far a transaction has come. Ghost data: only contracts use it, and no value of it is made.
 pub struct AgreedPhase {
     /// The age of the transaction.
     pub age: u64,
@@ -25,7 +25,7 @@ impl Value for AgreedPhase {
     ghost initial = { no_agreed_phase };
 }
 
-/// A transaction of this age comes to a phase, after so many actions.
+/// Changes the agreed phase to this phase of a transaction of this age, whose earlier phases had `first` actions.
 #[derive(Drop)]
 struct ComesTo<'a> {
     age: u64,
@@ -39,8 +39,8 @@ impl Change<AgreedPhase> for ComesTo<'_> {
     ghost changed = { λ comes before. agreed_phase comes.age comes.first comes.progress.now };
 }
 
-/// The agreement on the agreed phase of the transactions in a slot, one after another, before it has a name. Contracts see its table: it
-/// is what a name is picked from.
+/// The agreement on the agreed phase of the transactions in a slot, one after another, before `PhaseNames` identifies its table.
+/// Contracts see its table.
 #[derive(Drop)]
 pub struct OpenedPhaseAgreement {
     seat: Seat<AgreedPhase>,
@@ -61,15 +61,16 @@ impl Model for OpenedPhaseAgreement {
 }
 
 impl OpenedPhaseAgreement {
-    /// A new agreement, with a seat for each action that a transaction may have in flight. Nothing is left
-    /// after an error.
+    /// Opens an agreement, with a seat for each action that a transaction may have in flight. Returns NoMemory if an allocation
+    /// fails; nothing is left then.
     pub fn open(alloc: Global) -> Result<OpenedPhaseAgreement, NoMemory> {
         let mut seat = Seat::open(alloc.clone()?, MOST_ACTIONS as u64 + 1)?;
         let spare = spare_seats(alloc, &mut seat)?;
         Ok(OpenedPhaseAgreement { seat, spare })
     }
 
-    /// The phase owner of the agreed phase in this slot, under its name.
+    /// The phase owner of this slot. Requires that J identifies this agreement's table as the slot's. Its agreed phase is the one
+    /// before the first transaction, and no share is out.
     pub fn named<J: PhaseNames>(self, slot: usize) -> PhaseOwner<J>
         requires { J.agreed_phase slot ≡ self }
         ensures { result ≡ phase_owner_view slot no_agreed_phase 0 }
@@ -84,7 +85,7 @@ impl OpenedPhaseAgreement {
     }
 }
 
-// A seat without a share for each action that may be in flight.
+// Makes a seat without a share for each action that may be in flight.
 fn spare_seats(
     alloc: Global,
     seat: &mut Seat<AgreedPhase>,
@@ -102,9 +103,9 @@ fn spare_seats(
     Ok(spare)
 }
 
-/// A share of the agreed phase of the transaction in a slot: the agreed phase can't change while it is out.
+/// A share of the agreed phase of the transaction in a slot. The agreed phase can't change while the share is out.
 ///
-/// Contracts see the slot, and the agreed phase that it tells.
+/// Contracts see the slot and the agreed phase that the share records.
 #[derive(Drop)]
 pub struct Share<J: PhaseNames> {
     slot: usize,
@@ -132,10 +133,10 @@ impl<J: PhaseNames> Share<J> {
     }
 }
 
-/// Keeps the agreed phase of the transaction in a slot: it has all shares that no action has. While it has all, no transaction
-/// has an action in flight there, and it alone can say how far the next one has come.
+/// Holds the shares of the agreed phase of a slot that no action has. While it has all shares, no transaction has an action in
+/// flight in the slot, and it alone can set the agreed phase of the next one.
 ///
-/// Contracts see the slot, the agreed phase that it tells, and how many shares are out.
+/// Contracts see the slot, the agreed phase that it records, and the number of shares that are out.
 #[derive(Drop)]
 pub struct PhaseOwner<J: PhaseNames> {
     slot: usize,
@@ -158,21 +159,21 @@ impl<J: PhaseNames> Model for PhaseOwner<J> {
 }
 
 impl<J: PhaseNames> PhaseOwner<J> {
-    /// The slot whose agreed phase it keeps.
+    /// Its slot.
     pub fn slot(&self) -> usize
         ensures { result ≡ self.now.slot }
     {
         self.slot
     }
 
-    /// Whether it has all shares: no action of a transaction is in flight there.
+    /// Whether it has all shares: then no action of a transaction is in flight in its slot.
     pub fn is_whole(&self) -> bool
         ensures { IsTrue result ↔ (self.now.out ≡ 0) }
     {
         self.spare.len() == MOST_ACTIONS
     }
 
-    /// A share goes out, with an action.
+    /// Gives a share to an action. Requires that fewer than MOST_ACTIONS shares are out.
     pub fn give(&mut self) -> Share<J>
         requires few { self.old.out < MOST_ACTIONS }
         ensures share { result ≡ share_view self.old.slot self.old.agreed_phase }
@@ -189,7 +190,7 @@ impl<J: PhaseNames> PhaseOwner<J> {
         }
     }
 
-    /// A share comes back. It told the same agreed phase.
+    /// Takes a share of this slot back. The share records the same agreed phase.
     pub fn take(&mut self, share: Share<J>)
         requires slot { share.slot ≡ self.old.slot }
         ensures equal { share.agreed_phase ≡ self.old.agreed_phase }
@@ -205,7 +206,8 @@ impl<J: PhaseNames> PhaseOwner<J> {
         self.spare.push_reserved(seat);
     }
 
-    /// A transaction of this age comes to a phase, after so many actions. All shares are here.
+    /// Sets the agreed phase to `progress` of a transaction of this age, whose earlier phases had `first` actions. Requires that
+    /// no share is out.
     pub fn come_to(&mut self, age: u64, first: usize, progress: &Progress)
         requires all { self.old.out ≡ 0 }
         ensures { self.new ≡ phase_owner_view self.old.slot (agreed_phase age first progress.now) 0 }

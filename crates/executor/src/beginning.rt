@@ -1,4 +1,4 @@
-//! A phase begins.
+//! Begins a phase by messages.
 ghost use Rattle.std.specs.Prelude.{◌≡◌, ◌<◌, ◌≤◌, ◌+◌, [], length, vec_capacity, IfOk, IfErr};
 ghost use Rattle.executor.specs.Begins.{awaiting_all, act_at, acts_of};
 ghost use Rattle.executor.specs.Carrying.{IsCarriedAt, IsWorkAt, action_at, agreed_phase_of};
@@ -20,8 +20,8 @@ use transactions::{
 use wait_die::Holder;
 
 impl<J: PhaseNames> Paused<J> {
-    /// The next phase begins by messages: these are its actions, by place. Where there is no memory for it the transaction
-    /// is refused.
+    /// Begins the next phase by messages. Returns the phase and its actions, by place. If an allocation fails it returns the
+    /// transaction's release, refused with NoMemory.
     pub fn send_out(self, alloc: Global) -> Result<(Phase<J>, Vec<Act<J>>), Release<J>>
         ensures phase { IfOk result (λ begun. begun.0 ≡ awaiting_all self.flow) }
         ensures acts { IfOk result (λ begun. begun.1.items ≡ acts_of self.flow) }
@@ -38,9 +38,8 @@ impl<J: PhaseNames> Paused<J> {
     }
 }
 
-// A phase begins of a transaction, which has all shares of its agreed phase: it is told how far the transaction has come, and a
-// share goes with each action. The first action brings the transaction. Want of memory leaves the transaction and the
-// shares as they were.
+// Begins a phase of a transaction whose phase owner has all shares: sets the agreed phase and gives a share to each action. The
+// first action carries the transaction. If an allocation fails, returns the transaction and the phase owner unchanged.
 fn begin<J: PhaseNames>(
     alloc: Global,
     flow: Flow<J>,
@@ -75,7 +74,7 @@ fn begin<J: PhaseNames>(
     Ok((phase, acts))
 }
 
-// A share goes out with each action, in the order of their places.
+// Makes the actions in the order of their places, each with a share.
 fn send_out<J: PhaseNames>(
     phase_owner: &mut PhaseOwner<J>,
     flow: Flow<J>,
@@ -108,7 +107,7 @@ fn send_out<J: PhaseNames>(
     acts
 }
 
-// The action of this number, which carries this, with a share of the agreed phase.
+// Makes the action of this number, with a share of the agreed phase, and with the transaction if there is one.
 fn send<J: PhaseNames>(
     phase_owner: &mut PhaseOwner<J>,
     by: Holder,

@@ -1,4 +1,4 @@
-//! A transaction is logged.
+//! Appends a transaction to the log.
 ghost use Rattle.std.specs.Prelude.{◌≡◌, ◌<◌, All};
 ghost use Rattle.requests.specs.Check.{IsAccepted};
 ghost use Rattle.tickets.specs.Claims.{all_claims};
@@ -17,12 +17,12 @@ use requests::Request;
 use std::marker::Model;
 use transactions::{HeldClaims, Logged};
 
-/// A transaction that was carried out, on its way to the log.
+/// A transaction that was carried out and is to be logged.
 ///
 /// Contracts see the transaction's age, its slot, the number of its request in its session, the request, the pass, the claims of
-/// its actions, by place, the reply, and who keeps its agreed phase. It keeps that its session asks it with this pass, which is as it was
-/// then; that the check accepts the request; that it was carried out under these claims with this reply; that all that was done can
-/// be taken back; and that who keeps its agreed phase has all shares.
+/// its actions, by place, the reply, and the phase owner. Invariant: its session has asked it with this pass, and the pass is
+/// unchanged since; the check accepts the request; the request was carried out under these claims with this reply; all that was
+/// done under them can be undone; and the phase owner is that of the transaction's slot and has all shares.
 #[derive(Drop)]
 pub struct Commit<J: PhaseNames> {
     transaction: Transaction<J>,
@@ -48,7 +48,7 @@ impl<J: PhaseNames> Model for Commit<J> {
 }
 
 impl<J: PhaseNames> Commit<J> {
-    // A transaction that was carried out under these claims.
+    // Makes the commit of a transaction that was carried out under these claims.
     pub(crate) fn new(
         phase_owner: PhaseOwner<J>,
         transaction: Transaction<J>,
@@ -68,7 +68,7 @@ impl<J: PhaseNames> Commit<J> {
         }
     }
 
-    /// The session that asks it.
+    /// The session of the transaction.
     pub fn session(&self) -> u32
         ensures { result ≡ self.now.pass.session }
     {
@@ -89,8 +89,8 @@ impl<J: PhaseNames> Commit<J> {
         &self.transaction.body.request
     }
 
-    /// The transaction is logged, or refused where there is no memory, or the log is full. Then it is over: what its actions
-    /// left is committed, unless it was rolled back or refused.
+    /// Appends the transaction's entry to the log, or refuses the transaction if an allocation fails or the log is full. Returns
+    /// its release: the claims are to be settled if it was logged and not rolled back, and else to be undone.
     pub fn commit(self, log: &mut Log<J>) -> Release<J>
         ensures { Commits self log.old result log.new }
     {

@@ -1,4 +1,4 @@
-//! The slice of a warehouse, with the actions that wait there.
+//! The slice of a warehouse with the actions that wait for its locks, and their count.
 ghost use Rattle.std.specs.Prelude.{◌≡◌, ◌<◌, ◌≤◌, ◌+◌, [], All, IfNone, IfSome, IsFalse};
 ghost use Rattle.partitions.specs.Parts.{shared_of};
 ghost use Rattle.slices.specs.SliceView.{SliceKeeps};
@@ -17,12 +17,12 @@ use wait_die::Holder;
 
 /// The shard of a warehouse: its slice, and the actions that wait in its lock table, with what each carries.
 ///
-/// Contracts see the slice, and who waits. It keeps that the slice is of the scale and has the items that J names; and that each
-/// who waits carries what an action on its way carries.
+/// Contracts see the slice and the waiting actions. Invariant: the slice has the scale and the items of the tables at J's
+/// opening, and each waiting action carries what an `Act` carries.
 #[derive(Drop)]
 pub struct CountedShard<J: PhaseNames> {
     shard: Shard<J, Carried<J>>,
-    // No more than so many wait there, unless it is the largest number.
+    // An upper bound of the number of waiting actions, unless it is the largest `usize`.
     waiting: usize,
 }
 
@@ -46,7 +46,7 @@ impl<J: PhaseNames> Model for CountedShard<J> {
 }
 
 impl<J: PhaseNames> CountedShard<J> {
-    /// The shard of a slice for which nobody waits.
+    /// The shard of a slice that has no waiting action.
     pub fn new(alloc: Global, slice: Slice<J>) -> CountedShard<J>
         requires shared { shared_of slice.tables ≡ shared_of J.opening }
         requires nobody { slice.waiters ≡ [] }
@@ -59,7 +59,7 @@ impl<J: PhaseNames> CountedShard<J> {
         }
     }
 
-    /// The slice, without those who wait: what they carry is let go.
+    /// The slice. What the waiting actions carry is dropped.
     pub fn into_slice(self) -> Slice<J>
         ensures slice { result ≡ self.slice }
         ensures shared { shared_of result.tables ≡ shared_of J.opening }
@@ -74,15 +74,15 @@ impl<J: PhaseNames> CountedShard<J> {
         self.shard.slice().home()
     }
 
-    /// Whether an action may wait here. Where none does it is mostly false.
+    /// Whether an action may wait here. If it returns false, none waits. It may return true although none waits.
     pub fn may_have_waiters(&self) -> bool
         ensures { IsFalse result → self.now.parked ≡ [] }
     {
         self.waiting > 0
     }
 
-    /// An action asks for all that its work needs, and does it where nobody is in its way. It reports, unless all who are in
-    /// its way are younger: then it waits here.
+    /// An action asks for all locks that its work needs. It does its work if no holder conflicts. It waits if all conflicting
+    /// holders are younger: then the result is `None`. Else it dies, or reports that an allocation failed.
     pub fn work(&mut self, alloc: Global, act: Act<J>) -> Option<Report<J>>
         requires home { home_of act.work ≡ self.old.slice.home }
         ensures { WorksAt act self.old result self.new }
@@ -121,8 +121,8 @@ impl<J: PhaseNames> CountedShard<J> {
         }
     }
 
-    /// An action does its work at once. `None` where somebody is in its way, or there is no memory to ask: nothing has changed
-    /// then, and it doesn't wait.
+    /// An action does its work at once and never waits. Returns `None` if a holder conflicts, or if an allocation fails as it
+    /// asks: nothing has changed then.
     pub fn work_at_once(&mut self, alloc: Global, by: Holder, work: Work) -> Option<Ran<J>>
         requires can { CanDo (shared_of J.opening) work }
         requires home { home_of work ≡ self.old.slice.home }
@@ -134,8 +134,8 @@ impl<J: PhaseNames> CountedShard<J> {
         self.shard.act_at_once(alloc, by, work)
     }
 
-    /// The turn of the oldest action that need not wait any more, and of one age of the one of the least place: it reports.
-    /// `None` where all have to wait.
+    /// Runs the oldest waiting action that need not wait any more; among actions of one age, the one of the least place. Returns
+    /// its report. Returns `None` if all waiting actions have to wait: nothing has changed then.
     pub fn turn(&mut self, alloc: Global) -> Option<Report<J>>
         ensures { TurnsAt self.old result self.new }
     {
@@ -162,8 +162,8 @@ impl<J: PhaseNames> CountedShard<J> {
         })
     }
 
-    /// The claims of an action come back: what they left is committed, or what it did under them is taken back. It takes no
-    /// memory.
+    /// Takes the claims of an action back: settles them, or undoes what the action did under them. Requires that they are of this
+    /// warehouse. Never allocates.
     pub fn give_back(&mut self, given: GivenBack<J>)
         requires home { home_of_claims (giving_of given).claims ≡ self.old.slice.home }
         ensures kept { SliceKeeps (giving_of given).claims self.old.slice [] self.new.slice }
@@ -175,7 +175,7 @@ impl<J: PhaseNames> CountedShard<J> {
         }
     }
 
-    // The claims of an action of a transaction that is logged come back.
+    // Takes the claims of an action of a logged transaction back.
     fn settle(&mut self, settle: Settle<J>)
         requires home { home_of_claims settle.claims ≡ self.old.slice.home }
         ensures kept { SliceKeeps settle.claims self.old.slice [] self.new.slice }
@@ -185,7 +185,7 @@ impl<J: PhaseNames> CountedShard<J> {
         self.shard.settle(claims);
     }
 
-    // What an action did under its claims is taken back, and they come back.
+    // Undoes what an action did under its claims and takes them back.
     fn undo(&mut self, undo: Undo<J>)
         requires home { home_of_claims undo.claims ≡ self.old.slice.home }
         ensures kept { SliceKeeps undo.claims self.old.slice [] self.new.slice }
@@ -203,7 +203,7 @@ fn one_more(number: usize) -> usize
     number.saturating_add(1)
 }
 
-// One less, unless it is the largest number, or none.
+// One less, unless it is the largest number or 0.
 fn one_less(number: usize) -> usize
     ensures { result < 18446744073709551615 → (number < 18446744073709551615) × (number ≤ result + 1) }
 {

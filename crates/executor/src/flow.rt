@@ -1,4 +1,4 @@
-//! A transaction on its way.
+//! A transaction between two phases.
 ghost use Rattle.std.specs.Prelude.{◌≡◌, List, IfErr, IfOk};
 ghost use Rattle.partitions.specs.Parts.{SharedTables};
 ghost use Rattle.requests.specs.Check.{IsAccepted};
@@ -18,18 +18,18 @@ use std::marker::Model;
 use std::mem;
 use transactions::{HeldClaims, Progress, stock_level};
 
-/// What is large of a transaction, in a box: that is made as the transaction begins, and goes with it until its session is told
-/// what came of it, so whoever passes the transaction on copies none of it.
+/// The large parts of a transaction, in a box. The box is made as the transaction begins and dropped when its entry or its
+/// refusal is made, so a step that passes the transaction on copies none of it.
 #[derive(Drop)]
 pub(crate) struct FlowBody {
     pub(crate) request: Request,
-    /// How far it has come, while it is on its way.
+    /// How far it has come, while it is in flight.
     pub(crate) progress: Progress,
-    /// What it shows, once it was carried out.
+    /// Its reply, once it was carried out.
     pub(crate) reply: Reply,
 }
 
-/// Who a transaction is, and the pass of its session.
+/// The identity of a transaction, its body, and its session's pass.
 #[derive(Drop)]
 pub(crate) struct Transaction<J: PhaseNames> {
     pub(crate) age: u64,
@@ -39,11 +39,11 @@ pub(crate) struct Transaction<J: PhaseNames> {
     pub(crate) pass: Pass<J>,
 }
 
-/// A transaction on its way, with its session's pass, and with the claims of its actions of earlier phases.
+/// A transaction between two phases, with its session's pass and the claims of the actions of its earlier phases.
 ///
 /// Contracts see its age, its slot, the number of its request in its session, the request, the pass, those claims by place, and
-/// how far it has come. It keeps that its session asks it with this pass, which is as it was then; that the request has come so
-/// far under these claims; and that all that was done under them can be taken back.
+/// how far it has come. Invariant: its session has asked the request with this pass, and the pass is unchanged since; the request
+/// has come so far under these claims; and all that was done under them can be undone.
 #[derive(Drop)]
 pub struct Flow<J: PhaseNames> {
     pub(crate) transaction: Transaction<J>,
@@ -72,8 +72,8 @@ impl<J: PhaseNames> Model for Flow<J> {
 }
 
 impl<J: PhaseNames> Flow<J> {
-    /// A transaction of this age begins in this slot: its session has asked the request with its pass, and the check accepts it.
-    /// Where there is no memory, the pass comes back.
+    /// Begins a transaction of this age in this slot. Requires that its session has asked the request with this pass and that the
+    /// check accepts the request. If an allocation fails, returns the pass.
     pub fn begin(
         alloc: Global,
         age: u64,
@@ -127,7 +127,7 @@ impl<J: PhaseNames> Flow<J> {
 }
 
 impl FlowBody {
-    // The body of a transaction that begins with this request, which is given twice.
+    // The body of a transaction that begins with this request. The request is passed twice.
     fn begin(alloc: Global, request: Request, given: Request) -> Result<Box<FlowBody>, NoMemory>
         ensures request { IfOk result (λ body. body.value.request ≡ request) }
         ensures reached { IfOk result (λ body. (shared : SharedTables) (asked : AnyRequest) (held : List (List ClaimView)) → IsAsked shared asked given held → IsReached shared asked body.value.progress held) }
@@ -140,7 +140,7 @@ impl FlowBody {
         Ok(Box::new(alloc, body)?)
     }
 
-    // The request, to be kept elsewhere.
+    // Moves the request out. A placeholder is left.
     pub(crate) fn take_request(&mut self) -> Request
         ensures request { result ≡ self.old.request }
         ensures reply { self.new.reply ≡ self.old.reply }
@@ -148,7 +148,7 @@ impl FlowBody {
         mem::replace(&mut self.request, Request::StockLevel(nothing_asked()))
     }
 
-    // What it shows, to be kept elsewhere.
+    // Moves the reply out. A placeholder is left.
     pub(crate) fn take_reply(&mut self) -> Reply
         ensures { result ≡ self.old.reply }
     {
@@ -157,7 +157,7 @@ impl FlowBody {
 }
 
 impl<J: PhaseNames> Transaction<J> {
-    // How far it has come, to be gone on with.
+    // Moves the progress out. A placeholder is left.
     pub(crate) fn take_progress(&mut self) -> Progress
         ensures progress { result ≡ self.old.body.value.progress }
         ensures same { transaction_view self.new ≡ transaction_view self.old }
@@ -166,7 +166,7 @@ impl<J: PhaseNames> Transaction<J> {
         mem::replace(&mut self.body.progress, Progress::StockLevel(begun))
     }
 
-    // It has come so far.
+    // Sets how far it has come.
     #[inline(never)]
     pub(crate) fn put_progress(&mut self, progress: Progress)
         ensures progress { self.new.body.value.progress ≡ progress }
@@ -175,7 +175,7 @@ impl<J: PhaseNames> Transaction<J> {
         self.body.progress = progress;
     }
 
-    // It was carried out, and shows this.
+    // Sets its reply.
     #[inline(never)]
     pub(crate) fn put_reply(&mut self, reply: Reply)
         ensures reply { self.new.body.value.reply ≡ reply }
@@ -185,7 +185,7 @@ impl<J: PhaseNames> Transaction<J> {
     }
 }
 
-// Stands where no request is.
+// A placeholder for a request.
 fn nothing_asked() -> StockLevel {
     StockLevel {
         home: DistrictKey { w_id: 0, d_id: 0 },
@@ -193,7 +193,7 @@ fn nothing_asked() -> StockLevel {
     }
 }
 
-// Stands where no reply is.
+// A placeholder for a reply.
 fn no_reply() -> Reply {
     Reply::RolledBack(Fault::Range)
 }

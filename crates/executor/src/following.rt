@@ -1,4 +1,4 @@
-//! What follows when a phase is over.
+//! The step after a phase.
 ghost use Rattle.std.specs.Prelude.{◌≡◌, ◌≤◌, ◌+◌, ◌++◌, All, IfSome, None, [], length, vec_capacity};
 ghost use Rattle.partitions.specs.Parts.{shared_of};
 ghost use Rattle.executor.specs.Flows.{IsAskedBy};
@@ -17,20 +17,21 @@ use transactions::{
     reached_requests_are_accepted, transactions_have_few_actions,
 };
 
-/// What follows once all actions of a phase are over.
+/// The step after a phase of which all actions have reported.
 #[derive(Drop)]
 pub enum Following<J: PhaseNames> {
     /// The next phase is to begin.
     Next(Paused<J>),
-    /// It was carried out, and is to be logged.
+    /// It was carried out and is to be logged.
     Commit(Commit<J>),
     /// It is refused.
     Over(Release<J>),
 }
 
 impl<J: PhaseNames> Met<J> {
-    /// What follows of what came of the actions of the phase. The first death by place is answered, and else want of
-    /// memory; where there is none, what they found is gathered: the next phase begins, or the transaction is to be logged.
+    /// The step after the phase. If an action died, the transaction is refused for the first death by place; else, if an action
+    /// found no memory, it is refused with NoMemory. Else the results are gathered: the next phase begins or the transaction is
+    /// to be logged, or it is refused with NoMemory if an allocation fails.
     pub fn follow(self, alloc: Global) -> Following<J>
         ensures { Follows self result }
     {
@@ -48,7 +49,8 @@ impl<J: PhaseNames> Met<J> {
     }
 }
 
-// The transaction holds what its actions hold, and what they found stands in order, unless it is refused.
+// Adds the claims of the actions to those of the transaction, and collects what they found in order, unless the transaction is
+// refused.
 fn sort_out<J: PhaseNames>(
     mut rans: Results<Ran<J>>,
     mut held: HeldClaims<J>,
@@ -66,7 +68,7 @@ fn sort_out<J: PhaseNames>(
     (held, sorted)
 }
 
-// What follows of what came of the actions of a phase, which hold the last of these claims.
+// The step after a phase whose actions hold the last of these claims.
 pub(crate) fn following_of<J: PhaseNames>(
     alloc: Global,
     phase_owner: PhaseOwner<J>,

@@ -6,9 +6,9 @@ use crate::PhaseNames;
 use std::marker::Model;
 use tickets::Claims;
 
-/// The claims of an action of a transaction that is logged: what they left is committed.
+/// The claims of an action of a logged transaction. Invariant: what they left is committed.
 ///
-/// Contracts see the claims.
+/// Contracts see the slot and the claims.
 #[derive(Drop)]
 pub struct Settle<J: PhaseNames> {
     /// The slot of its transaction.
@@ -41,7 +41,7 @@ impl<J: PhaseNames> Settle<J> {
         self.slot
     }
 
-    /// The W_ID of the warehouse to whose slice they go back.
+    /// The W_ID of the warehouse of the claims' slice.
     pub fn home(&self) -> u32
         ensures { result ≡ home_of_claims self.now.claims }
     {
@@ -49,9 +49,10 @@ impl<J: PhaseNames> Settle<J> {
     }
 }
 
-/// The claims of an action of a transaction that is refused or rolled back: what it did is to be taken back.
+/// The claims of an action of a transaction that is refused or rolled back: what it did is to be undone. Invariant: it can be
+/// undone.
 ///
-/// Contracts see the claims.
+/// Contracts see the slot and the claims.
 #[derive(Drop)]
 pub struct Undo<J: PhaseNames> {
     /// The slot of its transaction.
@@ -84,7 +85,7 @@ impl<J: PhaseNames> Undo<J> {
         self.slot
     }
 
-    /// The W_ID of the warehouse to whose slice they go back.
+    /// The W_ID of the warehouse of the claims' slice.
     pub fn home(&self) -> u32
         ensures { result ≡ home_of_claims self.now.claims }
     {

@@ -1,11 +1,13 @@
-//! Executors as threads will run them: what goes from one to another, and what becomes of it. Each thing that goes from
-//! thread to thread carries what is known of it in its own type, and names nothing else that is in flight. So nobody has to
-//! look at all that is in flight, and nothing is asked of a call but facts of what it is handed.
+//! Executors as threads run them: the messages between executors, and the steps of a transaction. The type of each message
+//! carries what is proved of it, as an invariant, and identifies nothing else that is in flight. So a call requires only facts of
+//! its own arguments, and no step inspects the other transactions in flight.
 //!
-//! A transaction is on its way as a `Flow`. Its `PhaseOwner` has all shares of its agreed phase: `begin` tells the agreed phase how far the
-//! transaction has come, and gives a share to each action of the phase. An `Act` finds the `CountedShard` of its warehouse, works
-//! there or waits, and its `Report` comes to the `Phase`. The last report brings the last share: so all told one agreed phase, and
-//! the phase has `Met`. What follows is the next phase, or a `Commit`, or a `Release`.
+//! A transaction between two phases is a `Flow`. With its `PhaseOwner`, which has all shares of its agreed phase, it is `Paused`.
+//! `Paused::run_here` runs the next phase without messages if all its shards are at this executor and no lock conflicts.
+//! `Paused::send_out` sets the agreed phase and gives a share to each action of the phase. An `Act` goes to the `CountedShard` of
+//! its warehouse, does its work there or waits, and its `Report` goes to the `Phase`. The last report brings the last share: so
+//! all reports are of one agreed phase, and the phase is `Met`. `Met::follow` returns the next phase, a `Commit` or a `Release`.
+//! `Commit::commit` returns a `Release`: the answer, the claims to give back, and the phase owner.
 #![tactic(auto)]
 
 mod act;

@@ -1,4 +1,4 @@
-//! A transaction between two phases, and a phase whose actions do their work at once.
+//! A transaction between two phases with its phase owner, and the fast path of a phase.
 ghost use Rattle.std.specs.Prelude.{◌≡◌, ◌≤◌, ◌+◌, [], All, IfErr, IfOk, IfSome, length, take, vec_capacity};
 ghost use Rattle.partitions.specs.Parts.{shared_of};
 ghost use Rattle.transactions.specs.Works.{CanDo};
@@ -17,10 +17,10 @@ use transactions::{
 };
 use wait_die::{Age, Holder};
 
-/// A transaction between two phases: no action of it is in flight, and all shares of its agreed phase are here.
+/// A transaction between two phases: no action of it is in flight, and its phase owner has all shares of its agreed phase.
 ///
-/// Contracts see the transaction, and who keeps its agreed phase. It keeps that this one keeps the agreed phase in the transaction's slot,
-/// and has all shares.
+/// Contracts see the transaction and its phase owner. Invariant: the phase owner is that of the transaction's slot and has all
+/// shares.
 #[derive(Drop)]
 pub struct Paused<J: PhaseNames> {
     flow: Flow<J>,
@@ -44,18 +44,18 @@ impl<J: PhaseNames> Model for Paused<J> {
     ghost invariant = { λ p. KeepsWhole p.flow.slot p.phase_owner };
 }
 
-/// What comes of a phase whose actions are to do their work at once.
+/// The result of `Paused::run_here`.
 #[derive(Drop)]
 pub enum Tried<J: PhaseNames> {
-    /// All have done it, and this follows.
+    /// All actions have done their work; this is the next step.
     Done(Following<J>),
-    /// The shard of one is elsewhere, or somebody is in its way, or there is no memory: nothing was done.
+    /// A shard is at another executor, or a holder conflicts, or an allocation failed: nothing was done.
     Apart(Paused<J>),
 }
 
 impl<J: PhaseNames> Paused<J> {
-    /// A transaction before its first phase, with who keeps the agreed phases of its slot. `None` where that one keeps another
-    /// slot's, or has not all shares.
+    /// A transaction before its first phase, with its phase owner. Returns `None` if the phase owner is of another slot or has
+    /// not all shares.
     pub fn new(flow: Flow<J>, phase_owner: PhaseOwner<J>) -> Option<Paused<J>>
         ensures { IfSome result (λ paused. paused ≡ paused_view phase_owner flow) }
     {
@@ -73,7 +73,7 @@ impl<J: PhaseNames> Paused<J> {
         Paused { flow, phase_owner }
     }
 
-    // The transaction, and who keeps its agreed phase.
+    // The transaction and its phase owner.
     pub(crate) fn into_parts(self) -> (Flow<J>, PhaseOwner<J>)
         ensures flow { result.0 ≡ self.flow }
         ensures phase_owner { result.1 ≡ self.phase_owner }
@@ -82,8 +82,9 @@ impl<J: PhaseNames> Paused<J> {
         (self.flow, self.phase_owner)
     }
 
-    /// All actions of the next phase do their work at once, by place, at shards that are here: no message is made of them, and no
-    /// share of the agreed phase goes out. Or none does, and nothing has changed.
+    /// Fast path. If all shards of the next phase are here and no holder conflicts, it runs the actions of the phase inline, by
+    /// place, without messages; no share of the agreed phase goes out. Else, or if an allocation fails before all are done, it
+    /// returns the transaction unchanged.
     pub fn run_here(self, alloc: Global, shards: &mut ExecutorShards<J>) -> Tried<J>
         ensures { RunsHere (shared_of J.opening) self result }
     {
@@ -124,7 +125,7 @@ impl<J: PhaseNames> Paused<J> {
     }
 }
 
-// Each of these works is done, one after another; or what was done is taken back, and the claims that were held before come back.
+// Does these works one after another. If one can't be done, undoes the others' work and returns the claims that were held before.
 fn do_all<J: PhaseNames>(
     alloc: Global,
     shards: &mut ExecutorShards<J>,
@@ -157,7 +158,7 @@ fn do_all<J: PhaseNames>(
     Ok((held, found))
 }
 
-// What was done under the claims after the first ones is taken back, and they come back to their shards.
+// Undoes what was done under all claims but the `first` ones, and gives these claims back to their shards.
 fn take_back<J: PhaseNames>(
     shards: &mut ExecutorShards<J>,
     slot: usize,
@@ -173,7 +174,7 @@ fn take_back<J: PhaseNames>(
         let Some(claims) = held.take_last() else {
             unreachable!()
         };
-        // (their shard is here, since they were granted there)
+        // (their shard is here: they were granted by it)
         let _ = shards.give_back(GivenBack::Undo(Undo { slot, claims }));
     }
     held

@@ -1,4 +1,4 @@
-//! The phase of a transaction, where its actions report.
+//! The phase of a transaction, to which its actions report.
 ghost use Rattle.std.specs.Prelude.{◌≡◌};
 ghost use Rattle.executor.specs.Phases as spec;
 ghost use Rattle.executor.specs.Phases.{AwaitsNumber};
@@ -9,12 +9,16 @@ use rendezvous::Results;
 use std::marker::Model;
 use transactions::Ran;
 
-/// The phase of a transaction that is in flight, where its actions report. It has all shares of the agreed phase that no
+/// The phase of a transaction that is in flight, to which its actions report. It has all shares of the agreed phase that no
 /// action has.
+///
+/// Contracts see its slot, its agreed phase, the transaction, once the first action has reported, and the results that were
+/// reported. Invariant: one share is out for each awaited action; each result is that of the work of its number in the agreed
+/// phase; and the transaction is here once the first action has reported.
 #[derive(Drop)]
 pub struct Phase<J: PhaseNames> {
     pub(crate) phase_owner: PhaseOwner<J>,
-    // The transaction, once it has come with the first action's report.
+    // The transaction. The report of the first action brings it.
     pub(crate) flow: Option<Flow<J>>,
     pub(crate) meeting: rendezvous::Meeting<Ran<J>>,
 }
@@ -36,7 +40,10 @@ impl<J: PhaseNames> Model for Phase<J> {
     ghost invariant = { λ p. CarriesPhase (shared_of J.opening) p.phase_owner.out (record { slot = p.phase_owner.slot; agreed_phase = p.phase_owner.agreed_phase; flow = p.flow; rans = p.meeting }) };
 }
 
-/// A phase of which all actions have reported: all shares of the agreed phase are here.
+/// A phase of which all actions have reported.
+///
+/// Contracts see the transaction and the results by place. Invariant: no share of the agreed phase is out, and each result is
+/// that of the work of its number in the transaction's phase.
 #[derive(Drop)]
 pub struct Met<J: PhaseNames> {
     pub(crate) phase_owner: PhaseOwner<J>,
@@ -61,12 +68,12 @@ impl<J: PhaseNames> Model for Met<J> {
     ghost invariant = { λ m. CarriesMeeting (shared_of J.opening) m.phase_owner.slot m.phase_owner.out (record { flow = m.flow; rans = m.rans }) };
 }
 
-/// What becomes of a report.
+/// The result of `Phase::report`.
 #[derive(Drop)]
 pub enum Reported<J: PhaseNames> {
-    /// It is no report of an action that this phase awaits. Nothing has changed.
+    /// The report is not of an action that this phase awaits. Nothing has changed.
     Unexpected(Phase<J>, Report<J>),
-    /// Another action has not reported yet.
+    /// Another action is still awaited.
     Awaits(Phase<J>),
     /// All have reported.
     Met(Met<J>),
@@ -80,7 +87,8 @@ impl<J: PhaseNames> Phase<J> {
         self.phase_owner.slot()
     }
 
-    /// An action reports.
+    /// Takes the report of an action, if it is of this phase's slot and of an action that the phase awaits. Else returns both
+    /// unchanged.
     pub fn report(self, report: Report<J>) -> Reported<J>
         ensures { Reports self report result }
     {
@@ -90,7 +98,7 @@ impl<J: PhaseNames> Phase<J> {
         self.take(report)
     }
 
-    // An action reports that is awaited.
+    // Takes the report of an awaited action.
     fn take(self, report: Report<J>) -> Reported<J>
         requires slot { report.slot ≡ self.slot }
         requires awaited { AwaitsNumber self report.number }
@@ -127,7 +135,7 @@ impl<J: PhaseNames> Phase<J> {
     }
 }
 
-// What is here once this has come.
+// The transaction, from this report or from an earlier one.
 fn come_with<J: PhaseNames>(own: Option<Flow<J>>, before: Option<Flow<J>>) -> Option<Flow<J>>
     ensures { result ≡ spec.come_with own before }
 {

@@ -1,4 +1,4 @@
-//! A transaction that is over: its answer, and what its actions give back.
+//! A finished transaction: its answer, and the claims to give back.
 ghost use Rattle.std.specs.Prelude.{◌≡◌, [], All, IfNone, IfSome, length};
 ghost use Rattle.executor.specs.Flows.{IsAskedBy};
 ghost use Rattle.transactions.specs.Acting.{AreUndoneBy};
@@ -16,12 +16,11 @@ use std::marker::Model;
 use tickets::Claims;
 use transactions::HeldClaims;
 
-/// An answer on its way to its session, with the session's pass: the place in the log at which the transaction's entry stands, with
-/// its reply, or why it was refused.
+/// The answer to a session, with the session's pass: the place of the transaction's entry in the log, or why it was refused. The
+/// entry contains the reply.
 ///
-/// Contracts see the transaction's age, the number of the request in its session, the pass, and the answer. It keeps that the
-/// pass has seen and logged what it had when the session asked, and this answer; and that a request that is refused may be
-/// refused for this: so the session may learn all that from it.
+/// Contracts see the transaction's age, the number of the request in its session, the pass, and the answer. Invariant: the pass
+/// has seen and logged what it had when the session asked, and this answer; and a refused request may be refused for this reason.
 #[derive(Drop)]
 pub struct SessionAnswer<J: PhaseNames> {
     pub(crate) age: u64,
@@ -67,10 +66,10 @@ impl<J: PhaseNames> SessionAnswer<J> {
     }
 }
 
-/// What the actions of a transaction that is over give back, one after another.
+/// The claims of a finished transaction that are still to give back, one action after another.
 ///
-/// Contracts see the slot of the transaction, whether the claims are settled, and the claims of each action, by place. It keeps
-/// that what they left is committed, where they are settled, and else that all that was done under them can be taken back.
+/// Contracts see the slot of the transaction, whether the claims are settled, and the claims of each action, by place. Invariant:
+/// if they are settled, what they left is committed; else all that was done under them can be undone.
 #[derive(Drop)]
 pub struct Returns<J: PhaseNames> {
     slot: usize,
@@ -112,7 +111,7 @@ impl<J: PhaseNames> GivenBack<J> {
         }
     }
 
-    /// The W_ID of the warehouse to whose slice they go back.
+    /// The W_ID of the warehouse of the claims' slice.
     pub fn home(&self) -> u32
         ensures { result ≡ home_of_claims (giving_of self.now).claims }
     {
@@ -135,14 +134,14 @@ impl<J: PhaseNames> Returns<J> {
         }
     }
 
-    /// How many actions have claims to give back.
+    /// The number of actions whose claims are still to give back.
     pub fn len(&self) -> usize
         ensures { result ≡ length self.now.held }
     {
         self.held.len()
     }
 
-    /// The claims of the last action that has some. It takes no memory.
+    /// The claims of the last action that has some, to give back. Never allocates.
     pub fn next_back(&mut self) -> Option<GivenBack<J>>
         ensures some { IfSome result (IsGivenBack self.old self.new) }
         ensures none { IfNone result ((self.old.held ≡ []) × (self.new ≡ self.old)) }
@@ -154,7 +153,7 @@ impl<J: PhaseNames> Returns<J> {
     }
 }
 
-// The claims of an action, as they go back.
+// Makes the message that gives the claims of an action back.
 fn given_back<J: PhaseNames>(slot: usize, is_settled: bool, claims: Claims<J>) -> GivenBack<J>
     requires { IsGiven is_settled claims }
     ensures { IsGivenFor slot is_settled claims result }
@@ -166,10 +165,10 @@ fn given_back<J: PhaseNames>(slot: usize, is_settled: bool, claims: Claims<J>) -
     }
 }
 
-/// A transaction that is over.
+/// A finished transaction.
 ///
-/// Contracts see what its session is told, what its actions give back, and who keeps its agreed phase. It keeps that this one keeps
-/// the agreed phase in the transaction's slot and has all shares: another may have the slot once all claims are given back.
+/// Contracts see its answer, the claims to give back, and its phase owner. Invariant: the phase owner is that of the
+/// transaction's slot and has all shares. The next transaction may take the slot once all claims are given back.
 #[derive(Drop)]
 pub struct Release<J: PhaseNames> {
     pub(crate) recorded: SessionAnswer<J>,
@@ -195,7 +194,7 @@ impl<J: PhaseNames> Model for Release<J> {
 }
 
 impl<J: PhaseNames> Release<J> {
-    // A transaction that is refused, whose actions hold this.
+    // Refuses a transaction whose actions hold these claims.
     pub(crate) fn refused(
         phase_owner: PhaseOwner<J>,
         transaction: Transaction<J>,
@@ -228,7 +227,8 @@ impl<J: PhaseNames> Release<J> {
         }
     }
 
-    /// Its parts: the answer, what goes back, and the phase owner, which has all shares of the agreed phase in the slot.
+    /// Its parts: the answer, the claims to give back, and the phase owner, which is that of the transaction's slot and has all
+    /// shares.
     pub fn into_parts(self) -> (SessionAnswer<J>, Returns<J>, PhaseOwner<J>)
         ensures recorded { result.0 ≡ self.recorded }
         ensures returns { result.1 ≡ self.returns }

@@ -11,15 +11,16 @@ use tickets::Claims;
 use transactions::{Found, Ran, Work};
 use wait_die::Holder;
 
-/// The shards of the warehouses that an executor has, of all that there are.
+/// The shards that an executor has, of those of all warehouses.
 #[derive(Drop)]
 pub struct ExecutorShards<J: PhaseNames> {
-    // Each at its warehouse's W_ID less one; the others are elsewhere.
+    // The shard of a warehouse is at its W_ID less one; it is None if another executor has it.
     places: Vec<Option<Box<CountedShard<J>>>>,
 }
 
 impl<J: PhaseNames> ExecutorShards<J> {
-    /// None yet, with room for those of so many warehouses. Nothing is left after an error.
+    /// Opens an empty set with room for the shards of this many warehouses. Returns NoMemory if an allocation fails; nothing is
+    /// left then.
     pub fn open(alloc: Global, warehouses: u32) -> Result<ExecutorShards<J>, NoMemory> {
         let mut places = Vec::with_capacity(alloc, warehouses as usize)?;
         for _ in 0..warehouses {
@@ -28,12 +29,12 @@ impl<J: PhaseNames> ExecutorShards<J> {
         Ok(ExecutorShards { places })
     }
 
-    /// Whether there is such a warehouse, here or elsewhere.
+    /// Whether there is a warehouse with this W_ID, here or at another executor.
     pub fn is_warehouse(&self, home: u32) -> bool {
         place_of(home) < self.places.len()
     }
 
-    /// This shard is here from now on, in the place of what was here of its warehouse.
+    /// Puts a shard here, in place of the one of the same warehouse, if there was one. Drops it if there is no such warehouse.
     pub fn put(&mut self, counted_shard: Box<CountedShard<J>>) {
         if let Some(place) = self.places.get_mut(place_of(counted_shard.home())) {
             *place = Some(counted_shard);
@@ -58,12 +59,12 @@ impl<J: PhaseNames> ExecutorShards<J> {
         Some(counted_shard)
     }
 
-    /// The shard of a warehouse, if it was here: it is not any more.
+    /// Takes the shard of a warehouse out, if it is here.
     pub fn take(&mut self, home: u32) -> Option<Box<CountedShard<J>>> {
         self.places.get_mut(place_of(home))?.take()
     }
 
-    /// Claims come back to their shard. Where that is elsewhere, here they are.
+    /// Gives claims back to their shard. If the shard is not here, returns them.
     pub fn give_back(&mut self, given: GivenBack<J>) -> Result<(), GivenBack<J>>
         ensures { IfErr result (λ back. back ≡ given) }
     {
@@ -84,8 +85,8 @@ impl<J: PhaseNames> ExecutorShards<J> {
         true
     }
 
-    // An action does its work at once, at its shard. `None` where that is elsewhere, or somebody is in its way, or there is no
-    // memory: nothing was done.
+    // An action does its work at once, at its shard. Returns `None` if the shard is not here, or a holder conflicts, or an
+    // allocation fails: nothing was done then.
     pub(crate) fn work_at_once(
         &mut self,
         alloc: Global,
@@ -106,7 +107,7 @@ impl<J: PhaseNames> ExecutorShards<J> {
     }
 }
 
-// The place of a warehouse among all.
+// The index of a warehouse's shard.
 fn place_of(home: u32) -> usize {
     home.wrapping_sub(1) as usize
 }

@@ -19,12 +19,12 @@ fn payment(amount: u32) -> Request {
     payment_at(1, amount)
 }
 
-// The same at a warehouse, by a customer of it.
+// A payment at this warehouse, by a customer of it.
 fn payment_at(w_id: u32, amount: u32) -> Request {
     payment_by(w_id, w_id, amount)
 }
 
-// The same at a warehouse, by a customer of that one.
+// A payment at this warehouse, by a customer of the other one.
 fn payment_by(w_id: u32, customer_w_id: u32, amount: u32) -> Request {
     Request::Payment(Payment {
         home: DistrictKey { w_id, d_id: 1 },

@@ -1,5 +1,5 @@
--- The actions of a Delivery are the Delivery: a district reads and changes its own two groups, so that from tables which the
--- claims tell its turn delivers the order that was found, and leaves in both groups what the claims left.
+-- The actions of a Delivery are the Delivery: a district reads and changes its own two groups. So from tables that the claims
+-- record its turn delivers the order that was found, and leaves in both groups what the claims left.
 use Rattle.std.proofs.Common.{◌≡◌, ◌≢◌, inl, inr, ℕ, zero, suc, ◌+◌, ◌≤◌, false, List, [], ◌∷◌, ◌++◌, map, Option, Some, None, is_some, refl, sym, ap, ◌∙◌, arith}
 use Rattle.std.specs.List.{AllByRecursion, list_any, range_with_len}
 use Rattle.std.specs.Option.{option_map, option_and_then}
@@ -61,7 +61,7 @@ module _ (t : Database) (home : DistrictKey) (carrier moment : ℕ) where
       sym (get-rows_of-own customers_total customers_exact group_of_customer t.customers (customer_key home c_id))
       ∙ ap (λ (r : Customers). table.get r (customer_key home c_id)) same
 
-  -- what becomes of the customer of the oldest new order
+  -- the customer of the oldest new order
   received : (order : OrderDelivered) (oldest : IsOldestOrder t home order) (rows : Customers) → content t customers_of ≡ OfCustomers rows
       → receiver t (order_key home order.o_id) oldest.row ≡ row_credited rows home order
   received order oldest rows has =
@@ -136,7 +136,7 @@ module _ (t : Database) (home : DistrictKey) (carrier moment : ℕ) where
 -- ---- some districts
 
 module _ (d : Delivery) where
-  -- what the tables have in the two groups of each district is what the claims tell
+  -- in the two groups of each district the tables have the content that the claims record
   abbrev RecordBoth : Database → List ℕ → List ClaimView → List ClaimView → Type 0
   RecordBoth t [] orders customers = Unit {0}
   RecordBoth t (k ∷ ks) (order ∷ orders) (customer ∷ customers) =
@@ -170,7 +170,7 @@ module _ (d : Delivery) where
   customers_elsewhere k [] apart = tt
   customers_elsewhere k (other ∷ ks) apart = (((λ same. absurd cc), λ (same : g.Customers d.w_id k ≡ g.Customers d.w_id other). let equal : k ≡ other = cc in apart.0 equal), customers_elsewhere k ks apart.1)
 
-  -- the turn of one leaves what the claims of the others tell
+  -- the turn of one district keeps the content that the claims of the others record
   still_record : (s t : Database) (k : ℕ) → ((group : Group) → (group ≢ g.Orders d.w_id k) × (group ≢ g.Customers d.w_id k) → content s group ≡ content t group)
       → (ks : List ℕ) (orders customers : List ClaimView) → IsNotAmong k ks → RecordBoth t ks orders customers → RecordBoth s ks orders customers
   still_record s t k same [] orders customers apart show = tt

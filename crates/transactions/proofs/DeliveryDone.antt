@@ -1,4 +1,4 @@
--- What the actions of a Delivery find and do is what their facts say, by what stood in the tables when they began.
+-- The actions of a Delivery find and do what their definitions state, from the content of the tables when they began.
 use Rattle.std.proofs.Common.{◌≡◌, ℕ, true, ◌&&◌, ◌==◌, Option, Some, None, sym, ap, ◌∙◌, arith}
 use Rattle.std.proofs.lemmas.Bool.Decides.{nat_tests}
 use Rattle.std.specs.Option.{option_and_then}

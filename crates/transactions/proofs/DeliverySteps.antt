@@ -61,7 +61,7 @@ orders_found shared d found claims done =
     let one = one_done shared (DeliverOrders d) found claims done in
     (one.done.0, one.found_is ∙ ap (λ (f : OwnFound). any_found.Delivery f ∷ []) one.done.1)
 
--- what was found of the orders is what the claims tell
+-- what was found of the orders is what the claims record
 orders_are : (shared : SharedTables) (d : Delivery) (found : List Found) (delivered : Deliveries) (claims : List (List ClaimView)) → found ≡ any_found.Delivery (Orders delivered) ∷ []
     → HaveAllDone shared (any_work.Delivery (DeliverOrders d) ∷ []) found claims → (orders : List ClaimView) × (claims ≡ orders ∷ []) × AreOrdersDelivered d ten delivered orders
 orders_are shared d found delivered claims is done =

@@ -1,4 +1,4 @@
--- Who is in the way of an action that dies.
+-- The holders that conflict with an action that dies.
 use Rattle.std.proofs.Common.{◌≡◌, ℕ, List, map, sym, subst}
 use Rattle.std.specs.Prelude.{Contains}
 use Rattle.requests.specs.declared.group.Group.{Group}
@@ -16,7 +16,7 @@ pub record HoldsGroupWanted (holdings : List HeldClaim) (group_wants : List Grou
   pub group_wanted : Contains group_wants group_want
   pub on : holding.group ≡ group_want.group
 
--- it dies of one who holds a group that it wants for
+-- it dies of a holder of a group that it wants
 pub dies_of_holder : (holdings : List HeldClaim) (age : ℕ) (group_wants : List GroupWant) (group : Group) (oldest : ℕ) → MustDie holdings age (map want_of group_wants) group oldest → HoldsGroupWanted holdings group_wants
 dies_of_holder holdings age group_wants group oldest death =
     let h = death.some.0 in

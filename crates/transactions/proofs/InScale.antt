@@ -1,4 +1,4 @@
--- What the tests of a check that were passed tell.
+-- What follows from the tests of a check that were passed.
 use Rattle.std.proofs.Common.{◌≡◌, true, false, Bool, cond, leb, List, ◌∷◌, Ok, refl}
 use Rattle.std.specs.Prelude.{ℕ, Some, find}
 use Rattle.std.proofs.lemmas.Bool.{and_parts, leb-true}

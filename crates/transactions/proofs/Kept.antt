@@ -37,7 +37,7 @@ pub by_call : {T E : Type 0} (result : Result T E) (was now : ClaimView) (old ne
 by_call (Ok x) was now old new kept same = kept
 by_call (Err fault) was now old new kept same = unchanged (was ∷ []) (now ∷ []) old new (λ i. same.1 i ∷ []) same.0
 
--- who holds claims, and more, and others
+-- the holders of claims, with more of them and others
 held_with : (claims more : List ClaimView) (others : List HeldClaim) → map held_by (claims ++ more) ++ others ≡ map held_by claims ++ (map held_by more ++ others)
 held_with claims more others = ap (λ hs. hs ++ others) (map-append held_by claims more) ∙ append_assoc (map held_by claims) (map held_by more) others
 

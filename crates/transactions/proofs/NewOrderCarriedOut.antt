@@ -1,4 +1,4 @@
--- The actions of a New-Order are the New-Order: from tables that their claims tell, the machine does the same.
+-- The actions of a New-Order are the New-Order: from tables that their claims record, the machine does the same.
 use Rattle.std.proofs.Common.{◌≡◌, ◌⊎◌, inl, inr, ◌&&◌, true, false, cond, List, [], ◌∷◌, ◌++◌, map, Option, Some, None, unwrap_or, Result, Ok, Err, refl, sym, ap, subst, ◌∙◌}
 use Rattle.std.specs.Prelude.{length}
 use Rattle.std.specs.List.{AllByRecursion, list_all, list_any}
@@ -52,7 +52,7 @@ use Rattle.transactions.proofs.NewOrderSettled.{settled, stocks_leave}
 use Rattle.transactions.proofs.NewOrderSold.{all_items, all_placed, are_placed, each_in_order, found_by, found_in, items_missing, items_there, none_placed}
 use Rattle.transactions.proofs.NewOrderSupplies.{supplies_are_stock}
 
--- ---- what becomes of an order
+-- ---- the decision on an order
 
 module _ (n : NewOrder) (home : HomeShown) (orderer : Orderer) (found : List StockTaken) where
   -- its lines in order
@@ -102,7 +102,7 @@ module _ (n : NewOrder) (home : HomeShown) (orderer : Orderer) (found : List Sto
 
 -- ---- the rows that are there
 
--- who is shown has a row
+-- a customer that is shown has a row
 pub record HasRow (orderer : Orderer) (row : Option Customer) : Type 0 where
   pub customer : Customer
   pub there : row ≡ Some customer

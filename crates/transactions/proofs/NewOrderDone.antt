@@ -1,4 +1,5 @@
--- What the actions of a New-Order at its home find and do is what their facts say, by what stood in the tables when they began.
+-- The actions of a New-Order at its home find and do what their definitions state, from the content of the tables when they
+-- began.
 use Rattle.std.proofs.Common.{◌≡◌, ◌+◌, ℕ, List, [], ◌∷◌, map, Some, sym, ap, ◌∙◌, refl}
 use Rattle.std.specs.FinMap as table
 use Rattle.rows.specs.declared.keys.OrderKey.{OrderKey}

@@ -1,4 +1,4 @@
--- Lines that are put at their numbers, one after another, stand there in order.
+-- Lines that are put at their numbers, one after another, are there in order.
 use Rattle.std.proofs.Common.{◌≡◌, ◌≤◌, ◌<◌, ◌+◌, ◌-◌, ◌==◌, ℕ, zero, suc, false, cond, List, [], ◌∷◌, ◌++◌, length, map, set, replicate, Option, Some, None, refl, sym, ap, ◌∙◌, arith}
 use Rattle.std.specs.Prelude.{find}
 use Rattle.std.specs.List.{AllByRecursion, cons_option, filter_map, range_with_len}

@@ -1,4 +1,4 @@
--- What an accepted New-Order names is there, and the order that is added is one that the tables can have.
+-- The rows that an accepted New-Order refers to are there, and tables of the scale can have the order that is added.
 use Rattle.std.proofs.Common.{◌≡◌, ◌≤◌, ◌+◌, ◌==◌, ℕ, zero, suc, Bool, true, false, cond, List, [], ◌∷◌, length, get_or, map, Option, Some, None, refl, sym, ap, subst, arith}
 use Rattle.std.specs.Prelude.{find}
 use Rattle.std.specs.List.{AllByRecursion, cons_option, filter_map, list_all, range_with_len, remove}

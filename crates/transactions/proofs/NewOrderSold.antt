@@ -27,7 +27,7 @@ use Rattle.transactions.specs.NewOrder.{AreStocksTaken, Numbered, all_sold, has_
 use Rattle.transactions.proofs.EachOne.{all_there-each, each_filtered, each_mapped, each_tested, each_weaker, is_none, is_there, none_tested, tested_each, tested_none}
 use Rattle.transactions.proofs.NewOrderSupplies.{all_in, by_groups, each_line_is_found}
 
--- ---- what was found, by every tables that the claims tell
+-- ---- what was found, in all tables that the claims record
 
 pub found_by : (shared : SharedTables) (t : Database) (n : NewOrder) → shared_of t ≡ shared → (groups : List Group) (found : List StockTaken) (stocks : List ClaimView)
     → AreStocksTaken shared n groups found stocks → AllByRecursion (RecordsContent (content t)) stocks → found ≡ map (λ group. stock_found t n (lines_in group n.lines)) groups

@@ -16,7 +16,7 @@ use Rattle.tickets.proofs.Apart.{by_bool, is_same-equal}
 use Rattle.transactions.specs.NewOrder.{Numbered, is_in, lines_in, numbered}
 use Rattle.transactions.proofs.EachOne.{each_filtered, each_of, each_passing, each_weaker}
 
--- ---- groups where they first stand
+-- ---- groups where they first occur
 
 module _ (P : Group → Type 0) where
   of_others : (group : Group) (others : List Group) → P group → AllByRecursion P (filter (λ other. not (is_same group other)) others) → AllByRecursion P others
@@ -28,7 +28,7 @@ module _ (P : Group → Type 0) where
         | false ↦ λ e those. (those.0, of_others group others here those.1)
       ] refl each
 
-  -- what holds of each group where it first stands holds of each
+  -- what holds of each group where it first occurs holds of each
   pub of_firsts : (groups : List Group) → AllByRecursion P (firsts groups) → AllByRecursion P groups
   of_firsts [] each = tt
   of_firsts (group ∷ groups) each = (each.0, of_firsts groups (of_others group (firsts groups) each.0 each.1))

@@ -153,7 +153,7 @@ module _ (t : Database) (n : NewOrder) (group : Group) where
   abbrev supplied : List Numbered
   supplied = lines_in group n.lines
 
-  -- what is known of each row that is put
+  -- the facts of each row that is put
   pub record ArePuts (lines : List Numbered) (puts : List StockPut) : Type 0 where
     pub in_turn : puts_done puts t.stocks ≡ stocks_put (bare lines) (map (λ (put : StockPut). put.row) puts) t.stocks
     pub taken : AreTaken n.home.w_id (bare supplied) t.stocks (bare lines) (map (λ (put : StockPut). put.row) puts)
@@ -291,7 +291,7 @@ suppliers_in scale group lines all =
 module _
     (t : Database) (n : NewOrder) (group : Group) (was : ClaimView) (on : IsExclusiveOn group was) (new : IsFresh was) (left : was.left ≡ content t was.group)
   where
-    -- other tables that the claim tells have the same in the group
+    -- other tables that the claim records have the same content of the group
     recorded_alike : (s : Database) (now : ClaimView) → now.group ≡ was.group → now.recorded ≡ was.recorded → content s now.group ≡ now.recorded → content s group ≡ content t group
     recorded_alike s now same recorded records =
         ap (content s) (sym on.group ∙ sym same) ∙ records ∙ recorded ∙ sym new.left ∙ left ∙ ap (content t) on.group

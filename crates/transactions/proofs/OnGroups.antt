@@ -113,7 +113,7 @@ counted_there group (first ∷ group_wants) some = by (is_same group first.group
         let none : one_group_want_on group first ≡ 0 = ap {B = ℕ} (λ b. cond b 1 0) other in
         contains_there first.group (groups_of group_wants) group (rest (omega (arith, some, none, sum_by-cons (one_group_want_on group) first group_wants)))
 
--- a want's group is one of those that are wanted for
+-- a want's group is one of the groups that are wanted
 pub group_want_there : (group_wants : List GroupWant) (group_want : GroupWant) → Contains group_wants group_want → Contains (groups_of group_wants) group_want.group
 group_want_there group_wants group_want is = counted_there group_want.group group_wants (group_wanted group_wants group_want is)
 

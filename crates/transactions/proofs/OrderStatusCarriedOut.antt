@@ -1,4 +1,4 @@
--- The actions of an Order-Status are the Order-Status: from tables that their claims tell, the machine does the same.
+-- The actions of an Order-Status are the Order-Status: from tables that their claims record, the machine does the same.
 use Rattle.std.proofs.Common.{◌≡◌, Bool, true, false, cond, [], ◌∷◌, Option, Some, None, refl, sym, ap, ◌∙◌}
 use Rattle.std.proofs.lemmas.List.Elements.{recursion_from_All}
 use Rattle.rows.specs.Keys.{district_of_customer}
@@ -37,7 +37,7 @@ was_chosen : (key : CustomerKey) (customer : StatusCustomer) (choice : Option Ke
 was_chosen key customer (Some c) is = record { one = c; there = refl; key_is = cc; customer_is = cc }
 was_chosen key customer None is = absurd cc
 
--- nobody was
+-- no customer was chosen
 none_chosen : (choice : Option Keyed) → Missing ≡ customer_shown choice → choice ≡ None
 none_chosen (Some c) is = absurd cc
 none_chosen None is = refl

@@ -1,4 +1,4 @@
--- What the actions of an Order-Status find, by what stands in the tables.
+-- What the actions of an Order-Status find, by the content of the tables.
 use Rattle.std.proofs.Common.{◌≡◌, Option, sym, ap, ◌∙◌}
 use Rattle.rows.specs.Keys.{district_of_customer}
 use Rattle.rows.specs.declared.keys.CustomerKey.{CustomerKey}
@@ -21,7 +21,7 @@ use Rattle.transactions.specs.Granted.{IsSharedOn}
 use Rattle.transactions.specs.OrderStatus.{IsCustomerShown, IsOrderShown, customer_shown}
 use Rattle.transactions.proofs.Recorded.{chosen_recorded}
 
--- a shared claim on what stands in its group, which it left as it tells it, and which stays as it is
+-- a shared claim on a group: it leaves the content that it records, and is unchanged
 module _
     (t : Database) (own : Group) (was now : ClaimView)
     (on : IsSharedOn own was) (left : was.left ≡ content t was.group) (untouched : was.mode ≡ Shared → was.left ≡ was.recorded) (same : now ≡ was)

@@ -34,7 +34,7 @@ use Rattle.transactions.proofs.InScale.{between, not_first}
 use Rattle.transactions.proofs.Footprints.{AreApart, all_are_some, first_are_some, one_group_want, shared_group_want}
 use Rattle.transactions.proofs.OrderStatusCarriedOut.{shown_customers_are_at_home}
 
--- ---- what an accepted Order-Status names is there
+-- ---- the rows that an accepted Order-Status refers to are there
 
 status_in_scale : (scale : Scale) (o : OrderStatus) → IsAccepted scale (request.OrderStatus o) → (has_warehouse scale o.home.w_id ≡ true) × (is_between 1 10 o.home.d_id ≡ true)
 status_in_scale scale o accepted =

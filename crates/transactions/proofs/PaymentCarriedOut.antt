@@ -1,4 +1,4 @@
--- The actions of a payment are the payment: from tables that their claims tell, the machine does the same.
+-- The actions of a payment are the payment: from tables that their claims record, the machine does the same.
 use Rattle.std.proofs.Common.{◌≡◌, ℕ, [], ◌∷◌, ◌++◌, List, Some, unwrap_or, refl, sym, ap, subst, ◌∙◌}
 use Rattle.std.specs.Prelude.{pos}
 use Rattle.std.proofs.lemmas.List.Elements.{recursion_from_All}

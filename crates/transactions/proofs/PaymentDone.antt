@@ -1,4 +1,4 @@
--- What each action does is what its facts say, by what stood in the tables when it began.
+-- Each action does what its definition states, from the content of the tables when it began.
 use Rattle.std.proofs.Common.{◌≡◌, ◌⊎◌, Option, Some, None, refl, sym, ap, ◌∙◌}
 use Rattle.std.specs.Prelude.{pos}
 use Rattle.std.specs.FinMap as map

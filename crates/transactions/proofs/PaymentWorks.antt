@@ -1,4 +1,4 @@
--- What a payment's actions need and claim, and where; and who is paid.
+-- What a payment's actions need and claim, and where; and which customer is paid.
 use Rattle.std.proofs.Common.{◌≡◌, ◌≢◌, ◌≤◌, ◌+◌, zero, suc, true, List, [], ◌∷◌, ◌++◌, length, map, IsTrue, refl, sym, ap, subst, ◌∙◌, arith}
 use Rattle.std.specs.Prelude.{All}
 use Rattle.std.proofs.lemmas.Bool.{and_parts, and_from, not-false}
@@ -35,7 +35,7 @@ use Rattle.transactions.specs.Works.{CanDo as AnyCanDo, all_group_wants}
 use Rattle.transactions.proofs.InScale.{between, not_first}
 use Rattle.transactions.proofs.Footprints.{AreApart, all_are_some, exclusive_group_want, first_are_some, one_group_want}
 
--- ---- what an accepted payment names is there
+-- ---- the rows that an accepted payment refers to are there
 
 record IsInScale (scale : Scale) (p : Payment) : Type 0 where
   warehouse : has_warehouse scale p.home.w_id ≡ true
@@ -121,7 +121,7 @@ done_on shared (PayHome p) found claims done =
 done_on shared (PayCustomer p) found claims done = ap (map (λ (claim : ClaimView). claim.group)) done.3 ∙ (λ i. done.4.claim.group i ∷ [])
 done_on shared (AddPayment p row) found claims done = ap (map (λ (claim : ClaimView). claim.group)) done.2 ∙ (λ i. done.3.claim.group i ∷ [])
 
--- ---- who is paid
+-- ---- the customer that is paid
 
 pub gathered_payers_are_known : GatheredPayersAreKnown
 gathered_payers_are_known scale p (h.Paid warehouse district) (c.Paid reply) given found known =

@@ -1,4 +1,4 @@
--- What stands in tables that a claim tells.
+-- The content of tables that a claim records.
 use Rattle.std.proofs.Common.{◌≡◌, List, Option, filter, sym, ap, ◌∙◌}
 use Rattle.std.specs.Option.{option_map}
 use Rattle.std.specs.FinMap as map
@@ -39,13 +39,13 @@ chosen_among customers home (Number n) =
     ap (option_map (λ row. (customer_key home n, row))) (get-rows_of-own customers_total customers_exact group_of_customer customers (customer_key home n))
 chosen_among customers home (LastName last) = ap middle (namesakes_among customers home last)
 
--- ---- what a claim tells
+-- ---- the content that a claim records
 
--- the claim on a group tells what the tables have in it
+-- the tables have the content that the claim on the group records
 recorded_of : (t : Database) (own : Group) (claim : ClaimView) (has : Content) → content t claim.group ≡ claim.recorded → claim.group ≡ own → claim.recorded ≡ has → content t own ≡ has
 recorded_of t own claim has records on is = ap (content t) (sym on) ∙ records ∙ is
 
--- who is chosen in a district is chosen among its customers alone
+-- a customer that is chosen in a district is chosen among the district's customers alone
 pub chosen_recorded : (t : Database) (home : DistrictKey) (choice : Choice) (claim : ClaimView) → content t claim.group ≡ claim.recorded → claim.group ≡ g.Customers home.w_id home.d_id
     → (rows : Customers) → claim.recorded ≡ OfCustomers rows → chosen t.customers home choice ≡ chosen rows home choice
 chosen_recorded t home choice claim records on rows is =

@@ -1,5 +1,5 @@
--- What is asked of an action, what it finds, and how far a transaction has come may go to another thread; so may a shard, where the
--- names of its groups and what waits there may.
+-- Works, what they find, and progresses may go to another thread; so may a shard, if the type parameter of its groups and what
+-- its waiting actions carry may.
 use denote.RattleType.{RattleType}
 use denote.Param.{number}
 use denote.Param.Send.{IsSend, sendable, view_send}

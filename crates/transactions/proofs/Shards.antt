@@ -28,7 +28,7 @@ use Rattle.transactions.specs.Works.{CanDo, home_of, wants_of, group_wants_of}
 use Rattle.transactions.proofs.Kept as kept
 use Rattle.transactions.proofs.Wanted.{granted_for, ran_of}
 
--- ---- who waits is still there
+-- ---- a waiting action is still there
 
 module _ {T : Type 0} where
   -- what can be done in a slice can be done where the scale and the items stay
@@ -107,7 +107,7 @@ module _ {T : Type 0} (warehouses : ℕ) (old mid : SliceView) (all rest : List 
         (subst (λ (ps : List (Parked T)). All (CanDoThere old) (p ∷ ps)) (sym left) (All-permutation (CanDoThere old) all (p ∷ remove all index) (IsPermutation-remove all index p inside taken) is.able)));
   }
 
-  -- what comes of it is its turn
+  -- its result is its turn
   one_turn : {J : Type 0} (ran : Ran J) (new : SliceView) → (StillWaits old.holdings (waiting by wants) → ⊥) → IsRan by (with_waiters new.waiters old) p.work ran new
       → SliceKeeps [] (with_waiters new.waiters old) (claims_of_ran ran) new → OneTurn (shard_view old all) (record { by = by; ran = ran; carried = p.carried }) (shard_view new rest)
   one_turn ran new over of keeps = record {

@@ -1,4 +1,4 @@
--- What comes of the actions of a phase, sorted out.
+-- The results of a phase's actions, collected.
 use Rattle.std.proofs.Common.{◌≡◌, ◌≤◌, ◌⊎◌, inl, inr, ℕ, List, [], ◌∷◌, length, Option, Some, None, refl, sym, subst, ⊎_elim, arith}
 use Rattle.std.specs.Prelude.{All, IfSome}
 use Rattle.std.proofs.lemmas.List.{length-append}
@@ -27,7 +27,7 @@ module _ {J : Type 0} where
   few_held [] = omega arith
   few_held (r ∷ rans) = omega (arith, one_holds r, few_held rans, length-append (held_by r) (held_in rans))
 
-  -- who isn't refused now wasn't before
+  -- a transaction that isn't refused now wasn't refused before
   pub was_none : (why : Option Refusal) (own : Ran J) → refused_by why own ≡ None → why ≡ None
   was_none None own is = refl
   was_none (Some why) own is = absurd (cc)
@@ -46,7 +46,7 @@ module _ {J : Type 0} where
   none_before None rans is = is
   none_before (Some why) rans is = absurd (stays_refused why rans is)
 
-  -- lack of memory is answered only where no one died
+  -- NoMemory is the reason only if no action died
   pub memory_last : (rans : List (Ran J))
       → ((refusal_of None rans ≡ None) × (refusal_of (Some refusal.NoMemory) rans ≡ Some refusal.NoMemory)) ⊎ (refusal_of (Some refusal.NoMemory) rans ≡ refusal_of None rans)
   memory_last [] = inl (refl, refl)
@@ -56,7 +56,7 @@ module _ {J : Type 0} where
 
 -- ---- why it is refused
 
--- the death that is told is the one before, or this one
+-- the death that is recorded is the one before, or this one
 first_recorded : (why : Refusal) (group : Group) (holder : ℕ) → (earlier_death why group holder ≡ why) ⊎ (earlier_death why group holder ≡ refusal.Died group holder)
 first_recorded (refusal.Died first older) group holder = inl refl
 first_recorded refusal.NoMemory group holder = inr refl

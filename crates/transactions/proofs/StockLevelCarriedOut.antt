@@ -1,5 +1,5 @@
--- The actions of a Stock-Level are the Stock-Level: from tables that their claims tell, the machine shows the same, and
--- nothing changes.
+-- The actions of a Stock-Level are the Stock-Level: from tables that their claims record, the machine shows the same, and nothing
+-- changes.
 use Rattle.std.proofs.Common.{◌≡◌, ℕ, List, [], ◌∷◌, refl, sym, ap, ◌∙◌}
 use Rattle.std.specs.List.{AllByRecursion}
 use Rattle.std.proofs.lemmas.List.Elements.{All-head, All-tail}

@@ -1,4 +1,4 @@
--- What the actions of a Stock-Level found is what every tables show that their claims tell.
+-- What the actions of a Stock-Level found holds in all tables that their claims record.
 use Rattle.std.proofs.Common.{◌≡◌, ℕ, zero, suc, ◌+◌, ◌<◌, List, [], ◌∷◌, None, length, map, refl, sym, ap, subst, ◌∙◌, arith}
 use Rattle.std.specs.Prelude.{slice_index_or}
 use Rattle.std.specs.List.{range_with_len}

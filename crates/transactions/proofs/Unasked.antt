@@ -1,4 +1,4 @@
--- A transaction that nobody asked for, where one has to be named and none is in flight.
+-- A placeholder for a transaction, where a definition needs one and none is in flight.
 use Rattle.requests.specs.declared.payment.Payment.{Payment}
 use Rattle.requests.specs.declared.request.Choice.TheVariants.{Number}
 use Rattle.requests.specs.declared.request.Request.{Request}

@@ -7,7 +7,7 @@ use Rattle.tickets.specs.Claims.{ClaimView}
 use Rattle.tickets.specs.Committed.{RecordsContent, Records}
 use Rattle.transactions.specs.Laws.{undone, RolledBackClaimsCanBeUndone}
 
--- claims tell the same once what was done under them is taken back
+-- claims record the same once what was done under them is undone
 recorded_before : (tables : Group → Content) (claims : List ClaimView) → Records tables (map undone claims) → Records tables claims
 recorded_before tables [] recorded = All-nil (RecordsContent tables)
 recorded_before tables (claim ∷ claims) recorded =

@@ -84,9 +84,9 @@ granted_by : (by : Holder) (work : Work) (old new : SliceView) (granted : List C
 granted_by by work old new granted grants =
     subst (All (IsBy by)) (sym (granted_claims by work old new granted grants)) (All-map (IsBy by) (granted_in by old) (group_wants_of work) (λ k d small. refl))
 
--- ---- what comes of it
+-- ---- the result
 
--- what comes of work under claims that were granted for it is what comes of the action
+-- the result of work under claims that were granted for it is the result of the action
 pub ran_of : {J : Type 0} (by : Holder) (old mid new : SliceView) (work : Work) (granted : List ClaimView) (ran : Ran J) → GrantsIn by (wants_of work) old granted mid → mid.waiters ≡ old.waiters
     → IsRanUnder mid work granted ran new → SliceKeeps granted mid (claims_of_ran ran) new → IsRan by old work ran new
 ran_of by old mid new work granted (Done claims found) grants wait under keeps = record {

@@ -1,5 +1,5 @@
--- A Delivery (clause 2.7.4.2): what its actions find and do, said of their claims alone, what they tell as committed and what
--- they left; and its phases.
+-- A Delivery (clause 2.7.4.2): what its actions find and do, stated of their claims alone, that is of the content that they
+-- record and leave; and its phases.
 use Rattle.std.specs.Prelude.{◌≡◌, ◌⊎◌, ℕ, Bool, List, [], ◌∷◌, map, Option, Some, None, is_some}
 use Rattle.std.specs.List.{list_any, range_with_len}
 use Rattle.std.specs.Option.{option_map, option_and_then}
@@ -40,13 +40,13 @@ use Rattle.transactions.specs.declared.work.Found.{Found as AnyFound}
 use Rattle.transactions.specs.declared.work.Found.TheVariants as any_found
 use Rattle.transactions.specs.Granted.{IsAsked, IsExclusiveOn}
 
--- what was found of each of some districts: the order that was delivered, if there was one
+-- what was found in each of some districts: the order that was delivered, if there is one
 abbrev pub Deliveries : Type 0
 Deliveries = List (Option OrderDelivered)
 
 -- ---- the orders of one district
 
--- it is the district's oldest new order, with its customer and what its lines come to
+-- this is the district's oldest new order, with its customer and the sum of its lines' amounts
 pub record IsOldestOrder (t : Database) (home : DistrictKey) (order : OrderDelivered) : Type 0 where
   pub oldest : oldest_new_order t home ≡ Some order.o_id
   pub row : Order
@@ -54,24 +54,24 @@ pub record IsOldestOrder (t : Database) (home : DistrictKey) (order : OrderDeliv
   pub customer : order.c_id ≡ row.c_id
   pub amount : order.amount ≡ amount_of t (order_key home order.o_id)
 
--- by what was found: the district has no new order, or this is its oldest
+-- the district has no new order, or this is its oldest
 abbrev pub FindsOldest : Database → DistrictKey → Option OrderDelivered → Type 0
 FindsOldest t home None = oldest_new_order t home ≡ None
 FindsOldest t home (Some order) = IsOldestOrder t home order
 
--- the tables with the order that was found delivered
+-- the tables with the order delivered, if there is one
 abbrev pub order_delivered : Database → DistrictKey → ℕ → ℕ → Option OrderDelivered → Database
 order_delivered t home carrier moment None = t
 order_delivered t home carrier moment (Some order) = with_delivery t (order_key home order.o_id) carrier moment
 
--- What was found of the district is so in every tables that have in the group what the claim tells, and left is what they
--- have there once that order is delivered.
+-- What was found of the district holds in all tables whose content of the group is the recorded one, and the claim leaves what
+-- these have there once that order is delivered.
 pub record IsOrderDelivered (carrier moment : ℕ) (home : DistrictKey) (one : Option OrderDelivered) (orders : ClaimView) : Type 0 where
   pub claim : IsExclusiveOn (g.Orders home.w_id home.d_id) orders
   pub shown : (t : Database) → content t orders.group ≡ orders.recorded → FindsOldest t home one
   pub left : (t : Database) → content t orders.group ≡ orders.recorded → orders.left ≡ content (order_delivered t home carrier moment one) orders.group
 
--- so it is of each of these districts of the warehouse, in turn
+-- so for each of these districts of the warehouse, in turn
 abbrev pub AreOrdersDelivered : Delivery → List ℕ → Deliveries → List ClaimView → Type 0
 AreOrdersDelivered d [] [] [] = Unit {0}
 AreOrdersDelivered d (k ∷ districts) (one ∷ found) (claim ∷ claims) =
@@ -80,11 +80,11 @@ AreOrdersDelivered d districts found claims = ⊥
 
 -- ---- the customers of one district
 
--- the customer's row once the order was delivered; none where there is no such customer, or a value would leave its range
+-- the customer's row once the order was delivered; none if there is no such customer, or if a value would leave its range
 abbrev pub row_credited : Customers → DistrictKey → OrderDelivered → Option Customer
 row_credited rows home order = option_and_then (λ row. customer_delivered row order.amount) (table.get rows (customer_key home order.c_id))
 
--- left is the row of the customer who ordered it, once the order was delivered
+-- the claim leaves the row of the customer who ordered it, once the order was delivered
 pub record IsCustomerCredited (home : DistrictKey) (order : OrderDelivered) (customers : ClaimView) : Type 0 where
   pub rows : Customers
   pub recorded : customers.recorded ≡ OfCustomers rows
@@ -98,7 +98,7 @@ pub record IsCustomerOutOfRange (home : DistrictKey) (order : OrderDelivered) (c
   pub recorded : customers.recorded ≡ OfCustomers rows
   pub out : row_credited rows home order ≡ None
 
--- by what was delivered in the district: nothing is done where nothing was
+-- if an order was delivered in the district, its customer is credited; else nothing is done
 abbrev pub IsCredited : DistrictKey → Option OrderDelivered → ClaimView → Type 0
 IsCredited home None customers = customers.left ≡ customers.recorded
 IsCredited home (Some order) customers = IsCustomerCredited home order customers
@@ -108,7 +108,7 @@ abbrev pub IsOutOfRange : DistrictKey → Option OrderDelivered → ClaimView �
 IsOutOfRange home None customers = ⊥
 IsOutOfRange home (Some order) customers = IsCustomerOutOfRange home order customers
 
--- by what was found of the one customer
+-- what was found of the one customer
 abbrev pub FindsCustomer : DistrictKey → Option OrderDelivered → CustomersCredited → ClaimView → Type 0
 FindsCustomer home one Credited customers = IsCredited home one customers
 FindsCustomer home one OutOfRange customers = IsOutOfRange home one customers
@@ -126,13 +126,13 @@ AreCredited w_id (k ∷ districts) (one ∷ delivered) (claim ∷ claims) =
     IsCredited (district_key w_id k) one claim × AreCredited w_id districts delivered claims
 AreCredited w_id districts delivered claims = ⊥
 
--- they are in the first of the districts, and not in the next
+-- the customers of the first districts are credited, and then there is one that can't be
 abbrev pub IsOneOutOfRange : ℕ → List ℕ → Deliveries → List ClaimView → Type 0
 IsOneOutOfRange w_id (k ∷ districts) (one ∷ delivered) (claim ∷ claims) =
     IsOutOfRange (district_key w_id k) one claim ⊎ (IsCredited (district_key w_id k) one claim × IsOneOutOfRange w_id districts delivered claims)
 IsOneOutOfRange w_id districts delivered claims = ⊥
 
--- by what was found
+-- all are credited, or there is one that can't be, as was found
 abbrev pub FindsCredited : ℕ → List ℕ → Deliveries → CustomersCredited → List ClaimView → Type 0
 FindsCredited w_id districts delivered Credited claims = AreCredited w_id districts delivered claims
 FindsCredited w_id districts delivered OutOfRange claims = IsOneOutOfRange w_id districts delivered claims
@@ -153,12 +153,12 @@ abbrev pub home_of : Work → ℕ
 home_of (DeliverOrders d) = d.w_id
 home_of (CreditCustomers d delivered) = d.w_id
 
--- the groups that an action claims for its work, and how
+-- the wants of an action's work
 abbrev pub group_wants_of : Work → List GroupWant
 group_wants_of (DeliverOrders d) = map (λ k. exclusively (g.Orders d.w_id k)) (range_with_len 1 10)
 group_wants_of (CreditCustomers d delivered) = map (λ k. exclusively (g.Customers d.w_id k)) (range_with_len 1 10)
 
--- What the work needs: it is of a Delivery that the check accepts.
+-- The work can be done: its Delivery is one that the check accepts.
 abbrev pub CanDo : SharedTables → Work → Type 0
 CanDo shared (DeliverOrders d) = IsAccepted shared.scale (request.Delivery d)
 CanDo shared (CreditCustomers d delivered) = IsAccepted shared.scale (request.Delivery d)
@@ -180,17 +180,17 @@ pub record HasDelivered (shared : SharedTables) (asked : Request) (d : Delivery)
   pub claims : held ≡ orders ∷ []
   pub done : AreOrdersDelivered d ten delivered orders
 
--- what is known of how far a Delivery has come, beside the claims of each action of the phases before
+-- the facts of a Delivery that has come so far, under the claims of each action of its earlier phases
 abbrev pub IsReached : SharedTables → Request → Progress → List (List ClaimView) → Type 0
 IsReached shared asked (at.DeliverOrders d) held = IsAsked shared asked (request.Delivery d) held
 IsReached shared asked (at.CreditCustomers d delivered) held = HasDelivered shared asked d delivered held
 
--- what the action of its phase does: the orders are delivered, and then the customers are credited
+-- the work of the phase's action: first the orders are delivered, then the customers are credited
 abbrev pub work_of : Progress → Work
 work_of (at.DeliverOrders d) = DeliverOrders d
 work_of (at.CreditCustomers d delivered) = CreditCustomers d delivered
 
--- that is the phase's one action
+-- this is the phase's only action
 abbrev pub works_of : Progress → List AnyWork
 works_of progress = any_work.Delivery (work_of progress) ∷ []
 
@@ -198,18 +198,18 @@ works_of progress = any_work.Delivery (work_of progress) ∷ []
 abbrev pub AreOrdersOf : List AnyFound → Type 0
 AreOrdersOf items = (delivered : Deliveries) × (items ≡ any_found.Delivery (found.Orders delivered) ∷ [])
 
--- and that of the second
+-- what the action of the second phase found
 abbrev pub AreCustomersOf : List AnyFound → Type 0
 AreCustomersOf items = (credited : CustomersCredited) × (items ≡ any_found.Delivery (found.Customers credited) ∷ [])
 
--- the number of the order that was delivered, if there was one
+-- the number of the order that was delivered, if there is one
 abbrev pub number_of : Option OrderDelivered → Option ℕ
 number_of one = option_map (λ order. order.o_id) one
 
--- the number that each district delivered
+-- the number of the order that was delivered in each district
 abbrev pub numbers_of : Deliveries → List (Option ℕ)
 numbers_of delivered = map number_of delivered
 
--- whether any district delivered an order
+-- whether an order was delivered in any district
 abbrev pub is_any : Deliveries → Bool
 is_any delivered = list_any is_some delivered

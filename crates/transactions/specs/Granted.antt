@@ -1,4 +1,4 @@
--- Claims that were granted for wants, and what is known of a request before it has any.
+-- Claims that were granted for wants, and the facts of a request that holds none yet.
 use Rattle.std.specs.Prelude.{◌≡◌, ◌≤◌, ℕ, Bool, List, [], ◌∷◌, All, count_by}
 use Rattle.partitions.specs.Parts.{SharedTables}
 use Rattle.requests.specs.declared.group.Group.{Group}
@@ -9,7 +9,7 @@ use Rattle.groups.specs.declared.group_wants.GroupWant.{GroupWant}
 use Rattle.groups.specs.Groups.{warehouse_of}
 use Rattle.tickets.specs.Claims.{ClaimView, leaving}
 
--- it is the request, which its check accepts, and no action has claimed anything yet
+-- this is the request, its check accepts it, and no action has claimed anything yet
 pub record IsAsked (shared : SharedTables) (asked given : Request) (held : List (List ClaimView)) : Type 0 where
   pub is : asked ≡ given
   pub accepted : IsAccepted shared.scale asked
@@ -32,13 +32,13 @@ pub record IsFresh (claim : ClaimView) : Type 0 where
   pub left : claim.left ≡ claim.recorded
   pub back : claim.back ≡ claim.recorded
 
--- a claim that was granted for this want, under which nothing was done yet
+-- the claim was granted for this want, and nothing was done under it yet
 pub record IsGrantedFor (group_want : GroupWant) (claim : ClaimView) : Type 0 where
   pub group : claim.group ≡ group_want.group
   pub mode : claim.mode ≡ group_want.mode
   pub fresh : IsFresh claim
 
--- what a claim was granted for
+-- the want of a claim
 abbrev pub group_want_of : ClaimView → GroupWant
 group_want_of claim = record { group = claim.group; mode = claim.mode }
 
@@ -48,11 +48,11 @@ group_want_of claim = record { group = claim.group; mode = claim.mode }
 abbrev pub AreGroupWantsAt : ℕ → List GroupWant → Type 0
 AreGroupWantsAt home group_wants = All (λ (group_want : GroupWant). warehouse_of group_want.group ≡ home) group_wants
 
--- These wants are some of those, none more often than there.
+-- Some of those wants: none is more often here than there.
 abbrev pub AreSomeOf : List GroupWant → List GroupWant → Type 0
 AreSomeOf some group_wants = (test : GroupWant → Bool) → count_by test some ≤ count_by test group_wants
 
--- claims that were granted for these wants, one for each in turn
+-- the claims were granted for these wants, one for each in turn
 abbrev pub AreGrantedFor : List GroupWant → List ClaimView → Type 0
 AreGrantedFor [] [] = Unit {0}
 AreGrantedFor (group_want ∷ group_wants) (claim ∷ claims) = IsGrantedFor group_want claim × AreGrantedFor group_wants claims

@@ -1,4 +1,4 @@
--- What the transactions of all kinds keep.
+-- The laws of transactions of all kinds.
 use Rattle.std.specs.Prelude.{◌≡◌, ◌≤◌, ◌+◌, List, ◌++◌, All, IsTrue, length, map, count_by}
 use Rattle.partitions.specs.Parts.{SharedTables}
 use Rattle.schema.specs.declared.scale.Scale.{Scale}
@@ -23,17 +23,17 @@ use Rattle.transactions.specs.Granted.{AreSomeOf, AreGroupWantsAt, group_want_of
 use Rattle.transactions.specs.Works.{CanDo, HasDone, all_group_wants, home_of, group_wants_of}
 use Rattle.transactions.specs.Progresses.{IsReached, works_of}
 
--- the claim once what was done under it is taken back
+-- the claim once what was done under it is undone
 abbrev pub undone : ClaimView → ClaimView
 undone claim = leaving claim claim.back
 
--- A request that was rolled back was carried out under its claims also as they are once all is taken back.
+-- A request that was carried out as rolled back under its claims is so also under the claims once all is undone.
 abbrev pub RolledBackClaimsCanBeUndone : Type 0
 RolledBackClaimsCanBeUndone =
     (opening : Database) (r : Request) (claims : List ClaimView) (fault : Fault)
     → IsCarriedOut opening r claims (reply.RolledBack fault) → IsCarriedOut opening r (map undone claims) (reply.RolledBack fault)
 
--- The groups that an accepted request claims are groups of the scale's warehouses.
+-- The groups of an accepted request's footprint are groups of the scale's warehouses.
 abbrev pub AcceptedRequestsHaveTheirGroups : Type 0
 AcceptedRequestsHaveTheirGroups =
     (scale : Scale) (r : Request) → IsAccepted scale r → All (IsGroupOf scale.warehouses) (groups_of (footprint r))
@@ -45,11 +45,11 @@ abbrev pub WorksHaveTheirGroups : Type 0
 WorksHaveTheirGroups =
     (shared : SharedTables) (work : Work) → CanDo shared work → All (IsGroupOf shared.scale.warehouses) (groups_of (group_wants_of work))
 
--- Each work claims some group.
+-- Each work wants at least one group.
 abbrev pub WorksHaveGroupWants : Type 0
 WorksHaveGroupWants = (work : Work) → 1 ≤ length (group_wants_of work)
 
--- The claims under which work was done are on the groups that it wanted for, one for each want in turn.
+-- The claims under which work was done are on the groups that it wants, one for each want in turn.
 abbrev pub WorksHaveAClaimForEachGroupWant : Type 0
 WorksHaveAClaimForEachGroupWant =
     (shared : SharedTables) (work : Work) (found : Found) (claims : List ClaimView)
@@ -57,15 +57,15 @@ WorksHaveAClaimForEachGroupWant =
 
 -- ---- at which warehouse an action does its work
 
--- The work that can be done is at a warehouse of the scale.
+-- Work that can be done is at a warehouse of the scale.
 abbrev pub WorksAreAtWarehouses : Type 0
 WorksAreAtWarehouses = (shared : SharedTables) (work : Work) → CanDo shared work → IsTrue (has_warehouse shared.scale (home_of work))
 
--- All that an action claims for its work is the warehouse's.
+-- All groups that an action claims for its work are of the work's warehouse.
 abbrev pub WorksClaimAtHome : Type 0
 WorksClaimAtHome = (work : Work) → AreGroupWantsAt (home_of work) (group_wants_of work)
 
--- The claims under which work was done are all on groups of the warehouse, and so of one warehouse.
+-- The claims under which work was done are all on groups of the work's warehouse, and so of one warehouse.
 abbrev pub WorksAreDoneAtHome : Type 0
 WorksAreDoneAtHome =
     (shared : SharedTables) (work : Work) (found : Found) (claims : List ClaimView)
@@ -79,19 +79,20 @@ ActionsCanDoTheirWork =
     (shared : SharedTables) (asked : Request) (progress : Progress) (held : List (List ClaimView)) → IsReached shared asked progress held
     → All (CanDo shared) (works_of progress)
 
--- What a transaction holds, and what the actions of its phase claim, is some of its request's footprint, each once.
+-- The groups that a transaction holds and those that the actions of its phase claim are some of its request's footprint, each
+-- once.
 abbrev pub ClaimsAreOfTheFootprint : Type 0
 ClaimsAreOfTheFootprint =
     (shared : SharedTables) (asked : Request) (progress : Progress) (held : List (List ClaimView)) → IsReached shared asked progress held
     → AreSomeOf (map group_want_of (all_claims held) ++ all_group_wants (works_of progress)) (footprint asked)
 
--- Among what a transaction holds and what the actions of its phase claim, no group comes twice.
+-- Among the groups that a transaction holds and those that the actions of its phase claim, none is twice.
 abbrev pub TransactionsClaimEachGroupOnce : Type 0
 TransactionsClaimEachGroupOnce =
     (shared : SharedTables) (asked : Request) (progress : Progress) (held : List (List ClaimView)) → IsReached shared asked progress held
     → (group : Group) → count_by (is_same group) (groups_of (map group_want_of (all_claims held) ++ all_group_wants (works_of progress))) ≤ 1
 
--- What is carried out is a request that its check accepts.
+-- The check accepts the request of a transaction that has come so far.
 abbrev pub ReachedRequestsAreAccepted : Type 0
 ReachedRequestsAreAccepted =
     (shared : SharedTables) (asked : Request) (progress : Progress) (held : List (List ClaimView)) → IsReached shared asked progress held
@@ -101,7 +102,7 @@ ReachedRequestsAreAccepted =
 abbrev pub PhasesHaveActions : Type 0
 PhasesHaveActions = (progress : Progress) → 1 ≤ length (works_of progress)
 
--- The actions of the phases before and those of the phase are few in all.
+-- The actions of the earlier phases and those of this phase are at most MOST_ACTIONS.
 abbrev pub TransactionsHaveFewActions : Type 0
 TransactionsHaveFewActions =
     (shared : SharedTables) (asked : Request) (progress : Progress) (held : List (List ClaimView)) → IsReached shared asked progress held

@@ -1,4 +1,4 @@
--- A transaction is logged, or refused by the log.
+-- A transaction is appended to the log, or refused by it.
 use Rattle.std.specs.Prelude.{◌≡◌, ◌⊎◌, ◌<◌, ◌≤◌, ◌↔◌, ℕ, Bool, true, false, List, [], ◌∷◌, ◌++◌, length, map, Ok, Err}
 use Rattle.requests.specs.declared.reply.Reply.{Reply}
 use Rattle.requests.specs.declared.reply.Reply.TheVariants.{Done, RolledBack}
@@ -14,28 +14,28 @@ use Rattle.commit_log.specs.Items.{item}
 use Rattle.commit_log.specs.PassView.{PassView, after_item, after_refusal}
 use Rattle.transactions.specs.declared.logging.Logged.{Logged}
 
--- the claims are settled, unless it was rolled back
+-- the claims are settled unless the reply is a rollback
 abbrev pub is_settled : Reply → Bool
 is_settled (Done shown) = true
 is_settled (RolledBack fault) = false
 
--- the refusal by which a fault of the log is answered
+-- the refusal for a fault of the log
 abbrev pub why_refused : AppendFault → Refusal
 why_refused fault.NoMemory = refusal.NoMemory
 why_refused fault.LogFull = refusal.LogFull
 
 module _ {J : Type 0} where
-  -- the entry stands at this place, and the session's pass has it
+  -- the entry is at this place, and the session's pass records it
   abbrev pub logged_at : ℕ → Entry → PassView → Logged J
   logged_at place entry pass =
       record { answer = Ok place; pass = after_item pass (item place entry.number entry.request entry.reply); is_settled = is_settled entry.reply }
 
-  -- a log of so many entries refused it for this
+  -- a log of this many entries refused it for this reason
   abbrev pub refused_for : AppendFault → ℕ → PassView → Logged J
   refused_for why entries pass = record { answer = Err (why_refused why); pass = after_refusal why entries pass; is_settled = false }
 
-  -- The log has the entry more, at its end, behind all that the session has seen, and the claims are as they are then; or it refused
-  -- it, and log and claims are as they were. A full log refuses every entry as such, and no other does.
+  -- The log has one entry more, at its end, behind all that the session has seen, and the claims are as the log leaves them; or
+  -- it refused the entry, and log and claims are unchanged. It refuses an entry with LogFull exactly if it is full.
   abbrev pub Logs : Entry → PassView → List Entry → List (List ClaimView) → Logged J → List Entry → List (List ClaimView) → Type 0
   Logs entry pass old held logged new after =
       ((length old < MOST_ENTRIES) × (pass.seen ≤ length old) × (logged ≡ logged_at (length old) entry pass)

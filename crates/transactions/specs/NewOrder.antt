@@ -1,5 +1,5 @@
--- A New-Order (clause 2.4.2.2): what its actions find and do, said of their claims alone, what they tell as committed and what
--- they left; and its phases.
+-- A New-Order (clause 2.4.2.2): what its actions find and do, stated of their claims alone, that is of the content that they
+-- record and leave; and its phases.
 use Rattle.std.specs.Prelude.{◌≡◌, ◌≤◌, ◌⊎◌, ◌+◌, ◌==◌, ◌&&◌, ℕ, pos, Bool, true, false, List, [], ◌∷◌, ◌++◌, length, map, find, Option, Some, None, option_map, unwrap_or, is_some, Result, Ok, Err, if◌then◌else◌, IsTrue}
 use Rattle.std.specs.List.{filter, filter_map, list_all, list_any, range_with_len}
 use Rattle.std.specs.FinMap as table
@@ -62,12 +62,12 @@ use Rattle.transactions.specs.Granted.{IsAsked, IsExclusiveOn, IsSharedOn}
 abbrev pub home_shown : Warehouse → District → HomeShown
 home_shown w d = record { warehouse_tax = w.tax; district_tax = d.tax; o_id = d.next_o_id; has_next = is_some (district_ordered d) }
 
--- one of the two rows isn't there, and nothing is done
+-- one of the two rows is missing, and nothing is done
 pub record IsHomeMissing (warehouse district : ClaimView) : Type 0 where
   pub none : (warehouse.recorded ≡ OfWarehouse None) ⊎ (district.recorded ≡ OfDistrict None)
   pub left : district.left ≡ district.recorded
 
--- both are there, this is shown of them, and left is the district with its next number, where it has one
+-- both rows are there and this is shown of them; the claim leaves the district with its next number, if there is one
 pub record IsNumberTaken (home : HomeShown) (warehouse district : ClaimView) : Type 0 where
   pub warehouse_row : Warehouse
   pub district_row : District
@@ -76,7 +76,7 @@ pub record IsNumberTaken (home : HomeShown) (warehouse district : ClaimView) : T
   pub shown : home ≡ home_shown warehouse_row district_row
   pub left : district.left ≡ OfDistrict (Some (unwrap_or (district_ordered district_row) district_row))
 
--- by what was found: a row is missing, or the order got its number
+-- a row is missing, or the order has its number
 abbrev pub FindsHome : HomeFound → ClaimView → ClaimView → Type 0
 FindsHome h.Missing warehouse district = IsHomeMissing warehouse district
 FindsHome (h.Shown home) warehouse district = IsNumberTaken home warehouse district
@@ -87,7 +87,7 @@ pub record IsHomeOrdered (n : NewOrder) (found : HomeFound) (warehouse district 
   pub district_claim : IsExclusiveOn (g.District n.home.w_id n.home.d_id) district
   pub rows : FindsHome found warehouse district
 
--- a number after which the district has one more is one that an order can have
+-- if the district has a next number, an order can have this number
 abbrev pub IsNumberKnown : HomeFound → Type 0
 IsNumberKnown h.Missing = Unit {0}
 IsNumberKnown (h.Shown home) = IsTrue home.has_next → IsTrue (is_order_id home.o_id)
@@ -98,7 +98,7 @@ IsNumberKnown (h.Shown home) = IsTrue home.has_next → IsTrue (is_order_id home
 abbrev pub orderer_of : Customer → Orderer
 orderer_of row = record { last = row.last; credit = row.credit; discount = row.discount }
 
--- what is found, where this is the row
+-- what is found if this is the row
 abbrev pub orderer_found : Option Customer → OrdererFound
 orderer_found (Some row) = c.Shown (orderer_of row)
 orderer_found None = c.Missing
@@ -110,7 +110,7 @@ pub record IsOrdererShown (n : NewOrder) (found : OrdererFound) (customers : Cla
   pub recorded : customers.recorded ≡ OfCustomers rows
   pub shown : found ≡ orderer_found (table.get rows (customer_key n.home n.c_id))
 
--- a customer who is shown is one of the scale
+-- a customer that is shown is one of the scale
 abbrev pub IsOrdererKnown : Scale → NewOrder → OrdererFound → Type 0
 IsOrdererKnown scale n c.Missing = Unit {0}
 IsOrdererKnown scale n (c.Shown orderer) = IsTrue (has_customer scale (customer_key n.home n.c_id))
@@ -121,7 +121,7 @@ IsOrdererKnown scale n (c.Shown orderer) = IsTrue (has_customer scale (customer_
 abbrev pub Numbered : Type 0
 Numbered = ℕ × OrderedLine
 
--- the lines, numbered from that number on
+-- the lines, numbered from this number on
 abbrev pub numbered : ℕ → List OrderedLine → List Numbered
 numbered number [] = []
 numbered number (line ∷ lines) = (number, line) ∷ numbered (number + 1) lines
@@ -134,43 +134,44 @@ is_in group line = is_same (group_of_supply line.1) group
 abbrev pub lines_in : Group → List OrderedLine → List Numbered
 lines_in group lines = filter (is_in group) (numbered 1 lines)
 
--- whether the line's item is there
+-- whether there is the line's item
 abbrev pub has_item_of : Database → Numbered → Bool
 has_item_of t line = table.contains_key t.items line.1.i_id
 
--- the row of ORDER-LINE that the line adds, and what is shown of it, where the item is there and its row of STOCK can be taken from
+-- the row of ORDER-LINE that the line adds, and what the reply shows of it, if there is the item and its row of STOCK can supply
+-- it
 abbrev pub line_sold : Database → NewOrder → Numbered → Option LineSold
 line_sold t n line = option_map (λ placed. record { number = line.0; row = placed.row; shown = placed.shown }) (line_placed t n line.0 line.1)
 
--- by whether all lines could be sold
+-- all lines could be sold, or a counter would leave its range
 abbrev pub sold_or_out : Option (List LineSold) → StockTaken
 sold_or_out (Some sold) = Taken sold
 sold_or_out None = OutOfRange
 
--- what the tables show of these lines of the order: an item that isn't there comes before a counter out of its range
+-- what is found of these lines of the order in these tables: a missing item comes before a counter out of its range
 abbrev pub stock_found : Database → NewOrder → List Numbered → StockTaken
 stock_found t n lines = if list_all (has_item_of t) lines then sold_or_out (all_there (map (line_sold t n) lines)) else NoItem
 
--- the tables once this was found: the order's lines are taken from the stock where they were sold, and else nothing changes
+-- the tables once this was found: the order's lines are taken from the stock if they were sold; else nothing changes
 abbrev pub once_found : StockTaken → NewOrder → Database → Database
 once_found (Taken sold) n t = record t { stocks = stocks_taken n.home.w_id t.stocks n.lines }
 once_found _ n t = t
 
--- What a New-Order found of the lines that a group supplies, and did there: what every tables with these items show of them
--- that have in the group what the claim tells; and left is what those have in the group once the lines are taken.
+-- What a New-Order found of the lines that a group supplies, and did there. What was found holds in all tables with these items
+-- whose content of the group is the recorded one; and the claim leaves what these have in the group once the lines are taken.
 pub record IsStockTaken (shared : SharedTables) (n : NewOrder) (group : Group) (found : StockTaken) (stock : ClaimView) : Type 0 where
   pub claim : IsExclusiveOn group stock
   pub shown : (t : Database) → shared_of t ≡ shared → content t stock.group ≡ stock.recorded → found ≡ stock_found t n (lines_in group n.lines)
   pub left : (t : Database) → shared_of t ≡ shared → content t stock.group ≡ stock.recorded → stock.left ≡ content (once_found found n t) stock.group
 
--- lines that are sold have the numbers of those that the group supplies, and are of items and warehouses of the scale
+-- lines that are sold have the numbers of those that the group supplies, and their items and warehouses are of the scale
 abbrev pub AreSoldKnown : Scale → NewOrder → Group → StockTaken → Type 0
 AreSoldKnown scale n group (Taken sold) =
     (map (λ line. line.number) sold ≡ map (λ (line : Numbered). line.0) (lines_in group n.lines))
     × IsTrue (list_all (λ line. is_line_within scale line.row) sold)
 AreSoldKnown scale n group _ = Unit {0}
 
--- so of each of several groups
+-- so for each of several groups
 abbrev pub AreStocksTaken : SharedTables → NewOrder → List Group → List StockTaken → List ClaimView → Type 0
 AreStocksTaken shared n [] [] [] = Unit {0}
 AreStocksTaken shared n (group ∷ groups) (one ∷ found) (stock ∷ stocks) =
@@ -179,21 +180,21 @@ AreStocksTaken shared n groups found stocks = ⊥
 
 -- ---- the order
 
--- the order is one that the tables of the scale can have
+-- tables of the scale can have the order
 pub record IsOrderKnown (scale : Scale) (order : OrderRows) : Type 0 where
   pub number : IsTrue (is_order_id order.key.o_id)
   pub customer : IsTrue (has_customer scale (customer_of_order order.key order.row))
   pub few : length order.lines ≤ 15
   pub lines : IsTrue (list_all (is_line_within scale) order.lines)
 
--- left is what every tables that have in the group what the claim tells have there with the order
+-- the claim leaves what all tables whose content of the group is the recorded one have there with the order
 pub record IsOrderAdded (order : OrderRows) (orders : ClaimView) : Type 0 where
   pub claim : IsExclusiveOn (g.Orders order.key.w_id order.key.d_id) orders
   pub left : (t : Database) → content t orders.group ≡ orders.recorded → orders.left ≡ content (with_order t order.key order.row order.lines) orders.group
 
--- ---- what becomes of an order
+-- ---- the decision on an order
 
--- whether an action found no item, and whether it sold its lines
+-- whether an action found that an item is missing
 abbrev pub is_no_item : StockTaken → Bool
 is_no_item NoItem = true
 is_no_item _ = false
@@ -203,21 +204,21 @@ abbrev pub is_taken : StockTaken → Bool
 is_taken (Taken sold) = true
 is_taken _ = false
 
--- the lines that actions sold, one action's after another's
+-- the lines that actions sold, in the order of the actions
 abbrev pub all_sold : List StockTaken → List LineSold
 all_sold [] = []
 all_sold (Taken sold ∷ found) = sold ++ all_sold found
 all_sold (_ ∷ found) = all_sold found
 
--- so many lines by their numbers, from 1 on, in whatever order they were sold
+-- the lines by their numbers, from 1 to this count, in whatever order they were sold
 abbrev pub in_order : ℕ → List LineSold → List LineSold
 in_order count sold = filter_map (λ number. find (λ line. line.number == number) sold) (range_with_len 1 count)
 
--- the rows that are added, once these lines were sold
+-- the rows that are added once these lines were sold
 abbrev pub order_rows : NewOrder → HomeShown → List LineSold → OrderRows
 order_rows n home sold = record { key = order_key n.home home.o_id; row = order_row n; lines = map (λ line. line.row) sold }
 
--- what is replied (clause 2.4.3.3)
+-- the reply (clause 2.4.3.3)
 abbrev pub order_reply : NewOrder → HomeShown → Orderer → List LineSold → NewOrderReply
 order_reply n home orderer sold = record {
   last = orderer.last;
@@ -231,11 +232,11 @@ order_reply n home orderer sold = record {
   lines = map (λ line. line.shown) sold;
 }
 
--- an order that has its number, and whose lines were sold
+-- an order that has its number and whose lines were sold
 abbrev pub order_placed : NewOrder → HomeShown → Orderer → List LineSold → OrderPlaced
 order_placed n home orderer sold = record { rows = order_rows n home sold; reply = order_reply n home orderer sold }
 
--- What becomes of an order whose stock was found so: an item that isn't there, at whatever place, comes before a number or a
+-- The decision on an order when this was found of its stock: a missing item, at whatever place, comes before a number or a
 -- counter out of its range.
 abbrev pub decided : NewOrder → HomeShown → Orderer → List StockTaken → Result OrderPlaced Fault
 decided n home orderer found =
@@ -251,7 +252,7 @@ home_of (ShowOrderer n) = n.home.w_id
 home_of (TakeStock n group) = warehouse_of group
 home_of (AddOrder order) = order.key.w_id
 
--- the groups that an action claims for its work, and how
+-- the wants of an action's work
 abbrev pub group_wants_of : Work → List GroupWant
 group_wants_of (TakeNumber n) = sharing (g.Warehouse n.home.w_id) ∷ exclusively (g.District n.home.w_id n.home.d_id) ∷ []
 group_wants_of (ShowOrderer n) = sharing (g.Customers n.home.w_id n.home.d_id) ∷ []
@@ -262,15 +263,15 @@ group_wants_of (AddOrder order) = exclusively (g.Orders order.key.w_id order.key
 abbrev pub is_supply_of : NewOrder → Group → Bool
 is_supply_of n group = list_any (λ own. is_same group own) (supplies_of n.lines)
 
--- What the work needs: it is of a New-Order that the check accepts, and a group that it claims supplies some of the lines; an
--- order that is added is one that the tables can have.
+-- The work can be done: its New-Order is one that the check accepts, and the group that it claims supplies some of the lines;
+-- tables of the scale can have an order that is added.
 abbrev pub CanDo : SharedTables → Work → Type 0
 CanDo shared (TakeNumber n) = IsAccepted shared.scale (request.NewOrder n)
 CanDo shared (ShowOrderer n) = IsAccepted shared.scale (request.NewOrder n)
 CanDo shared (TakeStock n group) = IsAccepted shared.scale (request.NewOrder n) × IsTrue (is_supply_of n group)
 CanDo shared (AddOrder order) = IsOrderKnown shared.scale order
 
--- The work found this, and was done under these claims; what it found is of an order that the check accepts.
+-- The work found this, and was done under these claims. For TakeNumber and TakeStock, the check accepts the New-Order.
 abbrev pub HasDone : SharedTables → Work → Found → List ClaimView → Type 0
 HasDone shared (TakeNumber n) one claims =
     (home : HomeFound) × (warehouse : ClaimView) × (district : ClaimView)
@@ -287,7 +288,7 @@ HasDone shared (AddOrder order) one claims = (orders : ClaimView) × (one ≡ fo
 
 -- ---- the phases
 
--- the order got its number and its customer was shown under these claims, and these are the groups that supply its lines
+-- under these claims the order got its number and its customer was shown, and these are the groups that supply its lines
 pub record IsBegun (shared : SharedTables) (asked : Request) (given : OrderBegun) (held : List (List ClaimView)) : Type 0 where
   pub is : asked ≡ request.NewOrder given.order
   pub accepted : IsAccepted shared.scale asked
@@ -301,7 +302,7 @@ pub record IsBegun (shared : SharedTables) (asked : Request) (given : OrderBegun
   pub known : IsOrdererKnown shared.scale given.order (c.Shown given.orderer)
   pub supplies : given.first ∷ given.others ≡ supplies_of given.order.lines
 
--- then its lines were sold under these claims too, and the rows and the reply are what follows
+-- then its lines were sold under these claims too, and the rows and the reply follow from that
 pub record IsSold (shared : SharedTables) (asked : Request) (given : OrderPlaced) (held : List (List ClaimView)) : Type 0 where
   pub begun : OrderBegun
   pub before : List (List ClaimView)
@@ -312,18 +313,18 @@ pub record IsSold (shared : SharedTables) (asked : Request) (given : OrderPlaced
   pub taken : AreStocksTaken shared begun.order (supplies_of begun.order.lines) found stocks
   pub next : decided begun.order begun.home begun.orderer found ≡ Ok given
 
--- what is known of how far a New-Order has come, beside the claims of each action of the phases before
+-- the facts of a New-Order that has come so far, under the claims of each action of its earlier phases
 abbrev pub IsReached : SharedTables → Request → Progress → List (List ClaimView) → Type 0
 IsReached shared asked (ReadRows n) held = IsAsked shared asked (request.NewOrder n) held
 IsReached shared asked (TakeLines given) held = IsBegun shared asked given held
 IsReached shared asked (AddRows given) held = IsSold shared asked given held
 
--- what a group of stock does for an order
+-- the work of a group of stock for an order
 abbrev pub taking : NewOrder → Group → AnyWork
 taking n group = any_work.NewOrder (TakeStock n group)
 
--- what the actions of its phase do: place 0 takes the number, and place 1 shows the customer; then each group that supplies
--- lines sells them, in the order of their first lines; and then the order is added
+-- the works of the phase's actions: place 0 takes the number, and place 1 shows the customer; then each group that supplies lines
+-- sells them, in the order of their first lines; then the order is added
 abbrev pub works_of : Progress → List AnyWork
 works_of (ReadRows n) = any_work.NewOrder (TakeNumber n) ∷ any_work.NewOrder (ShowOrderer n) ∷ []
 works_of (TakeLines given) = map (taking given.order) (given.first ∷ given.others)
@@ -334,6 +335,6 @@ abbrev pub AreRowsFound : List AnyFound → Type 0
 AreRowsFound items =
     (home : HomeFound) × (orderer : OrdererFound) × (items ≡ any_found.NewOrder (found.Home home) ∷ any_found.NewOrder (found.Orderer orderer) ∷ [])
 
--- these are what the actions of the second phase found, in turn
+-- what the actions of the second phase found, in turn
 abbrev pub AreStocksFound : List AnyFound → List StockTaken → Type 0
 AreStocksFound items stocks = items ≡ map (λ one. any_found.NewOrder (found.Stock one)) stocks

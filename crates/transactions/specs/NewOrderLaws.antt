@@ -22,8 +22,8 @@ use Rattle.transactions.specs.declared.new_order.StockTaken.{StockTaken}
 use Rattle.transactions.specs.declared.new_order.OrderPlaced.{OrderPlaced}
 use Rattle.transactions.specs.NewOrder.{AreStocksTaken, IsHomeOrdered, IsNumberKnown, IsOrderAdded, IsOrderKnown, IsOrdererKnown, IsOrdererShown, decided}
 
--- Where the order got its number, its customer was shown, its lines were sold by each group of stock in turn, and it was added,
--- it was carried out under these claims with this reply.
+-- If the order got its number, its customer was shown, its lines were sold by each group of stock in turn, and it was added, it
+-- was carried out under these claims with this reply.
 abbrev pub NewOrdersAreCarriedOut : Type 0
 NewOrdersAreCarriedOut =
     (opening : Database) (n : NewOrder) (home : HomeShown) (orderer : Orderer) (found : List StockTaken) (placed : OrderPlaced)
@@ -33,7 +33,7 @@ NewOrdersAreCarriedOut =
     → decided n home orderer found ≡ Ok placed → IsOrderAdded placed.rows orders
     → IsCarriedOut opening (request.NewOrder n) (warehouse ∷ district ∷ customers ∷ (stocks ++ orders ∷ [])) (reply.Done (kind.NewOrder placed.reply))
 
--- Where its home warehouse, its district or its customer isn't there, it was carried out with that fault as its reply.
+-- If its home warehouse, its district or its customer has no row, it was carried out with that fault as its reply.
 abbrev pub NewOrdersOfNobodyAreCarriedOut : Type 0
 NewOrdersOfNobodyAreCarriedOut =
     (opening : Database) (n : NewOrder) (home : HomeFound) (orderer : OrdererFound) (warehouse district customers : ClaimView)
@@ -41,7 +41,7 @@ NewOrdersOfNobodyAreCarriedOut =
     → (home ≡ h.Missing) ⊎ (orderer ≡ c.Missing)
     → IsCarriedOut opening (request.NewOrder n) (warehouse ∷ district ∷ customers ∷ []) (reply.RolledBack NoCustomer)
 
--- Where what was found of the stock calls for a rollback, it was carried out with that fault as its reply.
+-- If what was found of the stock requires a rollback, it was carried out with that fault as its reply.
 abbrev pub RolledBackNewOrdersAreCarriedOut : Type 0
 RolledBackNewOrdersAreCarriedOut =
     (opening : Database) (n : NewOrder) (home : HomeShown) (orderer : Orderer) (found : List StockTaken) (fault : Fault)
@@ -51,7 +51,7 @@ RolledBackNewOrdersAreCarriedOut =
     → decided n home orderer found ≡ Err fault
     → IsCarriedOut opening (request.NewOrder n) (warehouse ∷ district ∷ customers ∷ stocks) (reply.RolledBack fault)
 
--- The order that is added is one that the tables of the scale can have.
+-- Tables of the scale can have the order that is added.
 abbrev pub PlacedOrdersAreKnown : Type 0
 PlacedOrdersAreKnown =
     (shared : SharedTables) (n : NewOrder) (home : HomeShown) (orderer : Orderer) (found : List StockTaken) (placed : OrderPlaced) (stocks : List ClaimView)

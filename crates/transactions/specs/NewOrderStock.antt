@@ -1,4 +1,4 @@
--- How one group of stock sells an order's lines, and how what all groups sold is put in order.
+-- How one group of stock sells an order's lines, and how the lines that all groups sold are put in order.
 use Rattle.std.specs.Prelude.{◌≡◌, ◌≤◌, ◌-◌, ◌%◌, ℕ, List, [], ◌∷◌, map, slice_set, Option, Some, option_map, All, IsTrue}
 use Rattle.std.specs.FinMap as table
 use Rattle.schema.specs.Database.{Database}
@@ -16,7 +16,7 @@ use Rattle.transactions.specs.NewOrder.{Numbered, line_sold}
 abbrev pub line_put : Database → NewOrder → Numbered → Option StockPut
 line_put t n line = option_map (λ placed. record { key = stock_key_of line.1; row = placed.stock }) (line_placed t n line.0 line.1)
 
--- of these lines all were sold, and these are the rows of STOCK that are to be put for it
+-- all of these lines were sold, and these are the rows of STOCK that are to be put for them
 pub record IsSaleOf (t : Database) (n : NewOrder) (lines : List Numbered) (sale : Sale) : Type 0 where
   pub sold : all_there (map (line_sold t n) lines) ≡ Some sale.sold.items
   pub puts : all_there (map (line_put t n) lines) ≡ Some sale.puts.items
@@ -26,14 +26,14 @@ abbrev pub puts_done : List StockPut → Stocks → Stocks
 puts_done [] stocks = stocks
 puts_done (put ∷ puts) stocks = table.insert (puts_done puts stocks) put.key put.row
 
--- the rows are of the claim's group, and there is one at the key of each
+-- the rows are of the claim's group, and STOCK has a row at the key of each
 abbrev pub AreOfGroup : ClaimView → Stocks → List StockPut → Type 0
 AreOfGroup claim stocks puts =
     All (λ put. (claim.group ≡ g.Stock put.key.w_id (put.key.i_id % 64)) × IsTrue (table.contains_key stocks put.key)) puts
 
 -- ---- lines in order
 
--- each line has one of so many numbers, from 1 on
+-- each line has a number from 1 to this count
 abbrev pub AreNumbered : ℕ → List LineSold → Type 0
 AreNumbered count sold = All (λ line. (1 ≤ line.number) × (line.number ≤ count)) sold
 

@@ -1,5 +1,5 @@
--- An Order-Status (clause 2.6.2.2): what its actions find, said of their claims alone, what they tell as committed; and its
--- phases.
+-- An Order-Status (clause 2.6.2.2): what its actions find, stated of their claims alone, that is of the content that they record;
+-- and its phases.
 use Rattle.std.specs.Prelude.{◌≡◌, ℕ, List, [], ◌∷◌, Option, Some, None, IsTrue}
 use Rattle.rows.specs.Keys.{district_of_customer}
 use Rattle.rows.specs.declared.keys.CustomerKey.{CustomerKey}
@@ -44,7 +44,7 @@ use Rattle.transactions.specs.Granted.{IsAsked, IsSharedOn}
 abbrev pub status_customer : Customer → StatusCustomer
 status_customer row = record { first = row.first; middle = row.middle; last = row.last; balance = row.balance }
 
--- what is found, where this one was chosen
+-- what is found if this customer was chosen
 abbrev pub customer_shown : Option Keyed → CustomerShown
 customer_shown (Some c) = Shown c.0 (status_customer c.1)
 customer_shown None = Missing
@@ -58,7 +58,7 @@ pub record IsCustomerShown (o : OrderStatus) (found : CustomerShown) (customers 
 
 -- ---- the customer's last order
 
--- what it found of the last order: what every tables show of it that have in the group what the claim tells
+-- what it found of the last order, in all tables whose content of the group is the recorded one
 pub record IsOrderShown (key : CustomerKey) (order : Option StatusOrder) (orders : ClaimView) : Type 0 where
   pub claim : IsSharedOn (g.Orders key.w_id key.d_id) orders
   pub shown : (t : Database) → content t orders.group ≡ orders.recorded → order ≡ latest_shown t key
@@ -70,12 +70,13 @@ abbrev pub home_of : Work → ℕ
 home_of (ShowCustomer o) = o.home.w_id
 home_of (ShowOrder key) = key.w_id
 
--- the groups that an action claims for its work, and how
+-- the wants of an action's work
 abbrev pub group_wants_of : Work → List GroupWant
 group_wants_of (ShowCustomer o) = sharing (g.Customers o.home.w_id o.home.d_id) ∷ []
 group_wants_of (ShowOrder key) = sharing (g.Orders key.w_id key.d_id) ∷ []
 
--- What the work needs: it is of an Order-Status that the check accepts, and whose order it shows is of a district of the scale.
+-- The work can be done: its Order-Status is one that the check accepts; the customer whose order it shows is of a district of the
+-- scale.
 abbrev pub CanDo : SharedTables → Work → Type 0
 CanDo shared (ShowCustomer o) = IsAccepted shared.scale (request.OrderStatus o)
 CanDo shared (ShowOrder key) = IsTrue (has_district shared.scale (district_of_customer key))
@@ -98,25 +99,25 @@ pub record IsStatusShown (shared : SharedTables) (asked : Request) (given : Stat
   pub claims : held ≡ (customers ∷ []) ∷ []
   pub shown : IsCustomerShown order_status (Shown given.key given.customer) customers
 
--- what is known of how far an Order-Status has come, beside the claims of each action of the phases before
+-- the facts of an Order-Status that has come so far, under the claims of each action of its earlier phases
 abbrev pub IsReached : SharedTables → Request → Progress → List (List ClaimView) → Type 0
 IsReached shared asked (ReadCustomer o) held = IsAsked shared asked (request.OrderStatus o) held
 IsReached shared asked (ReadOrder given) held = IsStatusShown shared asked given held
 
--- what the actions of its phase do: the customer is read, and then the customer's last order
+-- the works of the phase's actions: first the customer is read, then the customer's last order
 abbrev pub works_of : Progress → List AnyWork
 works_of (ReadCustomer o) = any_work.OrderStatus (ShowCustomer o) ∷ []
 works_of (ReadOrder given) = any_work.OrderStatus (ShowOrder given.key) ∷ []
 
--- what the first phase found, and the second
+-- what the action of the first phase found
 abbrev pub IsCustomerFound : List AnyFound → Type 0
 IsCustomerFound items = (customer : CustomerShown) × (items ≡ any_found.OrderStatus (found.Customer customer) ∷ [])
 
--- the second phase's action found this of the last order
+-- what the action of the second phase found of the last order
 abbrev pub IsOrderFound : List AnyFound → Type 0
 IsOrderFound items = (order : Option StatusOrder) × (items ≡ any_found.OrderStatus (found.Order order) ∷ [])
 
--- what is replied of the customer of that key, with the last order (clause 2.6.3.4)
+-- the reply for the customer of that key, with the last order (clause 2.6.3.4)
 abbrev pub reply_shown : CustomerKey → StatusCustomer → Option StatusOrder → OrderStatusReply
 reply_shown key customer order = record {
   c_id = key.c_id;

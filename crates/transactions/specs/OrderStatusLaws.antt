@@ -18,8 +18,8 @@ use Rattle.transactions.specs.declared.order_status.StatusCustomer.{StatusCustom
 use Rattle.transactions.specs.declared.order_status.CustomerShown.TheVariants.{Missing, Shown}
 use Rattle.transactions.specs.OrderStatus.{IsCustomerShown, IsOrderShown, reply_shown}
 
--- Where its customer was shown, and the customer's last order, the Order-Status was carried out under these claims with
--- both as its reply.
+-- If its customer was shown, and the customer's last order, the Order-Status was carried out under these claims with both as its
+-- reply.
 abbrev pub OrderStatusesAreCarriedOut : Type 0
 OrderStatusesAreCarriedOut =
     (opening : Database) (o : OrderStatus) (key : CustomerKey) (customer : StatusCustomer) (order : Option StatusOrder)
@@ -27,14 +27,14 @@ OrderStatusesAreCarriedOut =
     → IsCustomerShown o (Shown key customer) customers → IsOrderShown key order orders
     → IsCarriedOut opening (request.OrderStatus o) (customers ∷ orders ∷ []) (reply.Done (kind.OrderStatus (reply_shown key customer order)))
 
--- Where its customer isn't there, it was carried out with that fault as its reply.
+-- If its customer is missing, it was carried out with that fault as its reply.
 abbrev pub RolledBackOrderStatusesAreCarriedOut : Type 0
 RolledBackOrderStatusesAreCarriedOut =
     (opening : Database) (o : OrderStatus) (customers : ClaimView)
     → IsCustomerShown o Missing customers
     → IsCarriedOut opening (request.OrderStatus o) (customers ∷ []) (reply.RolledBack NoCustomer)
 
--- The customer who is shown belongs to the district that was asked of.
+-- The customer that is shown belongs to the district of the request.
 abbrev pub ShownCustomersAreAtHome : Type 0
 ShownCustomersAreAtHome =
     (o : OrderStatus) (key : CustomerKey) (customer : StatusCustomer) (customers : ClaimView)

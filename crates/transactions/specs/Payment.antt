@@ -1,5 +1,5 @@
--- A payment (clause 2.5.2.2): what its actions find and do, said of their claims alone, what they tell as committed and what
--- they left; and its phases.
+-- A payment (clause 2.5.2.2): what its actions find and do, stated of their claims alone, that is of the content that they record
+-- and leave; and its phases.
 use Rattle.std.specs.Prelude.{◌≡◌, ◌⊎◌, ℕ, pos, List, [], ◌∷◌, ◌++◌, Option, Some, None, unwrap_or, IsTrue}
 use Rattle.std.specs.FinMap as map
 use Rattle.rows.specs.PaymentNote.{payment_note}
@@ -48,13 +48,13 @@ use Rattle.transactions.specs.Granted.{IsAsked, IsExclusiveOn}
 
 -- ---- the home warehouse and district
 
--- one of the two rows isn't there, and nothing is done
+-- one of the two rows is missing, and nothing is done
 pub record IsHomeMissing (warehouse district : ClaimView) : Type 0 where
   pub none : (warehouse.recorded ≡ OfWarehouse None) ⊎ (district.recorded ≡ OfDistrict None)
   pub warehouse_left : warehouse.left ≡ warehouse.recorded
   pub district_left : district.left ≡ district.recorded
 
--- both are there, a sum would leave its range, and nothing is done
+-- both rows are there, a sum would leave its range, and nothing is done
 pub record IsHomeOutOfRange (p : Payment) (warehouse district : ClaimView) : Type 0 where
   pub warehouse_row : Warehouse
   pub district_row : District
@@ -64,7 +64,7 @@ pub record IsHomeOutOfRange (p : Payment) (warehouse district : ClaimView) : Typ
   pub warehouse_left : warehouse.left ≡ warehouse.recorded
   pub district_left : district.left ≡ district.recorded
 
--- both are there and have these names, and left are both with the amount added
+-- both rows are there and have these names, and the claims leave both with the amount added
 pub record AreHomeRowsPaid (p : Payment) (warehouse_name district_name : List ℕ) (warehouse district : ClaimView) : Type 0 where
   pub warehouse_row : Warehouse
   pub district_row : District
@@ -79,7 +79,7 @@ pub record AreHomeRowsPaid (p : Payment) (warehouse_name district_name : List �
   pub warehouse_left : warehouse.left ≡ OfWarehouse (Some new_warehouse)
   pub district_left : district.left ≡ OfDistrict (Some new_district)
 
--- by what was found: the rows are missing, or a sum would leave its range, or both rows are paid
+-- a row is missing, or a sum would leave its range, or both rows are paid
 abbrev pub FindsHome : Payment → HomePaid → ClaimView → ClaimView → Type 0
 FindsHome p h.Missing warehouse district = IsHomeMissing warehouse district
 FindsHome p h.OutOfRange warehouse district = IsHomeOutOfRange p warehouse district
@@ -94,7 +94,7 @@ pub record IsHomePaid (p : Payment) (found : HomePaid) (warehouse district : Cla
 
 -- ---- the customer
 
--- the customer's row with the amount paid, or none where a sum would leave its range
+-- the customer's row with the amount paid; none if a sum would leave its range
 abbrev pub payer_paid : Payment → CustomerKey → Customer → Option Customer
 payer_paid p key row = customer_paid row (payment_note key p.home p.amount) (pos p.amount)
 
@@ -115,7 +115,7 @@ pub record IsCustomerOutOfRange (p : Payment) (customers : ClaimView) : Type 0 w
   pub out : payer_paid p key row ≡ None
   pub left : customers.left ≡ customers.recorded
 
--- the customer is there, left is the customer's row with the amount paid, and the reply shows that
+-- the customer is there, the claim leaves the customer's row with the amount paid, and the reply shows that row
 pub record IsCustomerRowPaid (p : Payment) (reply : PaymentReply) (customers : ClaimView) : Type 0 where
   pub rows : Customers
   pub key : CustomerKey
@@ -127,7 +127,7 @@ pub record IsCustomerRowPaid (p : Payment) (reply : PaymentReply) (customers : C
   pub left : customers.left ≡ OfCustomers (map.insert rows key new_row)
   pub shown : reply ≡ payment_reply key new_row
 
--- by what was found: there is no such customer, or a sum would leave its range, or the customer's row is paid
+-- there is no such customer, or a sum would leave its range, or the customer's row is paid
 abbrev pub FindsCustomer : Payment → CustomerPaid → ClaimView → Type 0
 FindsCustomer p c.Missing customers = IsCustomerMissing p customers
 FindsCustomer p c.OutOfRange customers = IsCustomerOutOfRange p customers
@@ -145,7 +145,7 @@ IsPayerKnown scale p _ = Unit {0}
 
 -- ---- the list of payments
 
--- left is the home district's list with the row at its end
+-- the claim leaves the home district's list with the row at its end
 pub record IsPaymentAdded (p : Payment) (row : History) (history : ClaimView) : Type 0 where
   pub claim : IsExclusiveOn (g.History p.home.w_id p.home.d_id) history
   pub rows : Option (List History)
@@ -160,13 +160,13 @@ home_of (PayHome p) = p.home.w_id
 home_of (PayCustomer p) = p.customer_home.w_id
 home_of (AddPayment p row) = p.home.w_id
 
--- the groups that an action claims for its work, and how
+-- the wants of an action's work
 abbrev pub group_wants_of : Work → List GroupWant
 group_wants_of (PayHome p) = exclusively (g.Warehouse p.home.w_id) ∷ exclusively (g.District p.home.w_id p.home.d_id) ∷ []
 group_wants_of (PayCustomer p) = exclusively (g.Customers p.customer_home.w_id p.customer_home.d_id) ∷ []
 group_wants_of (AddPayment p row) = exclusively (g.History p.home.w_id p.home.d_id) ∷ []
 
--- What the work needs: it is of a payment that the check accepts, and whom it names is one of the scale.
+-- The work can be done: its payment is one that the check accepts, and the customer of a row that is added is one of the scale.
 abbrev pub CanDo : SharedTables → Work → Type 0
 CanDo shared (PayHome p) = IsAccepted shared.scale (request.Payment p)
 CanDo shared (PayCustomer p) = IsAccepted shared.scale (request.Payment p)
@@ -184,8 +184,8 @@ HasDone shared (AddPayment p row) one claims = (history : ClaimView) × (one ≡
 
 -- ---- the phases
 
--- a payment that has this reply, at a warehouse and a district of these names: its row of HISTORY names the customer whom the
--- reply shows
+-- a payment that has this reply, at a warehouse and a district of these names: the customer of its row of HISTORY is the one that
+-- the reply shows
 abbrev pub paid_with : Payment → PaymentReply → List ℕ → List ℕ → Paid
 paid_with p reply warehouse district = record {
   payment = p;
@@ -193,7 +193,7 @@ paid_with p reply warehouse district = record {
   reply = reply;
 }
 
--- What becomes of a payment that found this. A row that isn't there comes before a sum out of its range.
+-- The step of a payment that found this. A missing row comes before a sum out of its range.
 abbrev pub gathered : Payment → HomePaid → CustomerPaid → Gathered
 gathered p (h.Paid warehouse district) (c.Paid reply) = Next (any_progress.Payment (AddRow (paid_with p reply warehouse district)))
 gathered p h.Missing _ = Finish (RolledBack NoCustomer)
@@ -201,7 +201,7 @@ gathered p h.OutOfRange c.Missing = Finish (RolledBack NoCustomer)
 gathered p (h.Paid warehouse district) c.Missing = Finish (RolledBack NoCustomer)
 gathered p _ _ = Finish (RolledBack Range)
 
--- the home rows and the customer's have been paid under these claims, and the row and the reply are what follows
+-- under these claims the home rows and the customer's were paid, and the row and the reply follow from that
 pub record IsPaid (shared : SharedTables) (asked : Request) (given : Paid) (held : List (List ClaimView)) : Type 0 where
   pub is : asked ≡ request.Payment given.payment
   pub accepted : IsAccepted shared.scale asked
@@ -216,12 +216,12 @@ pub record IsPaid (shared : SharedTables) (asked : Request) (given : Paid) (held
   pub payer : IsPayerKnown shared.scale given.payment customer
   pub next : gathered given.payment home customer ≡ Next (any_progress.Payment (AddRow given))
 
--- what is known of how far a payment has come, beside the claims of each action of the phases before
+-- the facts of a payment that has come so far, under the claims of each action of its earlier phases
 abbrev pub IsReached : SharedTables → Request → Progress → List (List ClaimView) → Type 0
 IsReached shared asked (PayRows p) held = IsAsked shared asked (request.Payment p) held
 IsReached shared asked (AddRow given) held = IsPaid shared asked given held
 
--- what the actions of its phase do: place 0 pays the home rows, and place 1 the customer's; then, at place 2, the row is added
+-- the works of the phase's actions: place 0 pays the home rows, and place 1 the customer's; then, at place 2, the row is added
 abbrev pub works_of : Progress → List AnyWork
 works_of (PayRows p) = any_work.Payment (PayHome p) ∷ any_work.Payment (PayCustomer p) ∷ []
 works_of (AddRow given) = any_work.Payment (AddPayment given.payment given.row) ∷ []

@@ -19,8 +19,8 @@ use Rattle.transactions.specs.declared.progress.Progress.TheVariants as any_prog
 use Rattle.transactions.specs.declared.progress.Gathered.TheVariants.{Next, Finish}
 use Rattle.transactions.specs.Payment.{IsHomePaid, IsCustomerPaid, IsPayerKnown, IsPaymentAdded, gathered}
 
--- Where its home rows and its customer's row were paid and its row was added to the list of payments, the payment was
--- carried out under these claims with this reply.
+-- If its home rows and its customer's row were paid and its row was added to the list of payments, the payment was carried out
+-- under these claims with this reply.
 abbrev pub PaymentsAreCarriedOut : Type 0
 PaymentsAreCarriedOut =
     (opening : Database) (p : Payment) (home : HomePaid) (customer : CustomerPaid) (given : Paid)
@@ -29,7 +29,7 @@ PaymentsAreCarriedOut =
     → gathered p home customer ≡ Next (any_progress.Payment (AddRow given)) → IsPaymentAdded p given.row history
     → IsCarriedOut opening (request.Payment p) (warehouse ∷ district ∷ customers ∷ history ∷ []) (reply.Done (kind.Payment given.reply))
 
--- Where what was found calls for a rollback, the payment was carried out with this fault as its reply.
+-- If what was found requires a rollback, the payment was carried out with this fault as its reply.
 abbrev pub RolledBackPaymentsAreCarriedOut : Type 0
 RolledBackPaymentsAreCarriedOut =
     (opening : Database) (p : Payment) (home : HomePaid) (customer : CustomerPaid) (fault : Fault)
@@ -38,7 +38,7 @@ RolledBackPaymentsAreCarriedOut =
     → gathered p home customer ≡ Finish (reply.RolledBack fault)
     → IsCarriedOut opening (request.Payment p) (warehouse ∷ district ∷ customers ∷ []) (reply.RolledBack fault)
 
--- The row that is added to the list of payments names the customer whose row was paid.
+-- The customer of the row that is added to the list of payments is of the scale, since the customer's row was paid.
 abbrev pub GatheredPayersAreKnown : Type 0
 GatheredPayersAreKnown =
     (scale : Scale) (p : Payment) (home : HomePaid) (customer : CustomerPaid) (given : Paid)

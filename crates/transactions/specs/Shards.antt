@@ -1,4 +1,4 @@
--- What comes of the actions that ask and wait at the slice of a warehouse.
+-- The results of the actions that ask and wait at the slice of a warehouse.
 use Rattle.std.specs.Prelude.{◌≡◌, ℕ, ◌<◌, List, [], ◌∷◌, ◌++◌, All, length, map, slice_index_or}
 use Rattle.std.specs.List.{remove}
 use Rattle.partitions.specs.Parts.{shared_of}
@@ -17,11 +17,11 @@ use Rattle.transactions.specs.Acting.{IsRan, claims_of_ran}
 use Rattle.transactions.specs.Works.{CanDo, home_of, wants_of}
 
 module _ {T : Type 0} where
-  -- an action that waits with this work, and carries this
+  -- an action that waits with this work and carries this
   abbrev pub parked : Holder → Work → T → Parked T
   parked by work carried = record { by = by; work = work; carried = carried }
 
-  -- as one who waits in the lock table
+  -- the waiting action as the lock table has it
   abbrev pub waiting_of : Parked T → WaitingAction
   waiting_of p = waiting p.by (wants_of p.work)
 
@@ -30,7 +30,7 @@ module _ {T : Type 0} where
     pub can : CanDo (shared_of s.tables) p.work
     pub home : home_of p.work ≡ s.home
 
-  -- These actions wait in the slice's lock table, in this order, and nobody else does; and each of them can do its work there.
+  -- Exactly these actions wait in the slice's lock table, in this order; and each of them can do its work there.
   pub record IsShard (warehouses : ℕ) (s : SliceView) (all : List (Parked T)) : Type 0 where
     pub warehouses_are : warehouses ≡ s.tables.scale.warehouses
     pub waiters : s.waiters ≡ map waiting_of all
@@ -46,13 +46,13 @@ module _ {T : Type 0} where
   shard_view slice all = record { slice = slice; parked = all }
 
 module _ {J T : Type 0} where
-  -- What comes of an action that need not wait, and what the shard is then: it did its work, or died of somebody who is not
-  -- younger, or there was no memory.
+  -- The result of an action that need not wait, and the shard after it: it did its work, or died of a conflicting holder that is
+  -- not younger, or an allocation failed.
   abbrev pub RunsAs : Holder → Work → ShardView T → Ran J → ShardView T → Type 0
   RunsAs by work old ran new = IsRan by old.slice work ran new.slice × SliceKeeps [] old.slice (claims_of_ran ran) new.slice × (new.parked ≡ old.parked)
 
-  -- What comes of an action that asks and carries this, and what the shard is then: it did its work, or died, or there was no
-  -- memory, and it has what it carried again; or all who are in its way are younger, and it waits, after all others.
+  -- The result of an action that asks and carries this, and the shard after it: it did its work, or died, or an allocation
+  -- failed, and it has what it carried back; or all conflicting holders are younger, and it waits, behind all others.
   abbrev pub ActsAs : Holder → Work → T → ShardView T → Acted J T → ShardView T → Type 0
   ActsAs by work carried old (acted.Ran ran recorded) new =
       (recorded ≡ carried) × IsRan by old.slice work ran new.slice × SliceKeeps [] old.slice (claims_of_ran ran) new.slice
@@ -61,8 +61,9 @@ module _ {J T : Type 0} where
       MustWait old.slice.holdings by.age (wants_of work)
       × (new ≡ shard_view (with_waiters (old.slice.waiters ++ waiting by (wants_of work) ∷ []) old.slice) (old.parked ++ parked by work carried ∷ []))
 
-  -- One of the actions that wait has its turn, whose work is at this warehouse: it need not wait any more, and all whose turn comes
-  -- before have to. It did its work, or died, or there was no memory; it has what it carried; and all others go on waiting, in their order.
+  -- One of the waiting actions has its turn. Its work is at this warehouse; it need not wait any more, and all waiting actions
+  -- whose turn comes before have to. It did its work, or died, or an allocation failed; it has what it carried; and all others go
+  -- on waiting, in their order.
   pub record OneTurn (old : ShardView T) (turned : Turned J T) (new : ShardView T) : Type 0 where
     pub index : ℕ
     pub work : Work

@@ -1,4 +1,4 @@
--- What came of the actions of a phase: what they hold, what they found, and why the transaction is refused, if it is.
+-- The results of a phase's actions: their claims, what they found, and why the transaction is refused, if it is.
 use Rattle.std.specs.Prelude.{◌≡◌, ℕ, List, [], ◌∷◌, ◌++◌, Option, Some, None}
 use Rattle.requests.specs.declared.group.Group.{Group}
 use Rattle.requests.specs.declared.refusal.Refusal.{Refusal}
@@ -8,7 +8,7 @@ use Rattle.transactions.specs.declared.work.Found.{Found}
 use Rattle.transactions.specs.declared.acting.Ran.{Ran}
 use Rattle.transactions.specs.declared.acting.Ran.TheVariants.{Done, Died, NoMemory}
 
--- the first who died comes before lack of memory
+-- the first death; a death comes before NoMemory
 abbrev pub earlier_death : Refusal → Group → ℕ → Refusal
 earlier_death (refusal.Died first older) group holder = refusal.Died first older
 earlier_death _ group holder = refusal.Died group holder
@@ -26,7 +26,7 @@ module _ {J : Type 0} where
   found_by (Died group holder) = []
   found_by NoMemory = []
 
-  -- the claims of the actions that have done their work, by place, those of each together
+  -- the claims of each action that has done its work, by place
   abbrev pub held_in : List (Ran J) → List (List ClaimView)
   held_in [] = []
   held_in (ran ∷ rans) = held_by ran ++ held_in rans
@@ -36,13 +36,13 @@ module _ {J : Type 0} where
   found_in [] = []
   found_in (ran ∷ rans) = found_by ran ++ found_in rans
 
-  -- why a transaction is refused for which there was a reason before, after one action more
+  -- why a transaction that is refused already is refused after one more action
   abbrev pub refused_still : Refusal → Ran J → Refusal
   refused_still why (Done claims found) = why
   refused_still why (Died group holder) = earlier_death why group holder
   refused_still why NoMemory = why
 
-  -- why the transaction is refused, if it is, after one action more
+  -- why the transaction is refused, if it is, after one more action
   abbrev pub refused_by : Option Refusal → Ran J → Option Refusal
   refused_by (Some why) ran = Some (refused_still why ran)
   refused_by None (Done claims found) = None
@@ -54,7 +54,7 @@ module _ {J : Type 0} where
   refusal_of why [] = why
   refusal_of why (ran ∷ rans) = refusal_of (refused_by why ran) rans
 
--- for what it is refused in the end: as it was to be, and else for lack of memory for what follows
+-- why it is refused in the end: for the reason so far, or else with NoMemory if an allocation fails for the next step
 abbrev pub IsRefusedFor : Option Refusal → Refusal → Type 0
 IsRefusedFor (Some first) why = why ≡ first
 IsRefusedFor None why = why ≡ refusal.NoMemory

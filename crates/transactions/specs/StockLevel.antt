@@ -1,5 +1,5 @@
--- A Stock-Level (clause 2.8.2.2): what its actions find, said of their claims alone, what they tell as committed; and its
--- phases.
+-- A Stock-Level (clause 2.8.2.2): what its actions find, stated of their claims alone, that is of the content that they record;
+-- and its phases.
 use Rattle.std.specs.Prelude.{◌≡◌, ℕ, List, [], ◌∷◌, map}
 use Rattle.std.specs.List.{range_with_len}
 use Rattle.std.specs.FinMap as table
@@ -33,21 +33,21 @@ use Rattle.transactions.specs.Granted.{IsAsked, IsSharedOn}
 
 -- ---- the district
 
--- The number of the district's next order was found: that of every tables that have in the group what the claim tells.
+-- The number of the district's next order, in all tables whose content of the group is the recorded one.
 pub record IsNextFound (home : DistrictKey) (next : ℕ) (district : ClaimView) : Type 0 where
   pub claim : IsSharedOn (g.District home.w_id home.d_id) district
   pub shown : (t : Database) → content t district.group ≡ district.recorded → next ≡ next_order (table.get t.districts home)
 
 -- ---- the lines of its last orders
 
--- the item of each line of the district's 20 orders before this number was found, likewise
+-- the item of each line of the district's 20 orders before this number, likewise
 pub record AreItemsFound (home : DistrictKey) (next : ℕ) (items : List ℕ) (orders : ClaimView) : Type 0 where
   pub claim : IsSharedOn (g.Orders home.w_id home.d_id) orders
   pub shown : (t : Database) → content t orders.group ≡ orders.recorded → items ≡ recent_items t home next
 
 -- ---- the stock
 
--- the groups of all stock of a warehouse
+-- all groups of a warehouse's stock
 abbrev pub stock_of : ℕ → List Group
 stock_of w_id = map (λ residue. g.Stock w_id residue) (range_with_len 0 64)
 
@@ -57,7 +57,7 @@ AreSharedOn [] [] = Unit {0}
 AreSharedOn (group ∷ groups) (claim ∷ claims) = IsSharedOn group claim × AreSharedOn groups claims
 AreSharedOn groups claims = ⊥
 
--- how many of these items are low was found: as many as in every tables that have in the groups what the claims tell
+-- how many of these items are low, in all tables whose contents of the groups are the recorded ones
 pub record IsLowFound (s : StockLevel) (items : List ℕ) (count : ℕ) (stock : List ClaimView) : Type 0 where
   pub claims : AreSharedOn (stock_of s.home.w_id) stock
   pub shown : (t : Database) → Records (content t) stock → count ≡ low_stock t s.home.w_id s.threshold items
@@ -70,13 +70,13 @@ home_of (ReadNext s) = s.home.w_id
 home_of (ReadItems s next) = s.home.w_id
 home_of (CountLow s items) = s.home.w_id
 
--- the groups that an action claims for its work, and how
+-- the wants of an action's work
 abbrev pub group_wants_of : Work → List GroupWant
 group_wants_of (ReadNext s) = sharing (g.District s.home.w_id s.home.d_id) ∷ []
 group_wants_of (ReadItems s next) = sharing (g.Orders s.home.w_id s.home.d_id) ∷ []
 group_wants_of (CountLow s items) = map (λ residue. sharing (g.Stock s.home.w_id residue)) (range_with_len 0 64)
 
--- What the work needs: it is of a Stock-Level that the check accepts.
+-- The work can be done: its Stock-Level is one that the check accepts.
 abbrev pub CanDo : SharedTables → Work → Type 0
 CanDo shared (ReadNext s) = IsAccepted shared.scale (request.StockLevel s)
 CanDo shared (ReadItems s next) = IsAccepted shared.scale (request.StockLevel s)
@@ -101,7 +101,7 @@ pub record IsNextRead (shared : SharedTables) (asked : Request) (s : StockLevel)
   pub claims : held ≡ (district ∷ []) ∷ []
   pub read : IsNextFound s.home next district
 
--- and then the items of the district's last 20 orders, under this one
+-- and then the items of the district's last 20 orders, under the second claim
 pub record AreItemsRead (shared : SharedTables) (asked : Request) (s : StockLevel) (items : List ℕ) (held : List (List ClaimView)) : Type 0 where
   pub is : asked ≡ request.StockLevel s
   pub accepted : IsAccepted shared.scale asked
@@ -112,34 +112,34 @@ pub record AreItemsRead (shared : SharedTables) (asked : Request) (s : StockLeve
   pub next_read : IsNextFound s.home next district
   pub read : AreItemsFound s.home next items orders
 
--- what is known of how far a Stock-Level has come, beside the claims of each action of the phases before
+-- the facts of a Stock-Level that has come so far, under the claims of each action of its earlier phases
 abbrev pub IsReached : SharedTables → Request → Progress → List (List ClaimView) → Type 0
 IsReached shared asked (at.ReadNext s) held = IsAsked shared asked (request.StockLevel s) held
 IsReached shared asked (at.ReadItems s next) held = IsNextRead shared asked s next held
 IsReached shared asked (at.CountLow s items) held = AreItemsRead shared asked s items held
 
--- what the action of its phase does: the district is read, then the lines of its last orders, then the stock
+-- the work of the phase's action: first the district is read, then the lines of its last orders, then the stock
 abbrev pub work_of : Progress → Work
 work_of (at.ReadNext s) = ReadNext s
 work_of (at.ReadItems s next) = ReadItems s next
 work_of (at.CountLow s items) = CountLow s items
 
--- that is the phase's one action
+-- this is the phase's only action
 abbrev pub works_of : Progress → List AnyWork
 works_of progress = any_work.StockLevel (work_of progress) ∷ []
 
--- what the actions of the three phases found
+-- what the action of the first phase found
 abbrev pub IsNextOf : List AnyFound → Type 0
 IsNextOf items = (next : ℕ) × (items ≡ any_found.StockLevel (found.Next next) ∷ [])
 
--- the second
+-- what the action of the second phase found
 abbrev pub AreItemsOf : List AnyFound → Type 0
 AreItemsOf items = (lines : List ℕ) × (items ≡ any_found.StockLevel (found.Items lines) ∷ [])
 
--- the third
+-- what the action of the third phase found
 abbrev pub IsLowOf : List AnyFound → Type 0
 IsLowOf items = (count : ℕ) × (items ≡ any_found.StockLevel (found.Low count) ∷ [])
 
--- what is replied (clause 2.8.3.3)
+-- the reply (clause 2.8.3.3)
 abbrev pub reply_counted : ℕ → StockLevelReply
 reply_counted count = record { count = count }

@@ -9,8 +9,8 @@ use Rattle.tickets.specs.Claims.{ClaimView}
 use Rattle.commit_log.specs.Claimed.{IsCarriedOut}
 use Rattle.transactions.specs.StockLevel.{AreItemsFound, IsLowFound, IsNextFound, reply_counted}
 
--- Where the district's next number was read, then the items of the orders before it, and then how many of these are low, the
--- Stock-Level was carried out under these claims, with that as its reply.
+-- If the district's next number was read, then the items of the orders before it, and then how many of these are low, the
+-- Stock-Level was carried out under these claims, with that count as its reply.
 abbrev pub StockLevelsAreCarriedOut : Type 0
 StockLevelsAreCarriedOut =
     (opening : Database) (s : StockLevel) (next : ℕ) (items : List ℕ) (count : ℕ) (district orders : ClaimView) (stock : List ClaimView)

@@ -1,4 +1,4 @@
--- What the actions of all transactions do, and what they claim for it, by kind.
+-- The works of the actions of all transactions, and what they want, by kind.
 use Rattle.std.specs.Prelude.{◌≡◌, ℕ, List, [], ◌∷◌, ◌++◌, map}
 use Rattle.partitions.specs.Parts.{SharedTables}
 use Rattle.requests.specs.declared.request.Request.{Request}
@@ -31,7 +31,7 @@ home_of (OrderStatus work) = order_status.home_of work
 home_of (Delivery work) = delivery.home_of work
 home_of (StockLevel work) = stock_level.home_of work
 
--- the warehouse whose terminal asks
+-- the warehouse whose terminal asks the request
 abbrev pub home_of_request : Request → ℕ
 home_of_request (request.NewOrder asked) = asked.home.w_id
 home_of_request (request.Payment asked) = asked.home.w_id
@@ -39,12 +39,12 @@ home_of_request (request.OrderStatus asked) = asked.home.w_id
 home_of_request (request.Delivery asked) = asked.w_id
 home_of_request (request.StockLevel asked) = asked.home.w_id
 
--- the warehouse of the claims of an action, which are all on groups of one
+-- the warehouse of the claims of an action, which are all on groups of one warehouse
 abbrev pub home_of_claims : List ClaimView → ℕ
 home_of_claims [] = 0
 home_of_claims (claim ∷ claims) = warehouse_of claim.group
 
--- the groups that an action claims for its work, and how
+-- the wants of an action's work
 abbrev pub group_wants_of : Work → List GroupWant
 group_wants_of (NewOrder work) = new_order.group_wants_of work
 group_wants_of (Payment work) = payment.group_wants_of work
@@ -52,15 +52,15 @@ group_wants_of (OrderStatus work) = order_status.group_wants_of work
 group_wants_of (Delivery work) = delivery.group_wants_of work
 group_wants_of (StockLevel work) = stock_level.group_wants_of work
 
--- a want of one group by itself, as a want has it
+-- a want of one group by itself, as the lock table takes it
 abbrev pub want_of : GroupWant → Want
 want_of group_want = record { extent = One group_want.group; mode = group_want.mode }
 
--- what the action wants of the lock table of its warehouse
+-- what the action asks the lock table of its warehouse for
 abbrev pub wants_of : Work → List Want
 wants_of work = map want_of (group_wants_of work)
 
--- what the work needs
+-- the work can be done
 abbrev pub CanDo : SharedTables → Work → Type 0
 CanDo shared (NewOrder work) = new_order.CanDo shared work
 CanDo shared (Payment work) = payment.CanDo shared work
@@ -84,7 +84,7 @@ HaveAllDone shared [] [] [] = Unit {0}
 HaveAllDone shared (work ∷ works) (one ∷ found) (held ∷ claims) = HasDone shared work one held × HaveAllDone shared works found claims
 HaveAllDone shared works found claims = ⊥
 
--- what all of them want, by place
+-- the wants of all works, by place
 abbrev pub all_group_wants : List Work → List GroupWant
 all_group_wants [] = []
 all_group_wants (work ∷ works) = group_wants_of work ++ all_group_wants works

@@ -14,19 +14,19 @@ use std::alloc::Global;
 use tickets::{Claim, Claims, GroupNames};
 use wait_die::Age;
 
-/// What came of an action.
+/// The result of an action.
 #[derive(Drop)]
 pub enum Ran<J: GroupNames> {
     /// It did its work under these claims, and found this.
     Done(Claims<J>, Found),
-    /// It did nothing, since others who are not younger are in its way: `group` is the first, in the order of groups,
-    /// on which one is, and `holder` the age of the oldest there.
+    /// It did nothing, since holders that are not younger conflict: `group` is the first group, in the order of groups, on which
+    /// there is one, and `holder` the age of the oldest one there.
     Died { group: Group, holder: Age },
-    /// It did nothing, since there was no memory.
+    /// It did nothing, since an allocation failed.
     NoMemory,
 }
 
-// Does the work under the claims that were granted for it. Where there is no memory, they are given back.
+// Does the work under the claims that were granted for it. If an allocation fails, gives the claims back.
 pub(crate) fn run_under<J: GroupNames>(
     alloc: Global,
     slice: &mut Slice<J>,
@@ -48,8 +48,8 @@ pub(crate) fn run_under<J: GroupNames>(
     }
 }
 
-/// Gives the claims of an action back to the slice of their warehouse, once what it left is committed. It
-/// takes no memory.
+/// Gives the claims of an action back to the slice of their warehouse. Requires that what they left is committed. Never
+/// allocates.
 pub fn settle<J: GroupNames>(slice: &mut Slice<J>, claims: Claims<J>)
     requires settled { All CanBeSettled claims }
     requires home { All (IsClaimAt slice.old.home) claims }
@@ -69,8 +69,7 @@ fn give_back<J: GroupNames>(slice: &mut Slice<J>, mut claims: Vec<Claim<J>>)
     }
 }
 
-/// Takes back what an action did under its claims, and gives them back, in the slice of their warehouse. It
-/// takes no memory.
+/// Undoes what an action did under its claims, and gives them back to the slice of their warehouse. Never allocates.
 pub fn undo<J: GroupNames>(slice: &mut Slice<J>, claims: Claims<J>)
     requires undone { All CanBeUndone claims }
     requires home { All (IsClaimAt slice.old.home) claims }

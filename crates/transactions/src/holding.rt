@@ -1,4 +1,4 @@
-//! What the actions of a transaction hold.
+//! The claims that a transaction holds.
 ghost use Rattle.std.specs.Prelude.{◌≡◌, ◌<◌, [], ◌∷◌, ◌++◌, length, IfNone, IfOk, option_to_list};
 
 use crate::MOST_ACTIONS;
@@ -7,8 +7,8 @@ use std::alloc::Global;
 use std::marker::Model;
 use tickets::{Claims, GroupNames};
 
-/// The claims of actions that have done their work, by place, with room for those of all that a transaction
-/// has. Only its opening takes memory.
+/// The claims of actions that have done their work, by place, with capacity for those of all actions of a transaction. Allocates
+/// only as it is opened.
 #[derive(Drop)]
 pub struct HeldClaims<J: GroupNames> {
     pub(crate) places: Vec<Claims<J>>,
@@ -31,7 +31,7 @@ impl<J: GroupNames> Model for HeldClaims<J> {
 }
 
 impl<J: GroupNames> HeldClaims<J> {
-    /// Nothing is held yet.
+    /// Opens it without claims. Returns NoMemory if the allocation fails.
     pub fn open(alloc: Global) -> Result<HeldClaims<J>, NoMemory>
         ensures { IfOk result (λ held. held ≡ []) }
     {
@@ -39,14 +39,14 @@ impl<J: GroupNames> HeldClaims<J> {
         Ok(HeldClaims { places })
     }
 
-    /// How many actions hold claims.
+    /// The number of actions that hold claims.
     pub fn len(&self) -> usize
         ensures { result ≡ length self.now }
     {
         self.places.len()
     }
 
-    /// The action of the next place holds these.
+    /// Adds the claims of the action of the next place. Requires that there are fewer than MOST_ACTIONS.
     pub fn put(&mut self, claims: Claims<J>)
         requires { length self.old < MOST_ACTIONS }
         ensures { self.new ≡ self.old ++ claims ∷ [] }
@@ -54,7 +54,7 @@ impl<J: GroupNames> HeldClaims<J> {
         self.places.push_reserved(claims);
     }
 
-    /// The claims of the action of the last place, which are held no more.
+    /// Takes the claims of the action of the last place.
     pub fn take_last(&mut self) -> Option<Claims<J>>
         ensures front { self.old ≡ self.new ++ option_to_list result }
         ensures none { IfNone result ((self.old ≡ []) × (self.new ≡ [])) }

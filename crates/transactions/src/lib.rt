@@ -1,15 +1,14 @@
-//! Transactions as flow graphs: phases one after another, and in each phase actions that run at the same time,
-//! in any order, under claims. What a phase's actions found is gathered, and the next phase is given what comes
-//! of it.
+//! Transactions as flow graphs: phases one after another, and in each phase actions that run at the same time, in any order,
+//! under claims. The results of a phase's actions are gathered, and the next phase is made of them.
 //!
-//! Each kind of transaction has a module of its own: what its actions do in each place and what they find, its
-//! phases, and its law. `Work`, `Found` and `Progress` are sums of the kinds' own.
+//! Each kind of transaction has a module of its own: its actions and what they find, its phases, and its law. `Work`, `Found` and
+//! `Progress` are sums over the kinds.
 //!
-//! All that an action does is at one warehouse. It claims all that its work needs or nothing, alone what it
-//! changes and shared what it reads, and gives it back once what it did is committed or taken back. Where all
-//! actions of a phase have done their work, in whatever order, the next phase is given what is known to it, or
-//! the machine carries the request out with the same reply, and leaves what the claims leave: that is
-//! `FollowsFrom`, the contract of `Progress::gather`. Clauses named are those of TPC-C 5.11.
+//! An action works at one warehouse. It claims all groups that its work needs or none, exclusively those that it changes and
+//! shared those that it only reads, and gives them back once its work is committed or undone. When all actions of a phase have
+//! done their work, in whatever order, the facts that the next phase needs hold; or the machine carries the request out with the
+//! same reply, and leaves what the claims leave. This is `FollowsFrom`, the contract of `Progress::gather`. Clause numbers are
+//! those of TPC-C 5.11.
 #![tactic(auto)]
 
 mod acting;

@@ -2,7 +2,7 @@ ghost use Rattle.std.specs.Prelude.{◌≡◌};
 
 use std::marker::Model;
 
-/// Values in order. Contracts see their list, so that a copy equals what it was made of.
+/// A vector whose model is its list, so that a copy equals the original.
 #[derive(Clone, Debug, Drop)]
 pub struct Listed<T: Drop> {
     values: Vec<T>,
@@ -17,7 +17,7 @@ impl<T: Drop> Model for Listed<T> {
 }
 
 impl<T: Drop> Listed<T> {
-    /// These values. It takes no memory.
+    /// Wraps these values. Never allocates.
     pub fn new(values: Vec<T>) -> Self
         ensures { result ≡ values.items }
     {
@@ -31,7 +31,7 @@ impl<T: Drop> Listed<T> {
         self.values.as_slice()
     }
 
-    /// The values, in order. It takes no memory.
+    /// The values, in order. Never allocates.
     pub fn into_vec(self) -> Vec<T>
         ensures { result.items ≡ self }
     {

@@ -1,4 +1,4 @@
-//! A transaction is logged, or refused by the log.
+//! Appends a transaction to the log.
 ghost use Rattle.std.specs.Prelude.{◌≡◌};
 ghost use Rattle.requests.specs.Check.{IsAccepted};
 ghost use Rattle.tickets.specs.Claims.{all_claims};
@@ -10,20 +10,20 @@ use crate::HeldClaims;
 use commit_log::{AppendFault, Entry, Log, Names, Pass};
 use requests::{Refusal, Reply};
 
-/// What came of a transaction that was to be logged.
+/// The result of `HeldClaims::log`.
 #[derive(Drop)]
 pub struct Logged<J: Names> {
-    /// The place of its entry in the log, or why it is refused.
+    /// The place of the transaction's entry in the log, or why it is refused.
     pub answer: Result<u32, Refusal>,
-    /// The pass of its session, as it is then.
+    /// The pass of its session, after that.
     pub pass: Pass<J>,
-    /// Whether the claims of its actions are settled; else what was done under them is to be taken back.
+    /// Whether the claims of its actions are to be settled; else what was done under them is to be undone.
     pub is_settled: bool,
 }
 
 impl<J: Names> HeldClaims<J> {
-    /// The log has the entry more, which was carried out under these claims: what they left is committed from then on, unless it was
-    /// rolled back. Or the entry is refused, where there is no memory for it, or the log is full: the log and the claims are then as they were.
+    /// Appends the entry, which was carried out under these claims, to the log: from then on what they left is committed, unless
+    /// the entry is a rollback. Refuses it if an allocation fails or the log is full; the log and the claims are unchanged then.
     pub fn log(&mut self, log: &mut Log<J>, pass: Pass<J>, entry: Entry) -> Logged<J>
         requires session { entry.session ≡ pass.session }
         requires number { pass.asks.number ≡ entry.number }
@@ -48,14 +48,14 @@ impl<J: Names> HeldClaims<J> {
     }
 }
 
-// Whether the claims are settled: what a transaction that was rolled back did is taken back.
+// Whether the claims are to be settled: those of a rollback are to be undone.
 fn is_settled(reply: &Reply) -> bool
     ensures { result ≡ spec.is_settled reply.now }
 {
     !matches!(reply, Reply::RolledBack(_))
 }
 
-// The refusal by which a fault of the log is answered.
+// The refusal for a fault of the log.
 fn why_refused(fault: AppendFault) -> Refusal
     ensures { result ≡ spec.why_refused fault }
 {

@@ -1,6 +1,6 @@
-//! A New-Order (clause 2.4): what its actions do and find, its phases, and its law. Its district gives it a
-//! number and its customer is shown; then each group of stock that supplies its lines sells them, all at the
-//! same time; and then it is added (clause 2.4.2.2).
+//! A New-Order (clause 2.4): its actions and what they find, its phases, and its law. In the first phase its district gives it a
+//! number and its customer is shown; in the second each group of stock that supplies its lines sells them, all at the same time;
+//! in the third it is added (clause 2.4.2.2).
 ghost use Rattle.transactions.specs.NewOrderLaws.{NewOrdersAreCarriedOut, NewOrdersOfNobodyAreCarriedOut, PlacedOrdersAreKnown, RolledBackNewOrdersAreCarriedOut};
 
 mod deciding;
@@ -21,9 +21,9 @@ pub use work::{Found, Work};
 /// What a New-Order finds of its home warehouse and district.
 #[derive(Clone, Debug, PartialEq, Eq, Drop)]
 pub enum HomeFound {
-    /// One of the two isn't there.
+    /// There is no row of one of the two.
     Missing,
-    /// Both are there. Where the district has a next number, it has it now.
+    /// Both rows are there. If the district has a next number, it has it now.
     Shown(HomeShown),
 }
 
@@ -32,9 +32,9 @@ pub enum HomeFound {
 pub struct HomeShown {
     pub warehouse_tax: Rate,
     pub district_tax: Rate,
-    /// The number that the order gets: 1 to 10,000,000.
+    /// The number of the order: 1 to 10,000,000.
     pub o_id: u32,
-    /// Whether D_NEXT_O_ID can grow. Where not, no order can have the number.
+    /// Whether D_NEXT_O_ID can grow. If not, no order can have the number.
     pub has_next: bool,
 }
 
@@ -57,9 +57,9 @@ pub struct Orderer {
 /// What a New-Order finds of the lines that one group of stock supplies.
 #[derive(Drop)]
 pub enum StockTaken {
-    /// There is no such item as one of them orders, and nothing is done.
+    /// There is no item of one of them; nothing is done.
     NoItem,
-    /// A counter of a row of STOCK would leave its range, and nothing is done.
+    /// A counter of a row of STOCK would leave its range; nothing is done.
     OutOfRange,
     /// They are taken from the stock.
     Taken(Listed<LineSold>),
@@ -72,17 +72,17 @@ pub struct LineSold {
     pub number: usize,
     /// The row of ORDER-LINE that is to be added.
     pub row: OrderLine,
-    /// What is shown of it.
+    /// What the reply shows of it.
     pub shown: NewOrderLine,
 }
 
-/// An order that has its number, and whose customer was shown.
+/// An order that has its number and whose customer was shown.
 #[derive(Drop)]
 pub struct OrderBegun {
     pub order: NewOrder,
     pub home: HomeShown,
     pub orderer: Orderer,
-    /// The groups that supply its lines, each once, by its first line: the first, and the others.
+    /// The groups that supply its lines, each once, in the order of their first lines: the first group, and the others.
     pub first: Group,
     pub others: Listed<Group>,
 }
@@ -96,34 +96,33 @@ pub struct OrderRows {
     pub lines: Listed<OrderLine>,
 }
 
-/// An order that has its number, and whose lines were sold.
+/// An order that has its number and whose lines were sold.
 #[derive(Drop)]
 pub struct OrderPlaced {
     /// The rows that are to be added.
     pub rows: OrderRows,
-    /// What it will reply.
+    /// Its reply.
     pub reply: NewOrderReply,
 }
 
-/// Where each action did its part, the New-Order is carried out as the machine does it: the reply is the
-/// machine's, and the claims leave what the machine leaves.
+/// Law: if each action did its work, the New-Order is carried out as the machine does it: the reply is the machine's, and the
+/// claims leave what the machine leaves.
 pub fn new_orders_are_carried_out()
     ensures { NewOrdersAreCarriedOut }
 {}
 
-/// Where its home warehouse, its district or its customer isn't there, the machine rolls the New-Order back, with
-/// that fault.
+/// Law: if there is no row of its home warehouse, its district or its customer, the machine rolls the New-Order back, with that
+/// fault.
 pub fn new_orders_of_nobody_are_carried_out()
     ensures { NewOrdersOfNobodyAreCarriedOut }
 {}
 
-/// Where what was found of the stock calls for it, the machine rolls the New-Order back, with the same fault.
+/// Law: if what was found of the stock requires it, the machine rolls the New-Order back, with the same fault.
 pub fn rolled_back_new_orders_are_carried_out()
     ensures { RolledBackNewOrdersAreCarriedOut }
 {}
 
-/// The order that is added is one that the tables can have: its number, its customer and its lines are of the
-/// scale.
+/// Law: the tables can have the order that is added: its number, its customer and its lines are of the scale.
 pub fn placed_orders_are_known()
     ensures { PlacedOrdersAreKnown }
 {}

@@ -1,5 +1,5 @@
-//! An Order-Status (clause 2.6): what its actions do and find, its phases, and its law. It reads its customer, and
-//! then the customer's last order (clause 2.6.2.2).
+//! An Order-Status (clause 2.6): its actions and what they find, its phases, and its law. It reads its customer, and then the
+//! customer's last order (clause 2.6.2.2).
 ghost use Rattle.std.specs.Prelude.{◌≡◌, [], ◌∷◌, length, slice_get, IfOk, OnErr};
 ghost use Rattle.partitions.specs.Parts.{shared_of};
 ghost use Rattle.requests.specs.declared.group.Group.TheVariants as group;
@@ -22,12 +22,12 @@ use slices::Slice;
 use std::alloc::Global;
 use tickets::{Claim, GroupNames};
 
-/// What an action of an Order-Status does.
+/// The work of an action of an Order-Status.
 #[derive(Drop)]
 pub enum Work {
-    /// Its customer is read.
+    /// Reads its customer.
     ShowCustomer(OrderStatus),
-    /// The customer's last order is read.
+    /// Reads the customer's last order.
     ShowOrder(CustomerKey),
 }
 
@@ -35,7 +35,7 @@ pub enum Work {
 #[derive(Drop)]
 pub enum Found {
     Customer(CustomerShown),
-    /// `None` where the customer has no order.
+    /// `None` if the customer has no order.
     Order(Option<StatusOrder>),
 }
 
@@ -54,19 +54,19 @@ pub struct StatusCustomer {
 pub enum CustomerShown {
     /// The district has no such customer.
     Missing,
-    /// Who was chosen, and what is shown of the row.
+    /// The key of the customer that was chosen, and what is shown of the row.
     Shown {
         key: CustomerKey,
         customer: StatusCustomer,
     },
 }
 
-/// How far an Order-Status has come: its phase, with what that was given.
+/// How far an Order-Status has come: its phase, with the phase's input.
 #[derive(Drop)]
 pub enum Progress {
-    /// Its customer is read.
+    /// Reads its customer.
     ReadCustomer(OrderStatus),
-    /// The last order is read of the customer who was.
+    /// Reads the last order of the customer that was read.
     ReadOrder(StatusShown),
 }
 
@@ -78,7 +78,7 @@ pub struct StatusShown {
 }
 
 impl Work {
-    // The W_ID of the warehouse at which it is done.
+    // The W_ID of the warehouse at which the work is done.
     pub(crate) fn home(&self) -> u32
         ensures { result ≡ home_of self.now }
     {
@@ -88,7 +88,7 @@ impl Work {
         }
     }
 
-    // How many groups it claims.
+    // The number of groups that the work wants.
     pub(crate) fn group_want_count(&self) -> usize
         ensures { result ≡ length (group_wants_of self.now) }
     {
@@ -118,8 +118,7 @@ impl Work {
         }
     }
 
-    // Does the work, in the slice of its warehouse, under the claims that were granted for it. It changes
-    // nothing.
+    // Does the work in the slice of its warehouse, under the claims that were granted for it. Changes nothing.
     pub(crate) fn run<J: GroupNames>(
         self,
         alloc: Global,
@@ -145,8 +144,7 @@ impl Work {
     }
 }
 
-/// Shows the customer of an Order-Status, who is chosen by number or by last name. It takes no memory, and
-/// changes nothing.
+/// Shows the customer of an Order-Status, who is chosen by number or by last name. Never allocates, and changes nothing.
 pub fn show_customer<J: GroupNames>(
     slice: &mut Slice<J>,
     customers: &mut Claim<J>,
@@ -178,8 +176,8 @@ pub fn show_customer<J: GroupNames>(
     }
 }
 
-/// Shows the customer's last order with its lines; `None` exactly where there is none. It changes nothing,
-/// and its lines alone take memory.
+/// Shows the customer's last order with its lines; `None` exactly if there is none. Changes nothing, and allocates only for the
+/// lines.
 pub fn show_order<J: GroupNames>(
     alloc: Global,
     slice: &mut Slice<J>,
@@ -197,7 +195,7 @@ pub fn show_order<J: GroupNames>(
 }
 
 impl Progress {
-    // What the actions of its phase do, by place. Want of memory leaves nothing behind.
+    // The works of the phase's actions, by place. Returns NoMemory if an allocation fails; nothing is left then.
     pub(crate) fn works(&self, alloc: Global) -> Result<Vec<crate::Work>, NoMemory>
         ensures { IfOk result (λ works. works.items ≡ works_of self.now) }
     {
@@ -210,7 +208,7 @@ impl Progress {
         Ok(works)
     }
 
-    // What follows, by what its actions found, by place. It takes no memory.
+    // The step after the phase, from what its actions found, by place. Never allocates.
     pub(crate) fn gather(
         self,
         _alloc: Global,
@@ -226,7 +224,7 @@ impl Progress {
     }
 }
 
-// The first phase has met: who was read, or that the customer isn't there.
+// The step after the first phase: the customer's order is to be read, or a rollback if the customer is missing.
 fn gather_customer(asked: OrderStatus, found: Vec<crate::Found>) -> Gathered
     requires { HasFound (any.OrderStatus (Progress.ReadCustomer asked)) found.items }
     ensures { FollowsFrom (any.OrderStatus (Progress.ReadCustomer asked)) found.items result }
@@ -240,7 +238,7 @@ fn gather_customer(asked: OrderStatus, found: Vec<crate::Found>) -> Gathered
     }
 }
 
-// The second phase has met: the Order-Status is carried out.
+// The step after the second phase: the Order-Status is carried out.
 fn gather_order(shown: StatusShown, found: Vec<crate::Found>) -> Gathered
     requires { HasFound (any.OrderStatus (Progress.ReadOrder shown)) found.items }
     ensures { FollowsFrom (any.OrderStatus (Progress.ReadOrder shown)) found.items result }
@@ -250,7 +248,7 @@ fn gather_order(shown: StatusShown, found: Vec<crate::Found>) -> Gathered
     Gathered::Finish(Reply::Done(Shown::OrderStatus(said)))
 }
 
-// What is replied of this customer, with this as the last order.
+// The reply for this customer with this last order.
 fn reply_of(shown: StatusShown, order: Option<StatusOrder>) -> OrderStatusReply
     ensures { result ≡ reply_shown shown.key shown.customer order }
 {
@@ -302,23 +300,23 @@ fn order_found(mut found: Vec<crate::Found>) -> Option<StatusOrder>
     }
 }
 
-/// Where each action read its part, the Order-Status is carried out as the machine does it: the reply is the
-/// machine's, and nothing changes.
+/// Law: if each action did its work, the Order-Status is carried out as the machine does it: the reply is the machine's, and
+/// nothing changes.
 pub fn order_statuses_are_carried_out()
     ensures { OrderStatusesAreCarriedOut }
 {}
 
-/// Where the customer isn't there, the machine rolls the Order-Status back, with that fault.
+/// Law: if the customer is missing, the machine rolls the Order-Status back, with that fault.
 pub fn rolled_back_order_statuses_are_carried_out()
     ensures { RolledBackOrderStatusesAreCarriedOut }
 {}
 
-/// The customer who is shown belongs to the district that was asked of, so the order is looked for there.
+/// Law: the customer that is shown belongs to the district of the request, so the order is looked for there.
 pub fn shown_customers_are_at_home()
     ensures { ShownCustomersAreAtHome }
 {}
 
-/// The scale has the home district of an accepted Order-Status.
+/// Law: the scale has the home district of an accepted Order-Status.
 pub fn accepted_statuses_have_their_district()
     ensures { AcceptedStatusesHaveTheirDistrict }
 {}

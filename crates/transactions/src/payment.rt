@@ -1,5 +1,5 @@
-//! A payment (clause 2.5): what its actions do and find, its phases, and its law. It changes its home rows and
-//! its customer's row at the same time, and then adds its row to the list of payments (clause 2.5.2.2).
+//! A payment (clause 2.5): its actions and what they find, its phases, and its law. It changes its home rows and its customer's
+//! row at the same time, and then adds its row to the list of payments (clause 2.5.2.2).
 ghost use Rattle.std.specs.Prelude.{◌≡◌, [], ◌∷◌, length, slice_get, IsTrue, IfOk, OnOk, OnErr};
 ghost use Rattle.std.specs.FinMap as map;
 ghost use Rattle.schema.specs.Scale.{has_customer, has_district};
@@ -28,14 +28,14 @@ use slices::Slice;
 use std::alloc::Global;
 use tickets::{Claim, GroupNames};
 
-/// What an action of a payment does.
+/// The work of an action of a payment.
 #[derive(Drop)]
 pub enum Work {
     /// W_YTD and D_YTD of its home grow.
     PayHome(Payment),
     /// Its customer pays.
     PayCustomer(Payment),
-    /// Its row is added to its home district's list.
+    /// Adds its row to its home district's list.
     AddPayment(Payment, History),
 }
 
@@ -51,9 +51,9 @@ pub enum Found {
 /// What a payment finds of its home warehouse and district.
 #[derive(Clone, Debug, PartialEq, Eq, Drop)]
 pub enum HomePaid {
-    /// One of the two isn't there.
+    /// There is no row of one of the two.
     Missing,
-    /// Both are there, and a sum would leave its range.
+    /// Both rows are there, and a sum would leave its range.
     OutOfRange,
     /// Both are paid: W_NAME and D_NAME, which the payment's row of HISTORY shows.
     Paid {
@@ -69,16 +69,16 @@ pub enum CustomerPaid {
     Missing,
     /// The customer is there, and a sum would leave its range.
     OutOfRange,
-    /// The customer's row is changed, and this is shown of it.
+    /// The customer's row is changed, and the reply shows this of it.
     Paid(PaymentReply),
 }
 
-/// How far a payment has come: its phase, with what that was given.
+/// How far a payment has come: its phase, with the phase's input.
 #[derive(Drop)]
 pub enum Progress {
-    /// Its home rows are paid at place 0, and its customer's row at place 1.
+    /// Pays its home rows at place 0, and its customer's row at place 1.
     PayRows(Payment),
-    /// Its row is added to the list of payments, at place 2.
+    /// Adds its row to the list of payments, at place 2.
     AddRow(Paid),
 }
 
@@ -88,12 +88,12 @@ pub struct Paid {
     pub payment: Payment,
     /// The row of HISTORY that is to be added.
     pub row: History,
-    /// What the payment will reply.
+    /// Its reply.
     pub reply: PaymentReply,
 }
 
 impl Work {
-    // The W_ID of the warehouse at which it is done.
+    // The W_ID of the warehouse at which the work is done.
     pub(crate) fn home(&self) -> u32
         ensures { result ≡ home_of self.now }
     {
@@ -103,7 +103,7 @@ impl Work {
         }
     }
 
-    // How many groups it claims.
+    // The number of groups that the work wants.
     pub(crate) fn group_want_count(&self) -> usize
         ensures { result ≡ length (group_wants_of self.now) }
     {
@@ -144,8 +144,8 @@ impl Work {
         }
     }
 
-    // Does the work, in the slice of its warehouse, under the claims that were granted for it. Want of memory
-    // changes nothing.
+    // Does the work in the slice of its warehouse, under the claims that were granted for it. Returns NoMemory if an allocation
+    // fails; nothing has changed then.
     pub(crate) fn run<J: GroupNames>(
         self,
         alloc: Global,
@@ -179,7 +179,7 @@ impl Work {
     }
 }
 
-/// Adds a payment's amount to its home warehouse and district. Want of memory changes nothing.
+/// Adds a payment's amount to its home warehouse and district. Returns NoMemory if an allocation fails; nothing has changed then.
 pub fn pay_home<J: GroupNames>(
     slice: &mut Slice<J>,
     warehouse: &mut Claim<J>,
@@ -227,7 +227,7 @@ pub fn pay_home<J: GroupNames>(
     Ok(found)
 }
 
-// Puts both rows in place, or changes nothing.
+// Puts both rows, or changes nothing.
 fn put_home<J: GroupNames>(
     slice: &mut Slice<J>,
     warehouse: &mut Claim<J>,
@@ -258,8 +258,8 @@ fn put_home<J: GroupNames>(
     }
 }
 
-/// Takes a payment's amount from the balance of its customer, who is chosen by number or by last name.
-/// Want of memory changes nothing.
+/// Takes a payment's amount from the balance of its customer, who is chosen by number or by last name. Returns NoMemory if an
+/// allocation fails; nothing has changed then.
 pub fn pay_customer<J: GroupNames>(
     alloc: Global,
     slice: &mut Slice<J>,
@@ -288,8 +288,8 @@ pub fn pay_customer<J: GroupNames>(
     Ok(CustomerPaid::Paid(reply))
 }
 
-/// Adds a payment's row to its home district's list of payments. The payer may be another warehouse's. Want of
-/// memory changes nothing.
+/// Adds a payment's row to its home district's list of payments. The payer may be of another warehouse. Returns NoMemory if an
+/// allocation fails; nothing has changed then.
 pub fn add_payment<J: GroupNames>(
     slice: &mut Slice<J>,
     history: &mut Claim<J>,
@@ -307,13 +307,13 @@ pub fn add_payment<J: GroupNames>(
     ensures err { OnErr result ((slice.new ≡ slice.old) × (history.new ≡ history.old)) }
 {
     slice.look(history);
-    // The warehouse has each of its districts.
+    // (its invariant: the warehouse has each of its districts)
     let _ = slice.partition();
     slice.add_payment(history, payment.home, row)
 }
 
 impl Progress {
-    // What the actions of its phase do, by place. Want of memory leaves nothing behind.
+    // The works of the phase's actions, by place. Returns NoMemory if an allocation fails; nothing is left then.
     pub(crate) fn works(&self, alloc: Global) -> Result<Vec<crate::Work>, NoMemory>
         ensures { IfOk result (λ works. works.items ≡ works_of self.now) }
     {
@@ -335,7 +335,7 @@ impl Progress {
         }
     }
 
-    // What follows, by what its actions found, by place. It takes no memory.
+    // The step after the phase, from what its actions found, by place. Never allocates.
     pub(crate) fn gather(
         self,
         _alloc: Global,
@@ -351,7 +351,7 @@ impl Progress {
     }
 }
 
-// The first phase has met: the row that is to be added, and the reply, or why the payment is rolled back.
+// The step after the first phase: the row to be added and the reply, or a rollback.
 fn gather_rows(payment: Payment, found: Vec<crate::Found>) -> Gathered
     requires { HasFound (any.Payment (Progress.PayRows payment)) found.items }
     ensures { FollowsFrom (any.Payment (Progress.PayRows payment)) found.items result }
@@ -360,7 +360,7 @@ fn gather_rows(payment: Payment, found: Vec<crate::Found>) -> Gathered
     decided(payment, home, customer)
 }
 
-// What becomes of a payment that found this. A row that isn't there comes before a sum out of its range.
+// The step of a payment that found this. A missing row comes before a sum out of its range.
 fn decided(payment: Payment, home: HomePaid, customer: CustomerPaid) -> Gathered
     ensures { result ≡ gathered payment home customer }
 {
@@ -391,7 +391,7 @@ fn decided(payment: Payment, home: HomePaid, customer: CustomerPaid) -> Gathered
     }
 }
 
-// The second phase has met: the payment is carried out.
+// The step after the second phase: the payment is carried out.
 fn gather_added(paid: Paid, found: Vec<crate::Found>) -> Gathered
     ensures { FollowsFrom (any.Payment (Progress.AddRow paid)) found.items result }
 {
@@ -453,23 +453,23 @@ fn customer_of_payment(found: Found) -> CustomerPaid
     }
 }
 
-/// Where each action did its part, the payment is carried out as the machine does it: the reply is the
-/// machine's, and the claims leave what the machine leaves.
+/// Law: if each action did its work, the payment is carried out as the machine does it: the reply is the machine's, and the
+/// claims leave what the machine leaves.
 pub fn payments_are_carried_out()
     ensures { PaymentsAreCarriedOut }
 {}
 
-/// Where what was found calls for it, the machine rolls the payment back, with the same fault.
+/// Law: if what was found requires it, the machine rolls the payment back, with the same fault.
 pub fn rolled_back_payments_are_carried_out()
     ensures { RolledBackPaymentsAreCarriedOut }
 {}
 
-/// The row that is added to the list of payments names a customer of the scale, since the customer was paid.
+/// Law: the customer of the row that is added to the list of payments is one of the scale, since the customer was paid.
 pub fn gathered_payers_are_known()
     ensures { GatheredPayersAreKnown }
 {}
 
-/// The scale has the home district of an accepted payment.
+/// Law: the scale has the home district of an accepted payment.
 pub fn accepted_payments_have_their_district()
     ensures { AcceptedPaymentsHaveTheirDistrict }
 {}

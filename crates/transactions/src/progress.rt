@@ -1,4 +1,4 @@
-//! How far a transaction has come, by kind, and what follows of what the actions of its phase found.
+//! How far a transaction has come, by kind, and the step after a phase.
 ghost use Rattle.std.specs.Prelude.{◌≡◌, List, IfOk};
 ghost use Rattle.partitions.specs.Parts.{SharedTables};
 ghost use Rattle.requests.specs.declared.request.Request.{Request as AnyRequest};
@@ -12,7 +12,7 @@ use requests::{Reply, Request};
 use schema::NoMemory;
 use std::alloc::Global;
 
-/// How far a transaction has come: its phase, with what that was given.
+/// How far a transaction has come: its phase, with the phase's input.
 #[derive(Drop)]
 pub enum Progress {
     NewOrder(new_order::Progress),
@@ -22,17 +22,17 @@ pub enum Progress {
     StockLevel(stock_level::Progress),
 }
 
-/// What becomes of a transaction, by all that the actions of a phase found.
+/// The step after a phase.
 #[derive(Drop)]
 pub enum Gathered {
     /// The next phase.
     Next(Progress),
-    /// It was carried out, with this reply. Where that is a fault, all that was done is to be taken back.
+    /// The transaction was carried out, with this reply. If the reply is a rollback, all that was done is to be undone.
     Finish(Reply),
 }
 
 impl Progress {
-    /// Where a transaction begins.
+    /// The first phase of a request.
     pub fn begin(request: Request) -> Progress
         ensures { (shared : SharedTables) (asked : AnyRequest) (held : List (List ClaimView)) → IsAsked shared asked request held → IsReached shared asked result held }
     {
@@ -51,7 +51,7 @@ impl Progress {
         }
     }
 
-    /// What the actions of its phase do, by place. Want of memory leaves nothing behind.
+    /// The works of the phase's actions, by place. Returns NoMemory if an allocation fails; nothing is left then.
     pub fn works(&self, alloc: Global) -> Result<Vec<Work>, NoMemory>
         ensures { IfOk result (λ works. works.items ≡ works_of self.now) }
     {
@@ -64,7 +64,8 @@ impl Progress {
         }
     }
 
-    /// What follows, by what the actions of its phase found, by place. Want of memory leaves nothing behind.
+    /// The step after the phase, from what its actions found, by place. Returns NoMemory if an allocation fails; nothing is left
+    /// then.
     pub fn gather(self, alloc: Global, found: Vec<Found>) -> Result<Gathered, NoMemory>
         requires { HasFound self found.items }
         ensures { IfOk result (λ gathered. FollowsFrom self found.items gathered) }

@@ -1,4 +1,4 @@
-//! The slice of a warehouse, and the actions that wait in its lock table.
+//! The slice of a warehouse, with the actions that wait in its lock table.
 ghost use Rattle.std.specs.Prelude.{◌≡◌, [], All, IfNone, IfSome};
 ghost use Rattle.partitions.specs.Parts.{shared_of};
 ghost use Rattle.local_locks.specs.Asking.{StillWaits};
@@ -16,7 +16,7 @@ use std::marker::Model;
 use tickets::{Claims, GroupNames};
 use wait_die::Holder;
 
-/// An action that waits: who it is, its work, and what it carries with it.
+/// A waiting action: its holder, its work, and what it carries.
 #[derive(Drop)]
 pub struct Parked<T> {
     pub by: Holder,
@@ -24,16 +24,16 @@ pub struct Parked<T> {
     pub carried: T,
 }
 
-/// What is answered to an action that asks.
+/// The answer to an action that asks.
 #[derive(Drop)]
 pub enum Acted<J: GroupNames, T> {
-    /// This came of it, and here is what it carried.
+    /// The result of the action, and what it carried.
     Ran(Ran<J>, T),
-    /// It waits, for younger holders alone.
+    /// It waits; all conflicting holders are younger.
     Waits,
 }
 
-/// The turn of an action that waited: what came of it, and what it carried.
+/// A turn: the waiting action's holder, its result, and what it carried.
 #[derive(Drop)]
 pub struct Turned<J: GroupNames, T> {
     pub by: Holder,
@@ -41,7 +41,7 @@ pub struct Turned<J: GroupNames, T> {
     pub carried: T,
 }
 
-/// The slice of a warehouse, and the actions that wait in its lock table, in the order in which they asked.
+/// The slice of a warehouse, with the actions that wait in its lock table, in the order in which they asked.
 #[derive(Drop)]
 pub struct Shard<J: GroupNames, T> {
     slice: Slice<J>,
@@ -63,7 +63,7 @@ impl<J: GroupNames, T> Model for Shard<J, T> {
 }
 
 impl<J: GroupNames, T: Drop> Shard<J, T> {
-    /// The shard of a slice for which nobody waits.
+    /// The shard of a slice that has no waiting action.
     pub fn new(alloc: Global, slice: Slice<J>) -> Shard<J, T>
         requires { slice.waiters ≡ [] }
         ensures { result ≡ shard_view slice [] }
@@ -83,7 +83,7 @@ impl<J: GroupNames, T: Drop> Shard<J, T> {
         &self.slice
     }
 
-    /// The slice, without those who wait: what they carry is let go.
+    /// The slice. What the waiting actions carry is dropped.
     pub fn into_slice(self) -> Slice<J>
         ensures { result ≡ self.slice }
     {
@@ -91,9 +91,9 @@ impl<J: GroupNames, T: Drop> Shard<J, T> {
         slice
     }
 
-    /// An action asks for all that its work needs, and does it where nobody is in its way. It waits where all who
-    /// are in its way are younger, and else dies of the first who is not. An action that dies or finds no memory
-    /// holds no claim, and has left the slice as it was.
+    /// An action asks for all locks that its work needs. It does its work if no holder conflicts. It waits if all conflicting
+    /// holders are younger; else it dies. An action that dies, or for which an allocation fails, holds no claim and leaves the
+    /// slice unchanged; after a failed allocation the lock table may have its holders in another order.
     pub fn try_action(&mut self, alloc: Global, by: Holder, work: Work, carried: T) -> Acted<J, T>
         requires can { CanDo (shared_of self.old.slice.tables) work }
         requires home { home_of work ≡ self.old.slice.home }
@@ -124,9 +124,9 @@ impl<J: GroupNames, T: Drop> Shard<J, T> {
         }
     }
 
-    /// An action asks for all that its work needs, and does it at once. `None` where somebody is in its way, or there is
-    /// no memory to ask: nothing has changed then, and it doesn't wait. One that finds no memory as it works holds no
-    /// claim, and has left the slice as it was.
+    /// An action asks for all locks that its work needs, does its work at once and never waits. Returns `None` if a holder
+    /// conflicts, or if an allocation fails as it asks: nothing has changed then. If an allocation fails as it works, it holds no
+    /// claim and leaves the slice unchanged, its holders perhaps in another order.
     pub fn act_at_once(&mut self, alloc: Global, by: Holder, work: Work) -> Option<Ran<J>>
         requires can { CanDo (shared_of self.old.slice.tables) work }
         requires home { home_of work ≡ self.old.slice.home }
@@ -142,8 +142,8 @@ impl<J: GroupNames, T: Drop> Shard<J, T> {
         Some(run_under(alloc, &mut self.slice, claims, work))
     }
 
-    /// The turn of the oldest action that need not wait any more, and of one age of the one of the least place: it
-    /// does its work or dies. `None` where all have to wait.
+    /// Runs the oldest waiting action that need not wait any more; among actions of one age, the one of the least place. It does
+    /// its work or dies. Returns `None` if all waiting actions have to wait: nothing has changed then.
     pub fn turn(&mut self, alloc: Global) -> Option<Turned<J, T>>
         ensures turn { IfSome result (λ turned. OneTurn self.old turned self.new) }
         ensures none { IfNone result (All (StillWaits self.old.slice.holdings) self.old.slice.waiters) }
@@ -177,7 +177,7 @@ impl<J: GroupNames, T: Drop> Shard<J, T> {
         }
     }
 
-    /// Gives the claims of an action back, once what it left is committed. It takes no memory.
+    /// Gives the claims of an action back. Requires that what they left is committed. Never allocates.
     pub fn settle(&mut self, claims: Claims<J>)
         requires settled { All CanBeSettled claims }
         requires home { All (IsClaimAt self.old.slice.home) claims }
@@ -187,7 +187,7 @@ impl<J: GroupNames, T: Drop> Shard<J, T> {
         settle(&mut self.slice, claims);
     }
 
-    /// Takes back what an action did under its claims, and gives them back. It takes no memory.
+    /// Undoes what an action did under its claims, and gives them back. Never allocates.
     pub fn undo(&mut self, claims: Claims<J>)
         requires undone { All CanBeUndone claims }
         requires home { All (IsClaimAt self.old.slice.home) claims }

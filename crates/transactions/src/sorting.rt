@@ -1,4 +1,4 @@
-//! What comes of the actions of a phase is sorted out, one after another.
+//! Collects the results of a phase's actions, one after another.
 ghost use Rattle.std.specs.Prelude.{◌≡◌, ◌<◌, ◌≤◌, ◌+◌, ◌++◌, [], length, vec_capacity, None, IfErr, IfOk, IfSome};
 ghost use Rattle.transactions.specs.Progresses.{FollowsFrom, HasFound};
 ghost use Rattle.transactions.specs.SortedOut.{IsRefusedFor, found_by, held_by, refused_by};
@@ -8,17 +8,18 @@ use requests::Refusal;
 use std::alloc::Global;
 use tickets::GroupNames;
 
-/// What has come of the actions of a phase so far, beside what they hold.
+/// The results of a phase's actions so far, without their claims.
 #[derive(Drop)]
 pub struct Sorted {
     /// What they found, by place, unless the transaction is refused.
     pub found: Vec<Found>,
-    /// Why it is refused, if it is.
+    /// Why the transaction is refused, if it is.
     pub refusal: Option<Refusal>,
 }
 
 impl Sorted {
-    /// Nothing has come of any action yet, and there is room for what so many find; or there is no memory for it.
+    /// No result yet, with capacity for what `count` actions find. If the allocation fails, the transaction is refused with
+    /// NoMemory.
     pub fn start(alloc: Global, count: usize) -> Sorted
         ensures refusal { IfSome result.refusal (λ why. why ≡ Refusal.NoMemory) }
         ensures room { result.refusal ≡ None → (result.found.items ≡ []) × (count ≤ vec_capacity result.found) }
@@ -35,8 +36,8 @@ impl Sorted {
         }
     }
 
-    /// What came of the next action by place: its claims are held with those of the others, and what it found stands
-    /// behind what they found. The first death by place is what the transaction is refused for, and else lack of memory.
+    /// Adds the result of the next action by place: its claims to `held`, and what it found behind what the others found. The
+    /// transaction is refused for the first death by place, or else with NoMemory if an action reports it.
     pub fn sort_one<J: GroupNames>(&mut self, ran: Ran<J>, held: &mut HeldClaims<J>)
         requires room { length held.old < MOST_ACTIONS }
         requires found { self.old.refusal ≡ None → length self.old.found.items < vec_capacity self.old.found }
@@ -64,8 +65,8 @@ impl Sorted {
         }
     }
 
-    /// What follows of it, once all actions of the phase are sorted out: for what the transaction is refused; or else what follows
-    /// of what they found, unless there is no memory for it.
+    /// The step after the phase, once the results of all its actions are added. If the transaction is refused, returns the
+    /// reason. Else gathers what was found; returns NoMemory if an allocation fails.
     pub fn follow(self, alloc: Global, progress: Progress) -> Result<Gathered, Refusal>
         requires { self.refusal ≡ None → HasFound progress self.found.items }
         ensures refused { IfErr result (IsRefusedFor self.refusal) }

@@ -1,4 +1,4 @@
-//! A Stock-Level (clause 2.8): what its actions find, its phases, and its law. It reads its district's row, then the
+//! A Stock-Level (clause 2.8): its actions and what they find, its phases, and its law. It reads its district's row, then the
 //! lines of the district's last 20 orders, and then its warehouse's stock of their items (clause 2.8.2.2).
 ghost use Rattle.std.specs.Prelude.{◌≡◌, ◌≤◌, ℕ, [], ◌∷◌, Vec as AnyVec, length, slice_get, IfOk, OnErr};
 ghost use Rattle.partitions.specs.Parts.{shared_of};
@@ -21,17 +21,17 @@ use std::alloc::Global;
 use std::marker::Model;
 use tickets::{Claim, GroupNames};
 
-// A warehouse's stock is in so many groups.
+// The number of groups of a warehouse's stock.
 const STOCK_GROUPS: usize = 64;
 
-/// What an action of a Stock-Level does.
+/// The work of an action of a Stock-Level.
 #[derive(Drop)]
 pub enum Work {
-    /// The number of its district's next order is read.
+    /// Reads the number of its district's next order.
     ReadNext(StockLevel),
-    /// The item of each line is read of the 20 orders before that number.
+    /// Reads the item of each line of the 20 orders before that number.
     ReadItems(StockLevel, u32),
-    /// Those of these items are counted that are low on stock.
+    /// Counts those of these items whose stock is low.
     CountLow(StockLevel, Items),
 }
 
@@ -43,18 +43,18 @@ pub enum Found {
     Low(u32),
 }
 
-/// How far a Stock-Level has come: its phase, with what that was given.
+/// How far a Stock-Level has come: its phase, with the phase's input.
 #[derive(Drop)]
 pub enum Progress {
-    /// The district's row is read.
+    /// Reads the district's row.
     ReadNext(StockLevel),
-    /// The lines of its last orders are read.
+    /// Reads the lines of its last orders.
     ReadItems(StockLevel, u32),
-    /// The stock of their items is read.
+    /// Reads the stock of their items.
     CountLow(StockLevel, Items),
 }
 
-/// The items of the lines of 20 orders, each as often as lines name it: 300 at most. Contracts see them as a list.
+/// The items of the lines of 20 orders, each as often as it is in a line: 300 at most. Contracts see them as a list.
 #[derive(Drop)]
 pub struct Items {
     ids: Vec<u32>,
@@ -71,7 +71,7 @@ impl Model for Items {
 }
 
 impl Items {
-    // Equal items. Want of memory leaves nothing behind.
+    // A copy. Returns NoMemory if an allocation fails; nothing is left then.
     fn try_clone(&self) -> Result<Items, NoMemory>
         ensures { IfOk result (λ copy. copy ≡ self.now) }
     {
@@ -81,14 +81,14 @@ impl Items {
 }
 
 impl Work {
-    // The W_ID of the warehouse at which it is done.
+    // The W_ID of the warehouse at which the work is done.
     pub(crate) fn home(&self) -> u32
         ensures { result ≡ home_of self.now }
     {
         self.asked().home.w_id
     }
 
-    // The request that it is of.
+    // Its request.
     fn asked(&self) -> StockLevel
         ensures { home_of self.now ≡ result.home.w_id }
     {
@@ -97,7 +97,7 @@ impl Work {
         }
     }
 
-    // How many groups it claims.
+    // The number of groups that the work wants.
     pub(crate) fn group_want_count(&self) -> usize
         ensures { result ≡ length (group_wants_of self.now) }
     {
@@ -131,8 +131,7 @@ impl Work {
         }
     }
 
-    // Does the work, in the slice of its warehouse, under the claims that were granted for it. It changes
-    // nothing.
+    // Does the work in the slice of its warehouse, under the claims that were granted for it. Changes nothing.
     pub(crate) fn run<J: GroupNames>(
         self,
         alloc: Global,
@@ -163,7 +162,7 @@ impl Work {
     }
 }
 
-/// Reads the number of the district's next order. It takes no memory, and changes nothing.
+/// Reads the number of the district's next order. Never allocates, and changes nothing.
 pub fn read_next<J: GroupNames>(
     slice: &mut Slice<J>,
     district: &mut Claim<J>,
@@ -182,8 +181,8 @@ pub fn read_next<J: GroupNames>(
     }
 }
 
-/// Reads the item of each line of the district's 20 orders before this number: 300 at most. It changes nothing, and the
-/// items alone take memory.
+/// Reads the item of each line of the district's 20 orders before this number: 300 at most. Changes nothing, and allocates only
+/// for the items.
 pub fn read_items<J: GroupNames>(
     alloc: Global,
     slice: &mut Slice<J>,
@@ -202,7 +201,7 @@ pub fn read_items<J: GroupNames>(
     Ok(Items { ids })
 }
 
-/// Counts those of these items that are low on stock, each once, however often it is named. It takes no memory, and changes
+/// Counts those of these items whose stock is low, each once, however often it is in the list. Never allocates, and changes
 /// nothing.
 pub fn count_low<J: GroupNames>(
     slice: &mut Slice<J>,
@@ -228,7 +227,7 @@ pub fn count_low<J: GroupNames>(
 }
 
 impl Progress {
-    // What the action of its phase does. Want of memory leaves nothing behind.
+    // The work of the phase's action. Returns NoMemory if an allocation fails; nothing is left then.
     pub(crate) fn works(&self, alloc: Global) -> Result<Vec<crate::Work>, NoMemory>
         ensures { IfOk result (λ works. works.items ≡ works_of self.now) }
     {
@@ -248,7 +247,7 @@ impl Progress {
         })
     }
 
-    // What follows, by what its action found. It takes no memory.
+    // The step after the phase, from what its action found. Never allocates.
     pub(crate) fn gather(
         self,
         _alloc: Global,
@@ -265,7 +264,7 @@ impl Progress {
     }
 }
 
-// The first phase has met: the lines of the last orders are to be read.
+// The step after the first phase: the lines of the last orders are to be read.
 fn gather_next(asked: StockLevel, found: Vec<crate::Found>) -> Gathered
     requires { HasFound (any.StockLevel (Progress.ReadNext asked)) found.items }
     ensures { FollowsFrom (any.StockLevel (Progress.ReadNext asked)) found.items result }
@@ -274,7 +273,7 @@ fn gather_next(asked: StockLevel, found: Vec<crate::Found>) -> Gathered
     Gathered::Next(crate::Progress::StockLevel(Progress::ReadItems(asked, next)))
 }
 
-// The second phase has met: the stock is to be read.
+// The step after the second phase: the stock is to be read.
 fn gather_items(asked: StockLevel, next: u32, found: Vec<crate::Found>) -> Gathered
     requires { HasFound (any.StockLevel (Progress.ReadItems asked next)) found.items }
     ensures { FollowsFrom (any.StockLevel (Progress.ReadItems asked next)) found.items result }
@@ -283,7 +282,7 @@ fn gather_items(asked: StockLevel, next: u32, found: Vec<crate::Found>) -> Gathe
     Gathered::Next(crate::Progress::StockLevel(Progress::CountLow(asked, items)))
 }
 
-// The third phase has met: the Stock-Level is carried out.
+// The step after the third phase: the Stock-Level is carried out.
 fn gather_low(asked: StockLevel, items: Items, found: Vec<crate::Found>) -> Gathered
     requires { HasFound (any.StockLevel (Progress.CountLow asked items)) found.items }
     ensures { FollowsFrom (any.StockLevel (Progress.CountLow asked items)) found.items result }
@@ -326,7 +325,7 @@ fn low_found(mut found: Vec<crate::Found>) -> u32
     }
 }
 
-/// Where each action read its part, the Stock-Level is carried out as the machine does it: the reply is the machine's, and
+/// Law: if each action did its work, the Stock-Level is carried out as the machine does it: the reply is the machine's, and
 /// nothing changes.
 pub fn stock_levels_are_carried_out()
     ensures { StockLevelsAreCarriedOut }

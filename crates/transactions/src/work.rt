@@ -1,4 +1,4 @@
-//! What the actions of all transactions do and find, by kind.
+//! The works of the actions of all transactions, and what they find, by kind.
 ghost use Rattle.std.specs.Prelude.{◌≡◌, length, slice_get, IfOk, OnErr};
 ghost use Rattle.partitions.specs.Parts.{shared_of};
 ghost use Rattle.slices.specs.SliceView.{SliceKeeps};
@@ -14,7 +14,7 @@ use slices::Slice;
 use std::alloc::Global;
 use tickets::{Claim, GroupNames};
 
-/// What an action does, with all that it needs for it.
+/// The work of an action, with all that it needs.
 #[derive(Drop)]
 pub enum Work {
     NewOrder(new_order::Work),
@@ -35,7 +35,7 @@ pub enum Found {
 }
 
 impl Work {
-    /// The W_ID of the warehouse at which the action does its work. All that it claims is there.
+    /// The W_ID of the warehouse at which the work is done. All groups that it wants are there.
     pub fn home(&self) -> u32
         ensures { result ≡ home_of self.now }
     {
@@ -48,7 +48,7 @@ impl Work {
         }
     }
 
-    /// How many groups the action claims for its work: at least one.
+    /// The number of groups that the work wants: at least one.
     pub fn group_want_count(&self) -> usize
         ensures { result ≡ length (group_wants_of self.now) }
     {
@@ -61,8 +61,7 @@ impl Work {
         }
     }
 
-    /// The want of this number, from 0, of those that the action has for its work: a group, and how it is
-    /// claimed. They are no more than `group_want_count`. It takes no memory.
+    /// The want of this number, from 0: a group, and how it is claimed. `None` from `group_want_count` on. Never allocates.
     pub fn group_want(&self, number: usize) -> Option<GroupWant>
         ensures { result ≡ slice_get (group_wants_of self.now) number }
     {
@@ -75,8 +74,8 @@ impl Work {
         }
     }
 
-    /// What the action wants of the lock table of its warehouse: each group of its wants by itself, in turn.
-    /// Want of memory leaves nothing behind.
+    /// What the action asks the lock table of its warehouse for: each group of its wants by itself, in turn. Returns NoMemory if
+    /// an allocation fails; nothing is left then.
     pub fn wants(&self, alloc: Global) -> Result<Vec<Want>, NoMemory>
         ensures { IfOk result (λ wants. wants.items ≡ wants_of self.now) }
     {
@@ -91,8 +90,8 @@ impl Work {
     }
 }
 
-/// Does the work, in the slice of its warehouse, under the claims that were granted for it. Want of memory
-/// changes nothing.
+/// Does the work in the slice of its warehouse, under the claims that were granted for it. Returns NoMemory if an allocation
+/// fails; nothing has changed then.
 pub fn run<J: GroupNames>(
     alloc: Global,
     slice: &mut Slice<J>,
@@ -116,7 +115,7 @@ pub fn run<J: GroupNames>(
     }
 }
 
-/// The W_ID of the warehouse whose terminal asks: a transaction starts there.
+/// The W_ID of the warehouse whose terminal asks the request. A transaction starts there.
 pub fn home_of_request(request: &Request) -> u32
     ensures { result ≡ spec.home_of_request request.now }
 {

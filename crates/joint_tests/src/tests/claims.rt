@@ -13,7 +13,7 @@ use wait_die::Holder;
 
 const DISTRICT: Group = Group::History { w_id: 1, d_id: 10 };
 
-// The list of payments is there, and empty.
+// Sets the list of payments to an empty one.
 struct NoPayment;
 
 impl Change<Content> for NoPayment {
@@ -27,7 +27,7 @@ const FIRST: Holder = Holder { age: 1, place: 0 };
 
 const SECOND: Holder = Holder { age: 2, place: 0 };
 
-// A shared claim goes to another thread and back, while another stays.
+// A shared claim goes to another thread and back, while another one is here.
 fn shared_by_two_threads<J: GroupNames + Send + 'static>(
     rt: &(impl Threads + Wait),
     seats: GroupSeats,

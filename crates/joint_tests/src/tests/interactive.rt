@@ -6,20 +6,21 @@ use std::sync::Wait;
 use std::sync::atomic::{AtomicU64, Ordering};
 use std::thread::Threads;
 
-// How often a request is asked at most that died.
+// How often a request is asked at most that is refused with Died.
 const MOST_TRIES: u32 = 10_000;
 
-// One session pays, the other meets it, and asks after the customer.
+// One session pays; the other meets it and then asks for the customer's status.
 #[derive(Drop)]
 struct ReadsBack {
-    // How many entries of the log both sessions have seen, once they met, and then the other once it was answered.
+    // The number of entries that both sessions have seen once they met, and the number that the other has seen once it was
+    // answered.
     met: AtomicU64,
     seen: AtomicU64,
-    // What the answer shows that the customer owes, in cents.
+    // The customer's debt by that answer, in cents.
     owed: AtomicU64,
 }
 
-// Asks until it is answered by a place in the log.
+// Asks the request until its answer is a place in the log.
 fn ask_until_done<J: ServeNames, G: Gate>(
     rt: &impl Wait,
     alloc: Global,
@@ -89,7 +90,7 @@ impl Client for ReadsBack {
     }
 }
 
-// After the customer of those payments.
+// The status of the customer of those payments.
 fn status() -> Request {
     Request::OrderStatus(OrderStatus {
         home: DistrictKey { w_id: 1, d_id: 1 },
@@ -97,7 +98,7 @@ fn status() -> Request {
     })
 }
 
-// What the session was last shown that a customer owes, in cents: the log has just what the session knows of.
+// The customer's debt by the session's last answer, in cents. The session has logged exactly its entries in the log.
 fn last_owed<J: ServeNames, G: Gate>(
     rt: &impl Wait,
     engine: &Engine<'_, J, G>,
@@ -116,7 +117,7 @@ fn last_owed<J: ServeNames, G: Gate>(
     }
 }
 
-// A session pays, another meets it, and then asks after the customer: it finds the payment.
+// A session pays, another meets it and then asks for the customer's status: the status contains the payment.
 #[test]
 fn a_session_finds_what_another_paid_that_it_met(rt: HostRuntime) -> Result<(), Fail> {
     let alloc = rt.alloc();

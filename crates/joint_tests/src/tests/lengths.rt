@@ -4,7 +4,7 @@ use super::*;
 use length_word::{Length, Mark, meet};
 use std::thread;
 
-// The log has one entry more, where there is room, and a mark knows it.
+// The log grows by one entry if there is room, and a mark records that.
 fn grow_once(mut length: Length, mut mark: Mark) -> (Length, Mark)
     requires { mark.table ≡ length.table }
     ensures { (result.0.table ≡ length.table) × (result.1.table ≡ length.table) }
@@ -16,7 +16,7 @@ fn grow_once(mut length: Length, mut mark: Mark) -> (Length, Mark)
     (length, mark)
 }
 
-// The mark meets another, in another thread than the length's.
+// A mark meets another one, in another thread than the length's.
 fn meet_once(mut one: Mark, mut other: Mark) -> Mark
     requires { one.table ≡ other.table }
     ensures { result.table ≡ one.table }

@@ -3,7 +3,7 @@ use history::{Event, EventAnswer, Output, Scheduled};
 use picture::write_picture;
 use requests::Refusal;
 
-// A payment that is refused for lack of memory, after it was accepted: which of its actions hold claims isn't told.
+// A payment that is refused with NoMemory after it was accepted: the answer does not record which of its actions hold claims.
 #[test]
 fn after_a_refusal_the_agreed_phase_is_not_known(rt: HostRuntime) -> Result<(), Fail> {
     let alloc = rt.alloc();

@@ -5,7 +5,7 @@ use std::alloc::Global;
 
 const SPARE: usize = 1_000;
 
-// Tables of one warehouse, of which each vector has room for so many rows more.
+// Tables of one warehouse whose vectors each have capacity for SPARE more rows.
 fn with_spare_room(alloc: Global) -> Result<Tables, Fail> {
     let (scale, mut rows) = warehouses(alloc, 1)?.into_rows();
     rows.items.reserve(SPARE)?;
@@ -16,7 +16,7 @@ fn with_spare_room(alloc: Global) -> Result<Tables, Fail> {
     Ok(Tables::checked(scale, rows)?)
 }
 
-// How many rows each vector has room for.
+// The capacity of each vector.
 fn rooms(rows: &TableRows) -> [usize; 5] {
     [
         rows.items.capacity(),
@@ -27,14 +27,14 @@ fn rooms(rows: &TableRows) -> [usize; 5] {
     ]
 }
 
-// The rows of one warehouse stay where they are as tables are cut and made whole: each vector still has the spare room,
-// which one to which the rows had been moved would not have.
+// The rows of one warehouse stay where they are as tables are cut and made whole: each vector still has its spare capacity, which
+// a new vector would not have.
 #[test]
 fn rows_of_one_warehouse_stay_where_they_are(rt: HostRuntime) -> Result<(), Fail> {
     let tables = with_spare_room(rt.alloc())?;
     let before = rooms(tables.rows());
     assert!(rt; before.iter().all(|room| *room >= SPARE));
-    // Tables are within their scale, so their parts are those of all warehouses.
+    // (their invariant: tables are within their scale, so their parts are those of all warehouses)
     let _ = tables.scale();
     cut_parts_make_the_tables();
     let (catalog, parts) = cut(rt.alloc(), tables)?;

@@ -7,7 +7,7 @@ use std::sync::Wait;
 use std::sync::atomic::{AtomicU64, Ordering};
 use std::thread::{Threads, yield_now};
 
-// How often a thread gives way at most before it goes on.
+// How often a thread yields at most before it goes on.
 const MOST_TURNS: u32 = 100_000;
 
 // One payment of that amount at a warehouse.
@@ -15,7 +15,7 @@ fn script(alloc: Global, w_id: u32, amount: u32) -> Result<Script, Fail> {
     scripted(alloc, w_id, amount, 1)
 }
 
-// So many payments of that amount at a warehouse.
+// `count` payments of that amount at a warehouse.
 fn scripted(alloc: Global, w_id: u32, amount: u32, count: usize) -> Result<Script, Fail> {
     let mut requests = Vec::new(alloc);
     for _ in 0..count {
@@ -33,7 +33,7 @@ fn crossing(alloc: Global, w_id: u32, customer_w_id: u32) -> Result<Script, Fail
     Ok(Script::checked_new(requests).ok_or("a script")?)
 }
 
-// Whether a count gets so far before the thread has given way too often.
+// Whether the count reaches this number before the thread has yielded MOST_TURNS times.
 fn comes_to(count: &AtomicU64, least: u64) -> bool {
     for _ in 0..MOST_TURNS {
         if count.load(Ordering::SeqCst) >= least {
@@ -44,7 +44,7 @@ fn comes_to(count: &AtomicU64, least: u64) -> bool {
     false
 }
 
-// How many answers say that the request was carried out.
+// The number of requests that were carried out.
 fn done_in(outcome: &Outcome) -> usize {
     let mut count: usize = 0;
     for answers in &outcome.answers {
@@ -57,8 +57,8 @@ fn done_in(outcome: &Outcome) -> usize {
     count
 }
 
-// At this gate each of two executors waits for the other before it takes the log's lock, giving way, but not
-// forever.
+// At this gate each of two executors waits for the other before it takes the log's lock. It yields as it waits, and goes on after
+// MOST_TURNS yields.
 #[derive(Drop)]
 struct BothEnter {
     entered: AtomicU64,
@@ -91,7 +91,8 @@ impl Gate for BothEnter {
     }
 }
 
-// One after the other, the first executor would not have met the second; a refused request comes to no gate.
+// If executors served one after the other, the first one would not have met the second. The gate is not called for a request that
+// the check refuses.
 #[test]
 fn executors_serve_at_the_same_time(rt: HostRuntime) -> Result<(), Fail> {
     let alloc = rt.alloc();
@@ -142,7 +143,7 @@ impl Gate for OneWaits {
     }
 }
 
-// The session of this number waits for the other, which is logged first.
+// The session of this number waits for the other one, whose request is logged first.
 fn one_waits<R: Threads + Wait + Abort + Sync>(
     rt: &R,
     alloc: Global,
@@ -213,7 +214,7 @@ fn all_that_is_asked_is_carried_out(rt: HostRuntime) -> Result<(), Fail> {
     Ok(())
 }
 
-// Four sessions at two warehouses that go back and forth between two executors: each payment is carried out.
+// Four sessions at two warehouses that move back and forth between two executors: each payment is carried out.
 #[test]
 fn all_that_is_asked_is_carried_out_while_warehouses_move(rt: HostRuntime) -> Result<(), Fail> {
     let alloc = rt.alloc();
@@ -246,7 +247,7 @@ fn all_that_is_asked_is_carried_out_while_warehouses_move(rt: HostRuntime) -> Re
 }
 
 // Inboxes hold one message, and each executor sends to the other, since the customers of all payments belong to the other
-// warehouse; and the warehouses go back and forth: each payment is carried out.
+// warehouse; and the warehouses move back and forth: each payment is carried out.
 #[test]
 fn inboxes_of_one_message_are_enough(rt: HostRuntime) -> Result<(), Fail> {
     let alloc = rt.alloc();
@@ -275,7 +276,7 @@ fn inboxes_of_one_message_are_enough(rt: HostRuntime) -> Result<(), Fail> {
     Ok(())
 }
 
-// The first move that there can't be is told, before a thread starts.
+// The place of the first move that there can't be is returned, before a thread starts.
 #[test]
 fn a_bad_move_is_recorded(rt: HostRuntime) -> Result<(), Fail> {
     let alloc = rt.alloc();

@@ -22,7 +22,7 @@ use wait_die::Holder;
 
 const HOLDER: Holder = Holder { age: 63, place: 0 };
 
-// Why a group isn't granted: all who have it are younger, or the oldest who has it is of this age and is not.
+// Why a group isn't granted: all its holders are younger (Waits); or the oldest holder, of this age, is not (Dies).
 #[derive(Clone, Copy, Debug, PartialEq, Eq)]
 enum Refused {
     Waits,
@@ -30,7 +30,7 @@ enum Refused {
     NoMemory,
 }
 
-// The slices of these tables, from what was opened for their groups.
+// The slices of these tables, with the seats that were opened for their groups.
 fn opened<J: GroupNames>(
     alloc: Global,
     tables: Tables,
@@ -72,8 +72,8 @@ fn claimed<J: GroupNames>(
     }
 }
 
-// The row of the first warehouse is put back as it was: its sum before, under the claim, and after the undo; and the
-// age of who holds it meanwhile.
+// The row of the first warehouse is changed under a claim, and that is undone. Returns its sum before, under the claim and after
+// the undo, and the age of the holder meanwhile.
 fn put_and_undone<J: GroupNames>(
     alloc: Global,
     tables: Tables,
@@ -122,8 +122,8 @@ const YOUNGER: Holder = Holder { age: 2, place: 0 };
 
 const OLDER: Holder = Holder { age: 1, place: 0 };
 
-// An older one asks for the row of the first warehouse, which a younger one has: what is said to it, and who is granted how
-// much once the younger has given the row back.
+// An older action asks for the row of the first warehouse, which a younger one holds. Returns the answer to it, and the holder
+// and the number of claims that are granted once the younger one has given the row back.
 fn waited_and_granted<J: GroupNames>(
     alloc: Global,
     tables: Tables,
@@ -175,8 +175,8 @@ fn seen(rows: &Partition, key: OrderKey) -> Option<(Option<u32>, Option<u32>, bo
     ))
 }
 
-// The first warehouse's oldest new order of district 1 is delivered, and that is undone: what is seen of it before,
-// under the claim, and after the undo.
+// The first warehouse's oldest new order of district 1 is delivered under a claim, and that is undone. Returns what `seen`
+// returns before, under the claim and after the undo.
 fn delivered_and_undone<J: GroupNames>(
     alloc: Global,
     tables: Tables,

@@ -22,7 +22,7 @@ impl<'a> Read for Failing<'a> {
     }
 }
 
-// Fault 10 comes at the record that is in flight, and also behind the end record.
+// Fault 10 is found at the record that is being read, and also behind the end record.
 #[test]
 fn a_source_that_fails_is_a_fault(rt: HostRuntime) {
     for (text, record) in [("L,1", 1), ("L,1,1,10\nEN", 2), ("END,0\n", 2)] {

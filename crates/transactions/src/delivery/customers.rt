@@ -1,4 +1,4 @@
-//! The customers of a Delivery: they are credited with what was delivered to them (clause 2.7.4.2).
+//! The customers of a Delivery: they are credited with the amounts of the delivered orders (clause 2.7.4.2).
 ghost use Rattle.std.specs.Prelude.{◌≡◌, ◌≢◌, ◌≤◌, ◌+◌, ◌+ℤ◌, [], ◌∷◌, length, map, pos, IfOk, OnErr};
 ghost use Rattle.std.specs.List.{range_with_len};
 ghost use Rattle.requests.specs.declared.group.Group.{Group as AnyGroup};
@@ -17,9 +17,8 @@ use schema::{Customer, CustomerKey, DistrictKey, NoMemory};
 use slices::Slice;
 use tickets::{Claim, GroupNames};
 
-/// Credits each district's customer with the order that was delivered to it, from the first district on, up to
-/// one that isn't there or whose C_BALANCE or C_DELIVERY_CNT would leave its range. Want of memory changes
-/// nothing.
+/// Credits each district's customer with the order that was delivered to it, from the first district on, up to one who has no row
+/// or whose C_BALANCE or C_DELIVERY_CNT would leave its range. Returns NoMemory if an allocation fails; nothing has changed then.
 pub fn credit_customers<J: GroupNames>(
     slice: &mut Slice<J>,
     customers: &mut [Claim<J>],
@@ -36,7 +35,7 @@ pub fn credit_customers<J: GroupNames>(
     credit_from(slice, customers, w_id, 1, delivered)
 }
 
-// Those of the districts from this number on.
+// Credits the customers of the districts from this number on.
 fn credit_from<J: GroupNames>(
     slice: &mut Slice<J>,
     customers: &mut [Claim<J>],
@@ -71,7 +70,7 @@ fn credit_from<J: GroupNames>(
     }
 }
 
-// Credits the customer to whom the district's order was delivered, if one was.
+// Credits the customer to whom the district's order was delivered, if there is one.
 fn credit<J: GroupNames>(
     slice: &mut Slice<J>,
     customers: &mut Claim<J>,
@@ -108,7 +107,7 @@ fn credit<J: GroupNames>(
     Ok(CustomersCredited::Credited)
 }
 
-// The customer's row once an order of this amount was delivered, or `None` where a value leaves its range.
+// The customer's row once an order of this amount was delivered; `None` if a value would leave its range.
 fn customer_delivered(row: &Customer, amount: u32) -> Option<Customer>
     ensures { result ≡ customer_delivered row.now amount }
 {

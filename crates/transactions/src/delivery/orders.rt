@@ -20,7 +20,8 @@ use schema::{CarrierId, DistrictKey, NoMemory, OrderKey};
 use slices::Slice;
 use tickets::{Claim, GroupNames};
 
-/// Delivers the oldest new order of each district, where it has one. Want of memory changes nothing.
+/// Delivers the oldest new order of each district that has one. Returns NoMemory if an allocation fails; nothing has changed
+/// then.
 pub fn deliver_orders<J: GroupNames>(
     slice: &mut Slice<J>,
     orders: &mut [Claim<J>],
@@ -39,7 +40,7 @@ pub fn deliver_orders<J: GroupNames>(
     Ok(delivered)
 }
 
-// Those of the districts from this number on.
+// Delivers the orders of the districts from this number on.
 fn deliver_from<J: GroupNames>(
     slice: &mut Slice<J>,
     orders: &mut [Claim<J>],
@@ -76,7 +77,7 @@ fn deliver_from<J: GroupNames>(
     }
 }
 
-// Delivers the district's oldest new order, and says which it is; `None` where it has none.
+// Delivers the district's oldest new order and returns it; `None` if the district has none.
 fn deliver_oldest<J: GroupNames>(
     slice: &mut Slice<J>,
     orders: &mut Claim<J>,
@@ -110,7 +111,7 @@ fn deliver_oldest<J: GroupNames>(
     Ok(Some(order))
 }
 
-// The order that is the district's oldest new one, with its customer and what its lines come to.
+// The district's oldest new order, with its customer and the sum of its lines' amounts.
 fn order_of(rows: &Partition, home: DistrictKey, o_id: u32) -> OrderDelivered
     requires part { IsPart rows.now }
     requires oldest { oldest_new_order rows.now.tables home ≡ Some o_id }
@@ -132,7 +133,7 @@ fn order_of(rows: &Partition, home: DistrictKey, o_id: u32) -> OrderDelivered
     }
 }
 
-// What the lines of an order come to: they are 300 at most.
+// The sum of the amounts of an order's lines, of which there are 300 at most.
 fn amount_of(rows: &Partition, order: OrderKey) -> u32
     requires { IsPart rows.now }
     ensures { result ≡ amount_of rows.now.tables order }

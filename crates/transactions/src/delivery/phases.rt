@@ -14,17 +14,17 @@ use requests::{Delivery, DeliveryReply, Fault, Reply, Shown};
 use schema::NoMemory;
 use std::alloc::Global;
 
-/// How far a Delivery has come: its phase, with what that was given.
+/// How far a Delivery has come: its phase, with the phase's input.
 #[derive(Drop)]
 pub enum Progress {
-    /// The oldest new order of each district is delivered, at place 0.
+    /// Delivers the oldest new order of each district, at place 0.
     DeliverOrders(Delivery),
-    /// The customers who ordered them are credited, at place 1.
+    /// Credits the customers who ordered them, at place 1.
     CreditCustomers(Delivery, Delivered),
 }
 
 impl Progress {
-    // What the action of its phase does. Want of memory leaves nothing behind.
+    // The work of the phase's action. Returns NoMemory if an allocation fails; nothing is left then.
     pub(crate) fn works(&self, alloc: Global) -> Result<Vec<crate::Work>, NoMemory>
         ensures { IfOk result (λ works. works.items ≡ works_of self.now) }
     {
@@ -44,7 +44,7 @@ impl Progress {
         }
     }
 
-    // What follows, by what its action found. It takes no memory.
+    // The step after the phase, from what its action found. Never allocates.
     pub(crate) fn gather(
         self,
         _alloc: Global,
@@ -62,8 +62,8 @@ impl Progress {
     }
 }
 
-// The first phase has met: the customers are to be credited, or the Delivery is carried out, since no district
-// has a new order.
+// The step after the first phase: the customers are to be credited, or the Delivery is carried out, since no district has a new
+// order.
 fn gather_orders(delivery: Delivery, found: Vec<crate::Found>) -> Gathered
     requires { HasFound (any.Delivery (Progress.DeliverOrders delivery)) found.items }
     ensures { FollowsFrom (any.Delivery (Progress.DeliverOrders delivery)) found.items result }
@@ -76,7 +76,7 @@ fn gather_orders(delivery: Delivery, found: Vec<crate::Found>) -> Gathered
     }
 }
 
-// The second phase has met: the Delivery is carried out, or rolled back.
+// The step after the second phase: the Delivery is carried out, or rolled back.
 fn gather_customers(delivery: Delivery, delivered: Delivered, found: Vec<crate::Found>) -> Gathered
     requires { HasFound (any.Delivery (Progress.CreditCustomers delivery delivered)) found.items }
     ensures { FollowsFrom (any.Delivery (Progress.CreditCustomers delivery delivered)) found.items result }
@@ -101,7 +101,7 @@ fn is_any(delivered: &Delivered) -> bool
     false
 }
 
-// What is shown.
+// The reply.
 fn reply(delivery: &Delivery, delivered: &Delivered) -> DeliveryReply
     ensures { result ≡ delivery_reply delivery.now (numbers_of delivered.now) }
 {
@@ -115,7 +115,7 @@ fn reply(delivery: &Delivery, delivered: &Delivered) -> DeliveryReply
     }
 }
 
-// The number of the order that was delivered, if there was one.
+// The number of the order that was delivered, if there is one.
 fn number_of(one: Option<OrderDelivered>) -> Option<u32>
     ensures { result ≡ number_of one }
 {

@@ -1,4 +1,4 @@
-//! What the actions of a Delivery do, what they claim for it, and what they find.
+//! The actions of a Delivery: their work, what they claim for it, and what they find.
 ghost use Rattle.std.specs.Prelude.{◌≡◌, length, slice_get, IfOk, OnErr};
 ghost use Rattle.partitions.specs.Parts.{shared_of};
 ghost use Rattle.slices.specs.SliceView.{SliceKeeps};
@@ -14,15 +14,15 @@ use schema::NoMemory;
 use slices::Slice;
 use tickets::{Claim, GroupNames};
 
-// A warehouse has so many districts.
+// The number of districts of a warehouse.
 const DISTRICTS: usize = 10;
 
-/// What an action of a Delivery does.
+/// The work of an action of a Delivery.
 #[derive(Drop)]
 pub enum Work {
-    /// The oldest new order of each district is delivered.
+    /// Delivers the oldest new order of each district.
     DeliverOrders(Delivery),
-    /// The customers who ordered them are credited.
+    /// Credits the customers who ordered them.
     CreditCustomers(Delivery, Delivered),
 }
 
@@ -34,7 +34,7 @@ pub enum Found {
 }
 
 impl Work {
-    // The W_ID of the warehouse at which it is done.
+    // The W_ID of the warehouse at which the work is done.
     pub(crate) fn home(&self) -> u32
         ensures { result ≡ home_of self.now }
     {
@@ -44,7 +44,7 @@ impl Work {
         }
     }
 
-    // How many groups it claims.
+    // The number of groups that the work wants.
     pub(crate) fn group_want_count(&self) -> usize
         ensures { result ≡ length (group_wants_of self.now) }
     {
@@ -74,8 +74,8 @@ impl Work {
         }
     }
 
-    // Does the work, in the slice of its warehouse, under the claims that were granted for it. Want of memory
-    // changes nothing.
+    // Does the work in the slice of its warehouse, under the claims that were granted for it. Returns NoMemory if an allocation
+    // fails; nothing has changed then.
     pub(crate) fn run<J: GroupNames>(
         self,
         slice: &mut Slice<J>,

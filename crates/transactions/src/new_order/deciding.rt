@@ -1,4 +1,4 @@
-//! What becomes of a New-Order, by what the groups of its stock found.
+//! The step after the second phase of a New-Order, from what the groups of its stock found.
 ghost use Rattle.std.specs.Prelude.{◌≡◌, ◌≤◌, ◌*◌, ◌+◌, length, map, IfOk};
 ghost use Rattle.std.specs.List.{filter_map, list_all, list_any};
 ghost use Rattle.machine.specs.NewOrder.{order_key, sum_of};
@@ -14,8 +14,8 @@ use requests::{Fault, Lines, NewOrderLine, NewOrderReply};
 use schema::{DistrictKey, NoMemory, OrderKey, OrderLine};
 use std::alloc::Global;
 
-/// The order with its lines in order, or why it is rolled back: an item that isn't there comes before a number or
-/// a counter out of its range.
+/// The order with its lines in order, or why it is rolled back: a missing item comes before a number or a counter out of its
+/// range.
 pub(crate) fn decide(
     alloc: Global,
     given: OrderBegun,
@@ -40,7 +40,7 @@ pub(crate) fn decide(
     Ok(Ok(placed(alloc, given, sold)?))
 }
 
-// Whether a group found that an item isn't there.
+// Whether a group found that an item is missing.
 fn lacks_item(found: &[StockTaken]) -> bool
     ensures { result ≡ list_any is_no_item found.now }
 {
@@ -64,7 +64,7 @@ fn are_taken(found: &[StockTaken]) -> bool
     true
 }
 
-// So many lines by their numbers, in whatever order the groups sold them.
+// The lines by their numbers, 1 to `count`, in whatever order the groups sold them.
 fn put_in_order(
     alloc: Global,
     count: usize,
@@ -116,7 +116,7 @@ fn filled_places(alloc: Global, places: Vec<Option<LineSold>>) -> Result<Vec<Lin
     Ok(lines)
 }
 
-// The rows that are to be added, and the reply.
+// The rows to be added, and the reply.
 fn placed(alloc: Global, given: OrderBegun, sold: Vec<LineSold>) -> Result<OrderPlaced, NoMemory>
     requires within { IsOrderWithin given.order }
     requires few { length sold.items ≤ 15 }
@@ -160,7 +160,7 @@ fn key_of(home: DistrictKey, o_id: u32) -> OrderKey
     }
 }
 
-// What the lines come to, in cents.
+// The sum of the lines' amounts, in cents.
 fn sum_sold(sold: &[LineSold]) -> u32
     requires { length sold.now ≤ 15 }
     ensures value { result ≡ sum_of (map (λ line. line.row) sold.now) }
@@ -173,7 +173,7 @@ fn sum_sold(sold: &[LineSold]) -> u32
     sum
 }
 
-// The rows of ORDER-LINE, and what is shown.
+// The rows of ORDER-LINE, and what the reply shows of them.
 fn columns(
     alloc: Global,
     sold: Vec<LineSold>,

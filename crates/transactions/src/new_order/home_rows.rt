@@ -13,8 +13,8 @@ use schema::{CustomerKey, NoMemory};
 use slices::Slice;
 use tickets::{Claim, GroupNames};
 
-/// Gives a New-Order the next number of its home district, where D_NEXT_O_ID can grow. Want of memory changes
-/// nothing.
+/// Gives a New-Order the next number of its home district, if D_NEXT_O_ID can grow. Returns NoMemory if an allocation fails;
+/// nothing has changed then.
 pub fn take_number<J: GroupNames>(
     slice: &mut Slice<J>,
     warehouse: &mut Claim<J>,
@@ -54,7 +54,7 @@ pub fn take_number<J: GroupNames>(
     Ok(HomeFound::Shown(shown))
 }
 
-/// Shows the customer of a New-Order. It takes no memory, and changes nothing.
+/// Shows the customer of a New-Order. Never allocates, and changes nothing.
 pub fn show_orderer<J: GroupNames>(
     slice: &mut Slice<J>,
     customers: &mut Claim<J>,
@@ -83,7 +83,7 @@ pub fn show_orderer<J: GroupNames>(
     }
 }
 
-/// Adds an order with its row of NEW-ORDER and its lines. Want of memory changes nothing.
+/// Adds an order with its row of NEW-ORDER and its lines. Returns NoMemory if an allocation fails; nothing has changed then.
 pub fn add_order<J: GroupNames>(
     slice: &mut Slice<J>,
     orders: &mut Claim<J>,

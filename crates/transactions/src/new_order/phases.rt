@@ -22,19 +22,19 @@ use requests::{Fault, Group, NewOrder, OrderedLine, Reply, Shown};
 use schema::NoMemory;
 use std::alloc::Global;
 
-/// How far a New-Order has come: its phase, with what that was given.
+/// How far a New-Order has come: its phase, with the phase's input.
 #[derive(Drop)]
 pub enum Progress {
-    /// It gets its number at place 0, and its customer is shown at place 1.
+    /// Takes its number at place 0, and shows its customer at place 1.
     ReadRows(NewOrder),
-    /// Its lines are taken from the stock, from place 2 on: an action for each group that supplies some.
+    /// Takes its lines from the stock, from place 2 on: one action for each group that supplies lines.
     TakeLines(OrderBegun),
-    /// It is added, at the last place.
+    /// Adds it, at the last place.
     AddRows(OrderPlaced),
 }
 
 impl Progress {
-    // What the actions of its phase do, by place. Want of memory leaves nothing behind.
+    // The works of the phase's actions, by place. Returns NoMemory if an allocation fails; nothing is left then.
     pub(crate) fn works(&self, alloc: Global) -> Result<Vec<crate::Work>, NoMemory>
         ensures { IfOk result (λ works. works.items ≡ works_of self.now) }
     {
@@ -54,7 +54,8 @@ impl Progress {
         }
     }
 
-    // What follows, by what its actions found, by place. Want of memory leaves nothing behind.
+    // The step after the phase, from what its actions found, by place. Returns NoMemory if an allocation fails; nothing is left
+    // then.
     pub(crate) fn gather(
         self,
         alloc: Global,
@@ -71,7 +72,7 @@ impl Progress {
     }
 }
 
-// An action for each group of stock that supplies lines.
+// One action for each group of stock that supplies lines.
 fn stock_works(alloc: Global, given: &OrderBegun) -> Result<Vec<crate::Work>, NoMemory>
     ensures { IfOk result (λ works. works.items ≡ works_of (Progress.TakeLines given.now)) }
 {
@@ -90,7 +91,7 @@ fn stock_work(order: &NewOrder, group: Group) -> Result<crate::Work, NoMemory>
     Ok(crate::Work::NewOrder(Work::TakeStock(order.clone()?, group)))
 }
 
-// The first phase has met: the groups that supply the lines, or that the order is nobody's.
+// The step after the first phase: the groups that supply the lines, or a rollback if its home rows or its customer are missing.
 fn gather_rows(
     alloc: Global,
     order: NewOrder,
@@ -118,7 +119,7 @@ fn gather_rows(
     Ok(Gathered::Next(crate::Progress::NewOrder(Progress::TakeLines(begun))))
 }
 
-// The groups that supply the lines, each once, by its first line.
+// The groups that supply the lines, each once, in the order of their first lines.
 fn supplies(alloc: Global, lines: &[OrderedLine]) -> Result<Vec<Group>, NoMemory>
     ensures { IfOk result (λ groups. groups.items ≡ supplies_of lines.now) }
 {
@@ -132,7 +133,7 @@ fn supplies(alloc: Global, lines: &[OrderedLine]) -> Result<Vec<Group>, NoMemory
     Ok(groups)
 }
 
-// Whether the group is one of them.
+// Whether the group is among these.
 fn is_among(groups: &[Group], group: Group) -> bool
     ensures { result ≡ list_any (λ own. is_same own group) groups.now }
 {
@@ -144,7 +145,7 @@ fn is_among(groups: &[Group], group: Group) -> bool
     false
 }
 
-// The second phase has met: the order with its lines in order, or why it is rolled back.
+// The step after the second phase: the order with its lines in order, or a rollback.
 fn gather_stock(
     alloc: Global,
     given: OrderBegun,
@@ -160,7 +161,7 @@ fn gather_stock(
     }
 }
 
-// The third phase has met: the New-Order is carried out.
+// The step after the third phase: the New-Order is carried out.
 fn gather_added(placed: OrderPlaced, found: Vec<crate::Found>) -> Gathered
     ensures { FollowsFrom (any.NewOrder (Progress.AddRows placed)) found.items result }
 {

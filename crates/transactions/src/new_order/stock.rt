@@ -35,15 +35,16 @@ pub(crate) struct StockPut {
     pub(crate) row: Stock,
 }
 
-/// Lines that can be sold, and the rows that are to be put for it.
+/// Lines that can be sold, and the rows that are to be put for them.
 #[derive(Drop)]
 pub(crate) struct Sale {
     pub(crate) sold: Vec<LineSold>,
     pub(crate) puts: Vec<StockPut>,
 }
 
-/// Takes the lines of an order from the stock of the group that supplies them, where each one's item is there and
-/// each counter stays in its range. An item that isn't there comes first. Want of memory changes nothing.
+/// Takes the lines of an order from the stock of the group that supplies them, if each line's item is there and each counter
+/// stays in its range. A missing item comes before a counter out of its range. Returns NoMemory if an allocation fails; nothing
+/// has changed then.
 pub fn take_stock<J: GroupNames>(
     alloc: Global,
     slice: &mut Slice<J>,
@@ -85,8 +86,8 @@ fn has_items(rows: &Partition, lines: &[OrderedLine], group: Group) -> bool
     true
 }
 
-// What is sold of the lines that the group supplies, and the rows that are to be put for it, or `None` where a line
-// can't be placed. Nothing changes yet: each line is taken from the row as it is before the order.
+// What is sold of the lines that the group supplies, and the rows that are to be put for them; `None` if a line can't be placed.
+// Changes nothing: each line is taken from the row as it is before the order.
 fn sell(
     alloc: Global,
     rows: &Partition,

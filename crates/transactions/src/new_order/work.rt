@@ -1,4 +1,4 @@
-//! What the actions of a New-Order do, what they claim for it, and what they find.
+//! The actions of a New-Order: their work, what they claim for it, and what they find.
 ghost use Rattle.std.specs.Prelude.{◌≡◌, length, slice_get, IfOk, OnErr};
 ghost use Rattle.partitions.specs.Parts.{shared_of};
 ghost use Rattle.slices.specs.SliceView.{SliceKeeps};
@@ -15,16 +15,16 @@ use slices::Slice;
 use std::alloc::Global;
 use tickets::{Claim, GroupNames};
 
-/// What an action of a New-Order does.
+/// The work of an action of a New-Order.
 #[derive(Drop)]
 pub enum Work {
-    /// D_NEXT_O_ID of its home district grows, where it can.
+    /// D_NEXT_O_ID of its home district grows, if it can.
     TakeNumber(NewOrder),
-    /// Its customer is shown.
+    /// Shows its customer.
     ShowOrderer(NewOrder),
-    /// The lines that the group supplies are taken from its stock.
+    /// Takes the lines that the group supplies from its stock.
     TakeStock(NewOrder, Group),
-    /// It is added, with its lines.
+    /// Adds it, with its lines.
     AddOrder(OrderRows),
 }
 
@@ -39,7 +39,7 @@ pub enum Found {
 }
 
 impl Work {
-    // The W_ID of the warehouse at which it is done.
+    // The W_ID of the warehouse at which the work is done.
     pub(crate) fn home(&self) -> u32
         ensures { result ≡ home_of self.now }
     {
@@ -50,7 +50,7 @@ impl Work {
         }
     }
 
-    // How many groups it claims.
+    // The number of groups that the work wants.
     pub(crate) fn group_want_count(&self) -> usize
         ensures { result ≡ length (group_wants_of self.now) }
     {
@@ -96,8 +96,8 @@ impl Work {
         }
     }
 
-    // Does the work, in the slice of its warehouse, under the claims that were granted for it. Want of memory
-    // changes nothing.
+    // Does the work in the slice of its warehouse, under the claims that were granted for it. Returns NoMemory if an allocation
+    // fails; nothing has changed then.
     pub(crate) fn run<J: GroupNames>(
         self,
         alloc: Global,

@@ -9,7 +9,7 @@ use Rattle.engine.specs.declared.session.Left.{Left}
 use Rattle.engine.proofs.Sessions.{asked_next, each_next}
 use Rattle.engine.proofs.closing.audit_left.Goals as goal
 
--- one session more, which asked what stands there
+-- one more session, which asked the script at its place
 pub loop-session-preserved : goal.loop-session-preserved
 loop-session-preserved g c =
     let scale = g.J.LogNames.opening.scale in

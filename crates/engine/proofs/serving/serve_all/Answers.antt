@@ -4,7 +4,7 @@ use Rattle.tickets.specs.Unset.{no_table, nothing}
 use Rattle.engine.proofs.AtOpening.{agreements_named, agreed_phases_named}
 use Rattle.engine.proofs.serving.serve_all.Goals as goal
 
--- the names are those of what was opened for the tables and the scripts
+-- the type parameter identifies what was opened for the tables and the scripts
 pub serve_from-requires-clause-named : goal.serve_from-requires-clause-named
 serve_from-requires-clause-named g c = λ κs within.
     let opening = c.in_ok-opened.opened in

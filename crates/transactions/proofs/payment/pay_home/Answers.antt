@@ -59,7 +59,7 @@ returns-clause-paid g c =
     subst (λ (names : List ℕ × List ℕ). IsHomePaid p (h.Paid names.0 names.1) c.put_home.new.warehouse c.put_home.new.district)
     (λ i. (sym c.copy.ensures i, sym c.copy-2.ensures i)) paid
 
--- what the claim left stands there still
+-- what the claim left is still stored there
 pub put_home-requires-clause-warehouse_left : goal.put_home-requires-clause-warehouse_left
 put_home-requires-clause-warehouse_left g c =
     let same = c.look.ensures.same.1 in

@@ -4,7 +4,7 @@ use Rattle.groups.specs.Content.{content}
 use Rattle.tickets.specs.Claims.{ClaimView}
 use Rattle.transactions.proofs.stock_level.count_low.Given as goal
 
--- nothing changes, and each claim so far tells what its group has
+-- nothing changes, and each claim so far records the content of its group
 abbrev pub invariant-loop-claim : goal.invariant-loop-claim
 invariant-loop-claim g l = record {
   slice : l.slice ≡ l.initial.slice;

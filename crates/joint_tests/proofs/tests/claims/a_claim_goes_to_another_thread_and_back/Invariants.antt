@@ -1,4 +1,4 @@
--- There is one warehouse, and the names are those of the seats that the test opens.
+-- There is one warehouse, and the type parameter identifies the seats that the test opens.
 use Rattle.joint_tests.proofs.tests.claims.a_claim_goes_to_another_thread_and_back.Given as goal
 
 abbrev pub ghosts-shared_by_two_threads : goal.ghosts-shared_by_two_threads

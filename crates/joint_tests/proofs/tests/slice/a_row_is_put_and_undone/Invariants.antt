@@ -1,4 +1,4 @@
--- The names are those of the seats that the test opens.
+-- The type parameter identifies the seats that the test opens.
 use Rattle.std.specs.Prelude.{slice_index_or}
 use Rattle.tickets.specs.Openings.{opened}
 use Rattle.tickets.specs.Places.{place_of}

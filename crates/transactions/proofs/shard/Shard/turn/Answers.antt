@@ -27,7 +27,7 @@ run_under-ran-requires-clause-granted g c =
     shards.granted_there g.J.GroupNames.warehouses slice c.next_grant.new.self c.self.inside.parked.items c.remove-work.new.self.items c.in-Granted.index by takes.0 c.remove-work.result
     c.self.invariant takes.1 c.remove-work.ensures.value c.remove-work.ensures.items c.in-Granted.claims.items takes.2
 
--- the turn of one who is granted all
+-- the turn of an action that is granted all
 granted : (g : given.Over) (c : After-run_under-ran g)
     → OneTurn (shard_view c.self.inside.slice c.self.inside.parked.items) (record { by = c.in-Granted.by; ran = c.run_under-ran.result; carried = c.remove-work.result.carried }) (shard_view c.run_under-ran.new.slice c.remove-work.new.self.items)
     × IsShard g.J.GroupNames.warehouses c.run_under-ran.new.slice c.remove-work.new.self.items
