@@ -389,9 +389,9 @@ numbered_where test (order ∷ orders) each =
       | false ↦ numbered_where test orders each.1
     ]
 
--- ---- an order that comes with its lines
+-- ---- an order that is inserted with its lines
 
--- what stands among lines of one order
+-- a look-up among the lines of one order
 find_of : (q : OrderLineKey) (order : OrderKey) (lines : List (ℕ × OrderLine))
     → get (line_table (with_keys order lines)) q ≡ cond (eq_by_cmp order_cmp (order_of_line q) order) (get (numbered lines) q.number) None
 find_of q order lines =
@@ -507,7 +507,7 @@ set_same at lines (order ∷ orders) h =
       | false ↦ λ e. ap (λ l. order ∷ l) (set_same at lines orders e)
     ] h
 
--- where no key comes in, the entry is written in its place
+-- if no key is inserted, the entry is written in its place
 pub set_in_place : (order : OrderKey) (lines : List (ℕ × OrderLine)) (orders : List (OrderKey × List (ℕ × OrderLine))) → keys_of (insert_entry order_cmp orders order lines) ≡ keys_of orders
     → insert_entry order_cmp orders order lines ≡ set_value (is_at (order_cmp order)) orders lines
 set_in_place order lines [] stay = cc
@@ -555,7 +555,7 @@ few_between low high orders =
 
 -- ---- the lines of one order
 
--- behind an order it stands no more
+-- an order is not among the orders after it
 not_behind : (order : OrderKey) (orders : List (OrderKey × List (ℕ × OrderLine))) → AllByRecursion (λ later. order_cmp order later ≡ Less) (keys_of orders)
     → entries_between order_cmp (Included order) (Included order) orders ≡ []
 not_behind order [] behind = refl
