@@ -1,4 +1,4 @@
--- The scale's keys: which one stands at a place, and that they ascend.
+-- The scale's keys: the key at an index, and that they ascend.
 use Rattle.std.proofs.Common.{is_some, Bool, true, false, cond, Option, None, ◌≡◌, ℕ, zero, suc, ◌+◌, ◌*◌, ◌/◌, ◌<◌, ◌≤◌, List, [], ◌∷◌, ◌++◌, map, length, Some, refl, sym, ap, subst, ◌∙◌, arith}
 use Rattle.std.specs.Prelude.{if◌then◌else◌}
 use Rattle.std.specs.List.{range_with_len, slice_get, flat_map, AllByRecursion}
