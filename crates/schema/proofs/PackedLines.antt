@@ -1,4 +1,4 @@
--- Lines that stand under their orders: which line is at a key, and that all are in order.
+-- Lines that are stored under their orders: which line is at a key, and that all are in order.
 use Rattle.std.proofs.Common.{◌≡◌, ◌≢◌, ℕ, ◌+◌, ◌-◌, ◌<◌, ◌≤◌, ◌^◌, Bool, true, false, cond, not, ◌&&◌, ◌||◌, List, [], ◌∷◌, ◌++◌, length, Option, Some, None, IsTrue, IsSome, is_some, nat_eq, nat_le, nat_lt, length-append, suc, refl, sym, ap, subst, ◌∙◌, arith, drop}
 use Rattle.std.specs.List.{filter, list_all, AllByRecursion}
 use Rattle.std.specs.List.Sorted.{IsStrictlySortedBy}
@@ -139,7 +139,7 @@ read_line orders sorted q =
     same_read None = refl
     same_read (Some lines) = sym (get-from_entries nat_cmp_total lines q.number)
 
--- ---- all lines stand in the order of their keys
+-- ---- all lines are in key order
 
 sorted_both : {K : Type 0} (R : K → K → Ordering) (xs ys : List K) → IsStrictlySortedBy R xs → IsStrictlySortedBy R ys
     → AllByRecursion (λ x. AllByRecursion (λ y. R x y ≡ Less) ys) xs → IsStrictlySortedBy R (xs ++ ys)

@@ -277,7 +277,8 @@ impl OrderLines {
     }
 
     /// Moves the lines of `others` here. At a key that both have, the line of `others` replaces the
-    /// line here. After an error, some lines of `others` are missing.
+    /// line here. Returns `NoMemory` if an allocation fails or there would be more than 2^63 - 1 lines;
+    /// some lines of `others` are missing then.
     pub fn append(&mut self, others: OrderLines) -> Result<(), NoMemory>
         ensures { OnOk result ((key : OrderLineKey) → table.get (line_table self.new) key
             ≡ option_or (table.get (line_table others) key) (table.get (line_table self.old) key)) }
@@ -312,8 +313,8 @@ impl OrderLines {
         Ok(())
     }
 
-    /// Removes the lines of the warehouses from `warehouse` on and returns them. After an error, some
-    /// lines may be lost.
+    /// Removes the lines of the warehouses from `warehouse` on and returns them. Returns `NoMemory` if
+    /// an allocation fails; some lines may be lost then.
     pub fn split_off(&mut self, warehouse: u32) -> Result<OrderLines, NoMemory>
         ensures from { IfOk result (λ later. later ≡ filter (λ e. nat_le warehouse e.0.w_id) self.old) }
         ensures below { OnOk result (self.new ≡ filter (λ e. nat_lt e.0.w_id warehouse) self.old) }
@@ -333,8 +334,9 @@ impl OrderLines {
         })
     }
 
-    // Adds the order's lines, numbered from 1, and returns the lines that they replace. After an error,
-    // no line has changed.
+    // Adds the order's lines, numbered from 1, and returns the lines that they replace. Returns
+    // `NoMemory` if an allocation fails or there would be more than 2^63 - 1 lines; no line has changed
+    // then.
     pub(crate) fn add(
         &mut self,
         order: OrderKey,
