@@ -53,7 +53,7 @@ get-grid key count (first ∷ os) (suc p) j o e below =
     get-back (map (key first) (range_with_len 1 count)) (grid key count os) (p * count + j) (suc p * count + j) (omega arith)
     ∙ get-grid key count os p j o e below
 
--- a place lies in one of the blocks
+-- an index is in one of the blocks
 pub block_below : (n blocks count : ℕ) → 0 < count → n < blocks * count → n / count < blocks
 block_below n blocks count some below = (div-lt_iff_lt-mul some).1 below
 

@@ -1,4 +1,4 @@
--- The rows that a loop goes over are those of the tables.
+-- The rows that a loop reads are those of the tables.
 use Rattle.std.proofs.Common.{◌≡◌, Bool, ℕ, ◌+◌, ◌≤◌, List, [], ◌∷◌, ◌++◌, map, length, sum, codes, refl, sym, ap, subst, ◌∙◌, arith}
 use Rattle.std.specs.List.{zip, flat_map, AllZip}
 use Rattle.std.specs.List.Sorted.{IsStrictlySortedBy}
