@@ -23,10 +23,10 @@ impl Model for Cents {
 }
 
 impl Cents {
-    /// Nothing owed and nothing had.
+    /// An amount of zero.
     pub const ZERO: Cents = Cents { cents: 0 };
 
-    /// The amount of that many cents, which is known to be in range.
+    /// An amount of `cents` cents. The caller ensures that `cents` is in range.
     pub fn new(cents: i64) -> Self
         requires { IsMoney cents }
         ensures { result ≡ cents }
@@ -34,7 +34,7 @@ impl Cents {
         Cents { cents }
     }
 
-    /// The amount of that many cents, or `None` where it is out of range.
+    /// An amount of `cents` cents, or `None` if `cents` is out of range.
     pub fn checked_new(cents: i64) -> Option<Self>
         ensures { result ≡ money cents }
     {
@@ -45,7 +45,7 @@ impl Cents {
         }
     }
 
-    /// The whole cents, from -10^15 to 10^15.
+    /// The amount in whole cents, from -10^15 to 10^15.
     pub fn get(self) -> i64
         ensures value { result ≡ self }
         ensures in_range { IsMoney self }
@@ -53,14 +53,14 @@ impl Cents {
         self.cents
     }
 
-    /// The sum, or `None` where it is out of range.
+    /// The sum, or `None` if it is out of range.
     pub fn checked_add(self, other: Cents) -> Option<Self>
         ensures { result ≡ money (self +ℤ other) }
     {
         Cents::checked_new(self.cents + other.cents)
     }
 
-    /// The difference, or `None` where it is out of range.
+    /// The difference, or `None` if it is out of range.
     pub fn checked_sub(self, other: Cents) -> Option<Self>
         ensures { result ≡ money (self -ℤ other) }
     {

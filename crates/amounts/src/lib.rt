@@ -1,4 +1,4 @@
-//! Money in whole cents, rates in ten-thousandths, and the amounts of orders. Clauses are those of
+//! Money in whole cents, rates in ten-thousandths, and the amounts of orders. Clause numbers refer to
 //! TPC-C 5.11.
 #![tactic(auto)]
 

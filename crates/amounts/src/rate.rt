@@ -22,7 +22,7 @@ impl Model for Rate {
 }
 
 impl Rate {
-    /// The rate of that many ten-thousandths, which is known to be in range.
+    /// A rate of `ten_thousandths` ten-thousandths. The caller ensures that it is below 10,000.
     pub fn new(ten_thousandths: u16) -> Self
         requires { ten_thousandths < 10000 }
         ensures { result ≡ ten_thousandths }
@@ -30,7 +30,7 @@ impl Rate {
         Rate { ten_thousandths }
     }
 
-    /// The rate of that many ten-thousandths, or `None` where it is out of range.
+    /// A rate of `ten_thousandths` ten-thousandths, or `None` if it is out of range.
     pub fn checked_new(ten_thousandths: u16) -> Option<Self>
         ensures { SomeIff result (ten_thousandths < 10000) ten_thousandths }
     {
@@ -41,7 +41,7 @@ impl Rate {
         }
     }
 
-    /// The ten-thousandths, from 0 to 9,999.
+    /// The rate in ten-thousandths, from 0 to 9,999.
     pub fn get(self) -> u16
         ensures value { result ≡ self }
         ensures in_range { self < 10000 }

@@ -4,8 +4,8 @@ ghost use Rattle.amounts.specs.Total.{IsNearestCent, TotalIsNearestCent, scaled_
 
 use crate::{Cents, Rate};
 
-/// OL_AMOUNT, the amount of an order line in cents: quantity times price (clause 2.4.2.2). A caller
-/// knows that the product is in range.
+/// OL_AMOUNT, the amount of an order line in cents: quantity times price (clause 2.4.2.2). The caller
+/// ensures that the product is in range.
 pub fn line_amount(quantity: u8, price: Cents) -> Cents
     requires fits { IsMoney (pos quantity *ℤ price) }
     ensures { result ≡ pos quantity *ℤ price }
@@ -13,9 +13,10 @@ pub fn line_amount(quantity: u8, price: Cents) -> Cents
     Cents::new(i64::from(quantity) * price.get())
 }
 
-/// An order's total in cents: the sum of its lines less the discount, with the taxes of the warehouse
-/// and the district (clause 2.4.2.2), to the nearest cent, halves up. The sum isn't negative, and
-/// three times the sum is in range, so that the total is too.
+/// An order's total in cents: the sum of its line amounts less the discount, plus the taxes of the
+/// warehouse and the district (clause 2.4.2.2), rounded to the nearest cent, halves up. The caller
+/// ensures that the sum is not negative and that three times the sum is in range; the total is in range
+/// then.
 pub fn order_total(sum: Cents, discount: Rate, warehouse_tax: Rate, district_tax: Rate) -> Cents
     requires low { pos 0 ≤ℤ sum }
     requires fits { IsMoney (pos 3 *ℤ sum) }
@@ -26,7 +27,8 @@ pub fn order_total(sum: Cents, discount: Rate, warehouse_tax: Rate, district_tax
     Cents::new(((scaled + 50_000_000) / 100_000_000) as i64)
 }
 
-/// A law, proved and of no effect: the total that `order_total` gives is the one nearest cent.
+/// A law (proved, no effect at run time): the total that `order_total` returns is the only nearest
+/// cent.
 pub fn total_is_nearest_cent()
     ensures { TotalIsNearestCent }
 {}

@@ -18,7 +18,7 @@ use Rattle.consistency.specs.Carriers.{comes_with}
 abbrev pub has_no_carrier : Database → OrderKey × Order → Bool
 has_no_carrier t e = beq (is_none e.1.carrier_id) (map.contains_key t.new_orders e.0)
 
--- whether the line comes with its order
+-- whether the line's delivery date agrees with the carrier of its order
 abbrev pub comes : Database → OrderLineKey × OrderLine → Bool
 comes t e = comes_with e.1 (map.get t.orders (order_of_line e.0))
 

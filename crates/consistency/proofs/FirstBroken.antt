@@ -1,11 +1,11 @@
--- The first condition that tables break, from what is told of each.
+-- The first condition that tables break, from the report on each condition.
 use Rattle.std.proofs.Common.{◌≡◌, ◌≢◌, ◌⊎◌, inl, inr, ℕ, zero, suc, ◌+◌, ◌-◌, ◌<◌, ◌↔◌, Bool, true, false, IsTrue, List, [], ◌∷◌, length, get_or, refl, sym, ap, subst, ◌∙◌, arith}
 use Rattle.schema.specs.Database.{Database}
 use Rattle.consistency.specs.Conditions.{conditions, Report, AreExact}
 use Rattle.schema.specs.Consistency.{Consistent}
 use Rattle.consistency.specs.Broken.{HoldsAmong, Meets, IsAskedFor, BreaksFirst}
 
--- what is told of the condition at a place
+-- the report on the condition at an index
 reported : (all : List (Database → Type 0)) (t : Database) (answers : List Bool) (k : ℕ) (d : Bool) → Report all t answers → k < length answers → IsTrue (get_or answers k d) ↔ HoldsAmong all k t
 reported [] t [] k d h low = absurd (omega arith)
 reported [] t (a ∷ answers) k d h low = absurd h
@@ -38,7 +38,7 @@ one_place_more t answers place exact low found below k up other =
     by_last (suc n) zero G up less last = less (omega arith)
     by_last (suc n) (suc m) G up less last = by_last n m G (omega arith) (λ l. less (omega arith)) (λ e. last (ap suc e))
 
--- a condition at a place stands for the condition of the number after it
+-- a condition at an index is the condition with the number after the index
 meets_at : (t : Database) (n place : ℕ) → n ≡ place + 1 → HoldsAmong conditions place t → Meets t n
 meets_at t n place is holds = let at : place ≡ n - 1 = omega arith in subst (λ k. HoldsAmong conditions k t) at holds
 

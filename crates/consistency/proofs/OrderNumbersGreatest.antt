@@ -74,7 +74,7 @@ no_gap_at : (ns : List ℕ) → no_gap ns ↔ ((first : ℕ) (others : List ℕ)
 no_gap_at [] = (λ h first others e. absurd cc, λ h. tt)
 no_gap_at (n ∷ ns) = (λ h first others e. subst no_gap e h, λ h. h n ns refl)
 
--- the greatest, the least and the count of a list that isn't empty tell whether it has a gap
+-- the greatest, the least and the count of a list that is not empty determine whether it has a gap
 pub gap_rule : (ns : List ℕ) (g l count : ℕ) → Some g ≡ reduce max ns → Some l ≡ reduce min ns → count ≡ length ns
     → IsTrue (g + 1 == l + count) ↔ ((first : ℕ) (others : List ℕ) → ns ≡ first ∷ others → greatest (first ∷ others) + 1 ≡ least first others + length (first ∷ others))
 gap_rule [] g l count is_g is_l is = absurd cc

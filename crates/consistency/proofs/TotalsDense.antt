@@ -1,4 +1,4 @@
--- Tables whose rows stand in the order of their keys: what holds of each row, and what the rows come to.
+-- Tables whose rows are in key order: what holds for each row, and the sums over the rows.
 use Rattle.std.proofs.Common.{◌≡◌, ◌↔◌, ℕ, zero, suc, ◌<◌, true, false, cond, List, [], ◌∷◌, length, Option, Some, None, refl, sym, ap, subst, ◌∙◌, arith}
 use Rattle.std.proofs.lemmas.Int.{ints}
 use Rattle.std.proofs.lemmas.Option.{slice_get_within}
@@ -48,13 +48,13 @@ module _ {K : Type 0} {R : K → K → Ordering} (o : IsTotalOrder R) (a : IsAnt
         | false ↦ λ t e. let s = some_suc (place (eq_by_cmp R q) ks) 0 e in let is : 0 ≡ suc s.0 = s.2 in absurd (omega arith)
       ] refl h
 
-  -- keys that stand at one place are equal
+  -- keys at the same index are equal
   pub place-exact : (p q : K) (ks : List K) (n : ℕ) → place (eq_by_cmp R p) ks ≡ Some n → place (eq_by_cmp R q) ks ≡ Some n → p ≡ q
   place-exact p q [] n h g = absurd cc
   place-exact p q (k ∷ ks) zero h g = foremost p k ks h ∙ sym (foremost q k ks g)
   place-exact p q (k ∷ ks) (suc n) h g = place-exact p q ks n (behind p k ks n h).1 (behind q k ks n g).1
 
-  -- where each place has a key of its own, the first key doesn't stand again
+  -- if each index has its own key, the first key does not occur again
   stands_once : (k : K) (ks : List K) (key_at : ℕ → K) → ((n : ℕ) → n < length (k ∷ ks) → place (eq_by_cmp R (key_at n)) (k ∷ ks) ≡ Some n)
       → place (eq_by_cmp R k) ks ≡ None
   stands_once k ks key_at placed =

@@ -11,11 +11,11 @@ use Rattle.schema.specs.Scale.{customer_slot}
 use Rattle.schema.specs.Database.{customer_of_order}
 use Rattle.consistency.specs.Totals.{IsWithin}
 
--- each customer's total stands at the customer's slot
+-- the total of each customer is at the customer's slot
 abbrev pub AreTotals : Scale → (CustomerKey → ℤ) → List ℤ → Type 0
 AreTotals scale total totals = (key : CustomerKey) (slot : ℕ) → customer_slot scale key ≡ Some slot → slice_get totals slot ≡ Some (total key)
 
--- there is a place for each customer's total
+-- there is an element for the total of each customer
 abbrev pub HasRoom : Scale → List ℤ → Type 0
 HasRoom scale totals = (key : CustomerKey) (slot : ℕ) → customer_slot scale key ≡ Some slot → slot < length totals
 
@@ -23,11 +23,11 @@ HasRoom scale totals = (key : CustomerKey) (slot : ℕ) → customer_slot scale 
 abbrev pub AreWithin : ℕ → List ℤ → Type 0
 AreWithin limit totals = (slot : ℕ) (total : ℤ) → slice_get totals slot ≡ Some total → IsWithin limit total
 
--- whether this is that customer
+-- whether the two keys are the same customer's
 abbrev pub is_customer : CustomerKey → CustomerKey → Bool
 is_customer key other = (other.w_id == key.w_id) && ((other.d_id == key.d_id) && (other.c_id == key.c_id))
 
--- to whom the line of the order was delivered, where it was
+-- the customer to whom the line of the order was delivered, or None if it was not delivered
 abbrev pub receiver : OrderLineKey → OrderLine → Option Order → Option CustomerKey
 receiver key line order =
     if is_some line.delivery_d then option_map (λ row. customer_of_order (order_of_line key) row) order else None

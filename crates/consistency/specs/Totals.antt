@@ -1,7 +1,7 @@
--- Sums of signed numbers, and how large they get.
+-- Sums of signed numbers, and their bounds.
 use Rattle.std.specs.Prelude.{ℕ, ℤ, pos, neg_ℤ, ◌+ℤ◌, ◌≤ℤ◌, List, [], ◌∷◌}
 
--- what the elements of a list come to, each with what it weighs
+-- the sum of the weights of a list's elements
 abbrev pub sum_of : {X : Type 0} → (X → ℤ) → List X → ℤ
 sum_of weight [] = pos 0
 sum_of weight (x ∷ xs) = weight x +ℤ sum_of weight xs

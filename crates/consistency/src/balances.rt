@@ -8,8 +8,9 @@ ghost use Rattle.consistency.specs.Balances.{AreTotals, HasRoom, AreWithin, is_c
 use schema::{CustomerKey, History, NoMemory, Scale, Tables};
 use std::alloc::Global;
 
-/// Condition 10 (clause 3.3.2.10): C_BALANCE is what was delivered to the customer less what the
-/// customer paid. `deliveries` are what was delivered to each customer.
+/// Condition 10 (clause 3.3.2.10): C_BALANCE is the sum of the customer's delivered lines less the sum
+/// of the customer's payments. `deliveries` contains the sum of the delivered lines for each customer.
+/// Returns `NoMemory` if an allocation fails.
 pub(crate) fn balances_are_owed(
     tables: &Tables,
     deliveries: &[i128],
@@ -29,8 +30,8 @@ pub(crate) fn balances_are_owed(
     Ok(true)
 }
 
-/// Condition 12 (clause 3.3.2.12): C_BALANCE and C_YTD_PAYMENT are together what was delivered to the
-/// customer. `deliveries` are what was delivered to each customer.
+/// Condition 12 (clause 3.3.2.12): C_BALANCE plus C_YTD_PAYMENT is the sum of the customer's delivered
+/// lines. `deliveries` contains the sum of the delivered lines for each customer.
 pub(crate) fn balances_are_paid(tables: &Tables, deliveries: &[i128]) -> bool
     requires { AreTotals tables.now.scale (delivered tables.now) deliveries.now }
     ensures { IsTrue result ↔ BalancesArePaid tables.now }
@@ -45,7 +46,7 @@ pub(crate) fn balances_are_paid(tables: &Tables, deliveries: &[i128]) -> bool
     true
 }
 
-// What each customer has paid, in the order of the customers' keys.
+// For each customer, the sum of the payments, in the order of the customers' keys.
 fn paid_totals(tables: &Tables, alloc: Global) -> Result<Vec<i128>, NoMemory>
     ensures totals { IfOk result (λ totals. AreTotals tables.now.scale (paid tables.now) totals.items) }
     ensures within { IfOk result (λ totals. AreWithin (2 ^ 124) totals.items) }
@@ -59,7 +60,7 @@ fn paid_totals(tables: &Tables, alloc: Global) -> Result<Vec<i128>, NoMemory>
     Ok(totals)
 }
 
-/// That many totals of nothing.
+/// A vector of `count` totals of zero.
 pub(crate) fn zeros(count: usize, alloc: Global) -> Result<Vec<i128>, NoMemory>
     ensures { IfOk result (λ totals. totals.items ≡ replicate count (pos 0)) }
 {

@@ -3,7 +3,7 @@ ghost use Rattle.schema.specs.Consistency.{NewOrdersHaveNoCarrier};
 
 use schema::{Beside, Tables};
 
-/// Whether O_CARRIER_ID is null exactly where there is a row of NEW-ORDER (clause 3.3.2.5).
+/// Whether O_CARRIER_ID is null exactly if the order has a row of NEW-ORDER (clause 3.3.2.5).
 pub(crate) fn new_orders_have_no_carrier(tables: &Tables) -> bool
     ensures { IsTrue result ↔ NewOrdersHaveNoCarrier tables.now }
 {

@@ -10,11 +10,12 @@ use crate::payments::{districts_sum_payments, warehouses_sum_districts, warehous
 use schema::{NoMemory, Tables};
 use std::alloc::Global;
 
-/// Which of the twelve conditions of clause 3.3.2 the tables meet: condition n stands at place n - 1,
-/// and is true exactly where it holds. Condition 11 is meant for fresh tables at full scale; whoever
-/// asks of others passes it over.
+/// Which of the twelve conditions of clause 3.3.2 the tables meet. The element at index n - 1 is true
+/// exactly if condition n holds. Condition 11 applies to fresh tables at full scale; a caller with
+/// other tables ignores it.
 ///
-/// It takes room for two totals of each customer. Its time grows with the number of rows.
+/// Returns `NoMemory` if an allocation fails. Allocates two totals for each customer. The time grows
+/// with the number of rows.
 pub fn check(alloc: Global, tables: &Tables) -> Result<[bool; 12], NoMemory>
     ensures { IfOk result (λ answers. AreExact tables.now answers) }
 {

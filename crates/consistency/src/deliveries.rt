@@ -9,16 +9,16 @@ use rows::{CustomerKey, Order, OrderLine, OrderLineKey};
 use schema::{Beside, NoMemory, Tables};
 use std::alloc::Global;
 
-/// What the lines say of deliveries.
+/// The results of one pass over the lines.
 #[derive(Drop)]
 pub(crate) struct Deliveries {
-    /// What was delivered to each customer, in the order of the customers' keys.
+    /// For each customer, the sum of the delivered lines, in the order of the customers' keys.
     pub(crate) totals: Vec<i128>,
-    /// Condition 7 (clause 3.3.2.7): OL_DELIVERY_D is null exactly where the order's O_CARRIER_ID is.
+    /// Condition 7 (clause 3.3.2.7): OL_DELIVERY_D is null exactly if the order's O_CARRIER_ID is null.
     pub(crate) come_with_orders: bool,
 }
 
-/// Reads the lines once.
+/// Computes `Deliveries` in one pass over the lines. Returns `NoMemory` if an allocation fails.
 pub(crate) fn read_deliveries(tables: &Tables, alloc: Global) -> Result<Deliveries, NoMemory>
     ensures totals { IfOk result (λ read. AreTotals tables.now.scale (delivered tables.now) read.totals.items) }
     ensures within { IfOk result (λ read. AreWithin (2 ^ 124) read.totals.items) }
@@ -42,7 +42,7 @@ pub(crate) fn read_deliveries(tables: &Tables, alloc: Global) -> Result<Deliveri
     })
 }
 
-// A line without an order has nothing to come with.
+// A line without an order passes.
 fn comes_with(line: &OrderLine, order: Option<&Order>) -> bool
     ensures { result ≡ comes_with line.now (option_copied order.entry) }
 {
@@ -52,7 +52,7 @@ fn comes_with(line: &OrderLine, order: Option<&Order>) -> bool
     }
 }
 
-// To whom the line of the order was delivered, `None` where it was not.
+// The customer to whom the line of the order was delivered, or `None` if it was not delivered.
 fn receiver(key: OrderLineKey, line: &OrderLine, order: Option<&Order>) -> Option<CustomerKey>
     ensures { result ≡ receiver key line.now (option_copied order.entry) }
 {

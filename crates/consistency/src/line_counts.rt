@@ -6,7 +6,7 @@ use crate::order_numbers::all_districts;
 use rows::{DistrictKey, Order, OrderKey};
 use schema::Tables;
 
-/// Whether O_OL_CNT is the number of the order's lines (clause 3.3.2.6).
+/// Whether O_OL_CNT of each order is the number of its lines (clause 3.3.2.6).
 pub(crate) fn orders_count_lines(tables: &Tables) -> bool
     ensures { IsTrue result ↔ OrdersCountLines tables.now }
 {

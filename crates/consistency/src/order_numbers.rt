@@ -10,8 +10,8 @@ ghost use Rattle.consistency.specs.OrderNumbers.{OfRow};
 use rows::{DistrictKey, OrderKey};
 use schema::{Entries, Scale, Tables};
 
-/// Whether D_NEXT_O_ID - 1 is the greatest O_ID of each district, and its greatest NO_O_ID where it
-/// has one (clause 3.3.2.2).
+/// Whether D_NEXT_O_ID - 1 is the greatest O_ID of each district, and its greatest NO_O_ID if it has
+/// new orders (clause 3.3.2.2).
 pub(crate) fn next_orders_follow(tables: &Tables) -> bool
     ensures { IsTrue result ↔ NextOrdersFollow tables.now }
 {
@@ -25,7 +25,7 @@ pub(crate) fn new_orders_have_no_gap(tables: &Tables) -> bool
     all_districts(tables.scale(), |home| has_no_gap(tables, home))
 }
 
-/// Whether 2,100 orders of each district were delivered, as in a fresh set at full scale
+/// Whether each district has 2,100 more orders than new orders, as in fresh tables at full scale
 /// (clause 3.3.2.11).
 pub(crate) fn orders_are_fresh(tables: &Tables) -> bool
     ensures { IsTrue result ↔ OrdersAreFresh tables.now }
@@ -51,7 +51,7 @@ fn all_of_warehouse<F: Fn(DistrictKey) -> bool>(w_id: u32, test: &F) -> bool
     (1..=10).all(|d_id| test(DistrictKey { w_id, d_id }))
 }
 
-// Nothing is asked of a district without a row.
+// A district without a row passes.
 fn next_order_follows(tables: &Tables, home: DistrictKey) -> bool
     ensures { IsTrue result ↔ OfRow tables.now home (NextOrderFollows tables.now home) }
 {
@@ -64,7 +64,7 @@ fn next_order_follows(tables: &Tables, home: DistrictKey) -> bool
     order.unwrap_or(0) == last && new_order.is_none_or(|number| number == last)
 }
 
-// Nothing is asked where there is no new order.
+// A district without new orders passes.
 fn has_no_gap(tables: &Tables, home: DistrictKey) -> bool
     ensures { IsTrue result ↔ HasNoGap tables.now home }
 {
@@ -83,7 +83,7 @@ fn is_fresh(tables: &Tables, home: DistrictKey) -> bool
     tables.orders_of(home).count() == tables.new_orders_of(home).count() + 2_100
 }
 
-// The greatest O_ID of these rows, `None` where there are none.
+// The greatest O_ID of these rows, or `None` if there are none.
 fn greatest_number<X>(rows: Entries<'_, OrderKey, X>) -> Option<u32>
     ensures { result ≡ reduce max (numbers rows.entry) }
 {

@@ -4,7 +4,7 @@ ghost use Rattle.schema.specs.Consistency.{WarehousesSumDistricts, WarehousesSum
 use crate::totals::{districts_total, lists_total, payments_total};
 use schema::Tables;
 
-/// Condition 1 (clause 3.3.2.1): W_YTD is the sum of D_YTD.
+/// Condition 1 (clause 3.3.2.1): W_YTD is the sum of D_YTD of the warehouse's districts.
 pub(crate) fn warehouses_sum_districts(tables: &Tables) -> bool
     ensures { IsTrue result ↔ WarehousesSumDistricts tables.now }
 {
@@ -18,7 +18,7 @@ pub(crate) fn warehouses_sum_districts(tables: &Tables) -> bool
     true
 }
 
-/// Condition 8 (clause 3.3.2.8): W_YTD is the sum of H_AMOUNT.
+/// Condition 8 (clause 3.3.2.8): W_YTD is the sum of H_AMOUNT of the warehouse.
 pub(crate) fn warehouses_sum_payments(tables: &Tables) -> bool
     ensures { IsTrue result ↔ WarehousesSumPayments tables.now }
 {
@@ -32,7 +32,7 @@ pub(crate) fn warehouses_sum_payments(tables: &Tables) -> bool
     true
 }
 
-/// Condition 9 (clause 3.3.2.9): D_YTD is the sum of H_AMOUNT.
+/// Condition 9 (clause 3.3.2.9): D_YTD is the sum of H_AMOUNT of the district.
 pub(crate) fn districts_sum_payments(tables: &Tables) -> bool
     ensures { IsTrue result ↔ DistrictsSumPayments tables.now }
 {

@@ -4,7 +4,7 @@ ghost use Rattle.consistency.specs.Totals.{sum_of, IsWithin};
 
 use schema::{District, History, HistoryList};
 
-/// What the payments come to. A number of 128 bits holds it, however many there are.
+/// The sum of the payments' amounts. It fits in 128 bits, however many payments there are.
 pub(crate) fn payments_total(payments: &[History]) -> i128
     ensures value { result ≡ amounts_of payments.now }
     ensures within { IsWithin (2 ^ 114) result }
@@ -16,7 +16,7 @@ pub(crate) fn payments_total(payments: &[History]) -> i128
     total
 }
 
-/// What the payments of all these lists come to.
+/// The sum of the amounts of all payments of these lists.
 pub(crate) fn lists_total(lists: &[HistoryList]) -> i128
     requires { length lists.now ≤ 10 }
     ensures { result ≡ sum_of amounts_of lists.now }
@@ -28,7 +28,7 @@ pub(crate) fn lists_total(lists: &[HistoryList]) -> i128
     total
 }
 
-/// What the districts' D_YTD come to.
+/// The sum of D_YTD of the districts.
 pub(crate) fn districts_total(districts: &[District]) -> i128
     ensures { result ≡ sum_of (λ district. district.ytd) districts.now }
 {

@@ -26,7 +26,7 @@ use Rattle.files.specs.Columns.{Value, Values, column_read, read_column, read_co
 use Rattle.files.proofs.MomentSound.{moment_sound}
 use Rattle.files.proofs.ColumnValues.{AreRead, behind}
 
--- the field of a column that tells this
+-- the field of a column that has this value
 abbrev pub field_of : (column : Column) → Value column → Field
 field_of (Whole low high) n = Number n
 field_of (Texts width) words = Words words
@@ -54,7 +54,7 @@ abbrev pub AreSmall : List Column → Type 0
 AreSmall [] = Unit {0}
 AreSmall (column ∷ columns) = IsSmall column × AreSmall columns
 
--- what the column may tell
+-- the value is within the column
 abbrev pub IsIn : (column : Column) → Value column → Type 0
 IsIn (Whole low high) n = IsFrom low high n
 IsIn (Texts width) words = IsText width words

@@ -49,7 +49,7 @@ none_of n (row ∷ rows) h =
     let other : (number_of_row row == n) ≡ false = let first = h.0 in grind (arith, nat_tests, first) in
     ap (λ b. with_row b row (of_table n rows)) other ∙ none_of n rows h.1
 
--- a number stands among ascending numbers
+-- whether a number is among ascending numbers
 is_placed : ℕ → List ℕ → Bool
 is_placed k [] = false
 is_placed k (n ∷ ns) = if nat_lt n k then is_placed k ns else (k == n) && list_all (λ m. nat_lt k m) ns

@@ -1,4 +1,5 @@
--- The nine tables as one: of what their rows are made, how a table's rows are told from others, and how their keys are ordered.
+-- The nine tables as one family: what their rows consist of, how a table's rows differ from others, and how their keys
+-- are ordered.
 use Rattle.std.proofs.Common.{◌≡◌, ◌==◌, ℕ, Bool, true, false, List, [], ◌∷◌, Option, None, Some, IsTrue, refl, sym, ◌∙◌}
 use Rattle.std.specs.Ordering.{nat_cmp}
 use Rattle.std.specs.declared.cmp.Ordering.{Ordering}
@@ -29,7 +30,7 @@ all_tables = Items ∷ Warehouses ∷ Districts ∷ Stocks ∷ Customers ∷ His
 
 -- ---- of what a table's rows are made
 
--- the key of a row; of a payment it is the district in whose list the payment stands
+-- the key of a row; for a payment, the district whose list contains it
 abbrev pub KeyOf : Table → Type 0
 KeyOf Items = ℕ
 KeyOf Warehouses = ℕ

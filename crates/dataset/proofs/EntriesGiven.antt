@@ -13,10 +13,10 @@ module _ {S K X : Type 0} {steps : S → Option (K × Bor X) → S → Type 0} (
   given s [] t yields = ap left yields
   given s (item ∷ items) t yields = gives s (Some item) yields.0 yields.1 ∙ ap (λ l. entry item ∷ l) (given yields.0 items t yields.2)
 
-  -- the next comes behind those that came, and others may come
+  -- the next entry follows those that were returned, and others may follow
   pub given-next : (s : S) (items : List (K × Bor X)) (t : S) → Yields steps s items t → (item : K × Bor X) (u : S) → steps t (Some item) u → left s ≡ map entry items ++ (entry item ∷ left u)
   given-next s items t yields item u step = given s items t yields ∙ ap (λ l. map entry items ++ l) (gives t (Some item) u step)
 
-  -- all came
+  -- all entries were returned
   pub given-all : (s : S) (items : List (K × Bor X)) (t u : S) → Yields steps s items t → steps t None u → left s ≡ map entry items
   given-all s items t u yields step = given s items t yields ∙ ap (λ l. map entry items ++ l) (gives t None u step).0 ∙ append-nil (map entry items)

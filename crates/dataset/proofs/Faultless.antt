@@ -113,7 +113,7 @@ header_free scale header spelt =
 order_of : (fault : Option FaultKind) (in_order : Bool) → fault ≡ None → in_order ≡ true → or_order fault in_order ≡ None
 order_of fault in_order none after = rw (none, after) refl
 
--- behind records the last of which stands at a place that the row follows, it has no fault, and stands at the row's place
+-- after records whose last place the row follows, the row's record has no fault, and its place is the row's
 record RowPasses (scale : Scale) (before : List (List (List ℕ))) (row : TableRow) (texts : List (List ℕ)) : Type 0 where
   free : record_fault (sizes scale) (last_place (sizes scale) before) (counts before) texts ≡ None
   no_end : is_end texts ≡ false
@@ -231,23 +231,23 @@ records_free t within range (header ∷ body) few are =
     ap (λ k. fault_or k 1 (rows_fault (header_sizes header) (header ∷ []) body)) (header_free t.scale header are.0)
     ∙ ap (λ z. rows_fault z (header ∷ []) body) (sym (sizes_spelt t.scale header are.0)) ∙ ap (rows_fault s (header ∷ [])) e.are ∙ rows ∙ last
 
--- ---- what is told of a text
+-- ---- what is reported of a text
 
--- no fault of a header is told that has none
+-- a header without a fault is not reported to have one
 pub no_header_fault : (error : FileError) (scale : Scale) (header : List (List ℕ)) (rows : List (List (List ℕ))) → AreSpelt (header_fields scale) header → IsFault error → ReportsFault error (header_first (header ∷ rows)) → ⊥
 no_header_fault NoMemory scale header rows spelt is reports = is
 no_header_fault (Failed number) scale header rows spelt is reports = is
 no_header_fault (File f) scale header rows spelt is reports =
     let clash : None ≡ Some f = sym (ap (λ k. fault_or k 1 None) (header_free scale header spelt)) ∙ reports in cc
 
--- no fault is told of the records of tables
+-- no fault of the records of tables is reported
 pub no_fault_reported : (error : FileError) (rows : List (List (List ℕ))) → length rows < 2 ^ 64 - 1 → Reports rows error → IsFault error → HasNoTables rows
 no_fault_reported NoMemory rows few reports is = absurd is
 no_fault_reported (Failed number) rows few reports is = absurd is
 no_fault_reported (File f) rows few reports is = λ t within range are.
     (subst (λ o. MatchOption o ((f ≡ fault_at fault.ScaleBroken (length rows)) × HasNoTables rows) (λ first. f ≡ first)) (records_free t within range rows few are) reports).1 t within range are
 
--- what is told of all that is left is told of an error
+-- what is reported of all records that are left holds for an error
 pub error_reported : {X E L : Type 0} (r : Result X E) (P : L → X → Type 0) (Q : L → E → Type 0) (Left : L → Type 0) → ((rows : L) → Left rows → MatchResult r (P rows) (Q rows)) → IfErr r (λ error. (rows : L) → Left rows → Q rows error)
 error_reported (Ok x) P Q Left h = tt
 error_reported (Err e) P Q Left h = h

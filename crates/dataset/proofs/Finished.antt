@@ -61,7 +61,7 @@ module _ {K : Type 0} {c : K → K → Ordering} (o : IsTotalOrder c) where
       let both : Less ≡ Equal = sym h ∙ alike in
       cc
 
-  -- what comes after a key of these comes after the first
+  -- what is after a key of these is after the first
   not_first : (k : K) (ks : List K) (x y : K) → IsStrictlySortedBy c (k ∷ ks) → Has x (k ∷ ks) → c x y ≡ Less → Has y (k ∷ ks) → Has y ks
   unfolding IsStrictlySortedBy Has
   not_first k ks x y sorted g less (inr h) = h

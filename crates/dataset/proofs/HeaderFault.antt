@@ -158,7 +158,7 @@ more_found error l (row ∷ rows) number next is (inr (inr e)) some = subst (λ 
 
 -- ---- in all
 
--- the first fault is told
+-- the first fault is reported
 pub reports_first : (error : FileError) (rows : List (List (List ℕ))) (first : Option FileFault) → first_fault rows ≡ first → ReportsFault error first → Reports rows error
 reports_first NoMemory rows first is reports = tt
 reports_first (Failed number) rows first is reports = tt

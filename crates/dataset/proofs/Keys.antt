@@ -1,4 +1,4 @@
--- The scale's keys: which one stands at a place, and that they ascend.
+-- The scale's keys: the key at an index, and that they ascend.
 use Rattle.std.proofs.Common.{is_some, Bool, true, false, cond, Option, None, ◌≡◌, ℕ, zero, suc, ◌+◌, ◌*◌, ◌/◌, ◌<◌, ◌≤◌, List, [], ◌∷◌, ◌++◌, map, length, Some, refl, sym, ap, subst, ◌∙◌, arith}
 use Rattle.std.specs.Prelude.{if◌then◌else◌}
 use Rattle.std.specs.List.{range_with_len, slice_get, flat_map, AllByRecursion}
@@ -53,7 +53,7 @@ get-grid key count (first ∷ os) (suc p) j o e below =
     get-back (map (key first) (range_with_len 1 count)) (grid key count os) (p * count + j) (suc p * count + j) (omega arith)
     ∙ get-grid key count os p j o e below
 
--- a place lies in one of the blocks
+-- an index is in one of the blocks
 pub block_below : (n blocks count : ℕ) → 0 < count → n < blocks * count → n / count < blocks
 block_below n blocks count some below = (div-lt_iff_lt-mul some).1 below
 

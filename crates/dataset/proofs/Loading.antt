@@ -100,7 +100,7 @@ record_loaded l m read word fields has h =
 
 -- ---- at first
 
--- the header stands before all tables
+-- the header is before all tables
 pub header_place : (s : Sizes) (scale : Scale) (header : List (List ℕ)) → AreSpelt (header_fields scale) header → last_place s (header ∷ []) ≡ 0 ∷ []
 header_place s scale [] spelt = refl
 header_place s scale (text ∷ texts) spelt = ap (λ w. kind_place s (kind_of w) texts) spelt.0

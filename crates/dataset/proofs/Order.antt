@@ -125,7 +125,7 @@ follows_before q last p le h = by (follows_is p)
     by (inl is) = is q ∙ ap is_lt (place_below q last p le (place_follows (place_cmp last p) (sym (is last) ∙ h)))
     by (inr is) = is q ∙ place_reaches q last p le (sym (is last) ∙ h)
 
--- the number of the table comes first
+-- the number of the table is first
 abbrev pub place_number : Place → ℕ
 place_number at.Header = 0
 place_number (at.Item key) = 1

@@ -24,7 +24,7 @@ use Rattle.dataset.specs.Records.{payment_records, history_fields}
 use Rattle.dataset.proofs.Keys.{all-append, all-each, all-map, get-place}
 use Rattle.dataset.proofs.Order.{same_history, turned}
 
--- where the records of a table stand
+-- the places of the records of a table
 abbrev pub places : {K X : Type 0} → (K → Place) → List (K × X) → List Place
 places place rows = map place (keys_of rows)
 
@@ -58,7 +58,7 @@ all-get P [] n k e h = absurd cc
 all-get P (j ∷ ks) zero k e h = let same : j ≡ k = cc in subst P same h.0
 all-get P (j ∷ ks) (suc n) k e h = all-get P ks n k e h.1
 
--- the lists up to that of a district stand at places up to its place
+-- the places of the lists up to that of a district are not after the place of the district
 pub all_reached : (ks : List DistrictKey) (lists : List (List History)) (n : ℕ) (d : DistrictKey) → IsStrictlySortedBy district_cmp ks → slice_get ks n ≡ Some d
     → length lists ≡ n + 1 → AllByRecursion (λ q. IsTrue (is_le (place_cmp q (at.History d)))) (places at.History (zip ks lists))
 unfolding IsStrictlySortedBy

@@ -1,4 +1,4 @@
--- Tables within their scale and the ranges of their columns are told by their records.
+-- Tables within their scale and the ranges of their columns are determined by their records.
 use Rattle.std.proofs.Common.{◌≡◌, ◌==◌, ℕ, Bool, true, false, List, [], ◌∷◌, ◌++◌, map, refl, sym, ap, subst, ◌∙◌, arith}
 use Rattle.std.specs.Prelude.{if◌then◌else◌}
 use Rattle.std.specs.List.{AllByRecursion, AllZip, flat_map}
@@ -115,7 +115,7 @@ not_later : (home : DistrictKey) (es : List (DistrictKey × List History)) → A
     → AllByRecursion (λ (p : DistrictKey × History). p.0 ≡ home → ⊥) (payments_of es)
 not_later home es h = all-payments (λ k. k ≡ home → ⊥) es (all-weaker _ _ (λ k less. not_home home k less) (keys_of es) h)
 
--- the lists of the same districts are told by their payments
+-- the lists of the same districts are determined by their payments
 pub same_lists : (es ds : List (DistrictKey × List History)) → keys_of es ≡ keys_of ds → IsStrictlySortedBy district_cmp (keys_of es) → payments_of es ≡ payments_of ds → es ≡ ds
 unfolding IsStrictlySortedBy
 same_lists [] [] keys sorted e = refl
@@ -171,7 +171,7 @@ spelt_init R (w ∷ []) x (y ∷ []) h = absurd h.1
 spelt_init R (w ∷ v ∷ xs) x (y ∷ []) h = absurd h.1
 spelt_init R (w ∷ xs) x (y ∷ z ∷ ys) h = (h.0, spelt_init R xs x (z ∷ ys) h.1)
 
--- the rows that the records behind the header tell, but for the last record
+-- the rows of the records after the header, without the last record
 pub rows_reported : (t : Database) → IsWithinScale t → InRange t → (header : List (List ℕ)) (body : List (List (List ℕ))) → AreRecords t (header ∷ body)
     → AreSpelt (header_fields t.scale) header × (rows_read (sizes t.scale) (init body) ≡ all_rows t)
 unfolding AreRecords records

@@ -65,7 +65,7 @@ short_letter : (table : Table) → length (letter table) ≤ 500
 short_letter Items = omega arith
 short_letter table = omega arith
 
--- ---- the row that the columns tell
+-- ---- the row made from the columns' values
 
 flag_number : (n : ℕ) → n ≤ 1 → (if n == 1 then 1 else 0) ≡ n
 flag_number n most = grind (arith, nat_tests)
@@ -82,7 +82,7 @@ fields_reported s Orders values between =
     ∷ carrier_field values.1.1.1.1.1.0 ∷ Number values.1.1.1.1.1.1.0 ∷ Number (flag i) ∷ []
 fields_reported s table values between = refl
 
--- a record whose fields have no fault spells the row that they tell
+-- a record whose fields have no fault spells the row that it is read as
 pub row_is_spelt : (scale : Scale) (table : Table) (fields : List (List ℕ)) → IsRead (sizes scale) table fields → AreSpelt (row_fields (row_read (sizes scale) table fields)) (letter table ∷ fields)
 row_is_spelt scale table fields read =
     let s = sizes scale in
@@ -93,7 +93,7 @@ row_is_spelt scale table fields read =
 
 -- ---- the columns that a row has
 
--- the columns tell the row, and each is within its column
+-- the row is made from the columns' values, and each value is within its column
 pub record RowValues (scale : Scale) (row : TableRow) : Type 0 where
   pub table : Table
   pub values : Values (record_columns (sizes scale) table)
@@ -249,7 +249,7 @@ in_between (column ∷ columns) values inside = (one column values.0 inside.0, i
     one (Whole low high) n from = from
     one column value from = tt
 
--- the texts are a record of a table, without a fault but for its order, which tells the row
+-- the texts are a record of a table, without a fault except for its order, and are read as the row
 pub record RowRead (scale : Scale) (row : TableRow) (texts : List (List ℕ)) : Type 0 where
   pub table : Table
   pub fields : List (List ℕ)

@@ -25,7 +25,7 @@ number_in : (column : Column) → Value column → ℕ
 number_in (Whole low high) n = n
 number_in column v = 0
 
--- those that the first columns tell
+-- the numbers of the first columns
 numbers_in : (keys others : List Column) → Values (keys ++ others) → List ℕ
 numbers_in [] others values = []
 numbers_in (column ∷ keys) others values = number_in column values.0 ∷ numbers_in keys others values.1
@@ -67,7 +67,7 @@ unfolding numbers_in number_in
 place_reported s Items values = refl
 place_reported s table values = refl
 
--- whether it follows is told by the numbers alone
+-- whether a record follows is determined by the numbers alone
 pub follows_reported : (s : Sizes) (table : Table) (values : Values (record_columns s table)) (last : Place)
     → follows (row_place (row_of s table values)) last ≡ comes_after table (place_numbers (row_place (row_of s table values))) (place_numbers last)
 follows_reported s Items values last = refl
@@ -127,7 +127,7 @@ row_taken table l row old read {values} reads is = λ m new stood added none.
       added = λ free. subst (λ r. IsAdded r l m) row_is (added free);
     }
 
--- the row was added where the loader stands
+-- the row was added at the loader's place
 pub added_at : {row : TableRow} {l stood : Loader} {new : TableRows} → stood ≡ record l { last = row_place row } → AddsRow stood.scale row stood.rows new → IsAdded row l (record stood { rows = new })
 added_at {row} {l} {stood} {new} same adds = record {
   scale = ap (λ (s : Loader). s.scale) same;

@@ -38,7 +38,7 @@ use Rattle.dataset.proofs.Payments.{payments_of}
 
 -- ---- how many records of each table were read
 
--- a letter tells its table
+-- a letter determines its table
 letter_is : (own table : Table) → bytes_eq (letter own) (letter table) ≡ (table_number own == table_number table)
 letter_is Items Items = refl
 letter_is own Items = refl

@@ -1,4 +1,4 @@
--- The rows that a loop goes over are those of the tables.
+-- The rows that a loop reads are those of the tables.
 use Rattle.std.proofs.Common.{◌≡◌, Bool, ℕ, ◌+◌, ◌≤◌, List, [], ◌∷◌, ◌++◌, map, length, sum, codes, refl, sym, ap, subst, ◌∙◌, arith}
 use Rattle.std.specs.List.{zip, flat_map, AllZip}
 use Rattle.std.specs.List.Sorted.{IsStrictlySortedBy}
@@ -28,7 +28,7 @@ use Rattle.dataset.specs.Records.{Field, Words, Number, AreSpelt, AreRecords, ro
 use Rattle.dataset.specs.Writing.{count_fields}
 use Rattle.dataset.proofs.Keys.{AreScaleKeys, customers_of_scale, districts_of_scale, items_of_scale, stocks_of_scale, warehouses_of_scale}
 
--- the entries of a table whose rows stand in the order of its keys
+-- the entries of a table whose rows are in key order
 pub dense : {K X : Type 0} {R : K → K → Ordering} {has : K → Bool} {ks : List K} → AreScaleKeys R has ks → (xs : List X) → length xs ≡ length ks
     → entries (from_entries {R = R} (zip ks xs)) ≡ zip ks xs
 dense {R = R} {ks = ks} keys xs even = entries-ordered keys.total (zip ks xs) (subst (IsStrictlySortedBy R) (sym (firsts-zip ks xs even)) keys.sorted)
@@ -47,7 +47,7 @@ length-payments (k ∷ ks) (list ∷ lists) even =
 pub few : {X : Type 0} {n : ℕ} {xs ys : List X} → length ys ≡ n → xs ≡ ys → length xs ≤ n
 few even same = omega (arith, even, ap length same)
 
--- the records of rows that stand in the order of the scale's keys
+-- the records of rows that are in the order of the scale's keys
 abbrev pub items_of : Scale → List Item → List (List Field)
 items_of scale items = row_records item_fields (zip (item_ids scale) items)
 
@@ -67,7 +67,7 @@ abbrev pub histories_of : Scale → List (List History) → List (List Field)
 histories_of scale lists = payment_records (zip (district_keys scale) lists)
 
 module _ (scale : Scale) (rows : TableRows) where
-  -- the records of six tables, whose rows stand in the order of their keys, and then others
+  -- the records of six tables, whose rows are in key order, followed by others
   abbrev dense_then : List (List (List Field)) → List (List (List Field))
   dense_then others =
       items_of scale rows.items.items ∷ warehouses_of scale rows.warehouses.items ∷ districts_of scale rows.districts.items

@@ -69,7 +69,7 @@ module _ (before mid after : Option (List ℕ)) (old left : List ℕ) (records :
     sends = sends-then g.rows new g.sends;
   }
 
-  -- it ended in the part that comes next
+  -- writing ended in the next part
   pub stops-in : (part others : List (List Field)) {all : List (List Field)} → all ≡ records ++ (part ++ others) → StopsIn mid after left part → StopsIn before after old all
   stops-in part others is g = record {
     first = records ++ g.first;

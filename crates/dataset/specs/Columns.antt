@@ -1,4 +1,4 @@
--- The columns of a dataset's records, and what is faulty in a record.
+-- The columns of a dataset's records, and the faults of a record.
 use Rattle.std.specs.Prelude.{ℕ, List, [], ◌∷◌, ◌++◌, map, take, length, Bool, true, false, codes, Option, Some, None, if◌then◌else◌}
 use Rattle.std.specs.Ordering.{nat_cmp, is_le, is_lt}
 use Rattle.std.specs.Cmp.Lexicographic.{slice_cmp}
@@ -12,7 +12,7 @@ use Rattle.files.specs.FirstFault.{unless_long}
 
 -- ---- the tables and their columns
 
--- how many warehouses, items, and customers of a district a header tells
+-- the numbers of warehouses, of items, and of customers of a district in a header
 pub record Sizes : Type 0 where
   pub warehouses : ℕ
   pub items : ℕ
@@ -33,7 +33,7 @@ pub data Table : Type 0 where
   NewOrders : Table
   Lines : Table
 
--- the letter with which a table's records begin
+-- the letter that begins the records of a table
 abbrev pub letter : Table → List ℕ
 letter Items = codes "I"
 letter Warehouses = codes "W"
@@ -45,7 +45,7 @@ letter Orders = codes "O"
 letter NewOrders = codes "N"
 letter Lines = codes "L"
 
--- the tables in the order of a dataset, from 1
+-- the number of a table in the order of a dataset, from 1
 abbrev pub table_number : Table → ℕ
 table_number Items = 1
 table_number Warehouses = 2
@@ -69,7 +69,7 @@ customer_key scale = Whole 1 scale.warehouses ∷ Whole 1 10 ∷ Whole 1 scale.c
 abbrev pub order_key : Sizes → List Column
 order_key scale = Whole 1 scale.warehouses ∷ Whole 1 10 ∷ Whole 1 9999999 ∷ []
 
--- the columns behind the letter that tell where a record stands: its key, and of HISTORY the district
+-- the columns after the letter that determine the place of a record: its key, or for HISTORY the district
 abbrev pub key_columns : Sizes → Table → List Column
 key_columns scale Items = Whole 1 scale.items ∷ []
 key_columns scale Warehouses = Whole 1 scale.warehouses ∷ []
@@ -90,11 +90,11 @@ abbrev pub info_columns : List Column
 info_columns =
     Words 24 ∷ Words 24 ∷ Words 24 ∷ Words 24 ∷ Words 24 ∷ Words 24 ∷ Words 24 ∷ Words 24 ∷ Words 24 ∷ Words 24 ∷ []
 
--- a count that only grows
+-- a counter that only grows
 abbrev pub counter : Column
 counter = Whole 0 999999999
 
--- the columns behind those
+-- the columns after the key
 abbrev pub other_columns : Sizes → Table → List Column
 other_columns scale Items = Whole 1 10000 ∷ Words 24 ∷ Whole 1 99999 ∷ Words 50 ∷ []
 other_columns scale Warehouses = Words 10 ∷ address_columns ++ Whole 0 9999 ∷ Cents ∷ []
@@ -109,13 +109,13 @@ other_columns scale NewOrders = []
 other_columns scale Lines =
     Whole 1 scale.items ∷ Whole 1 scale.warehouses ∷ MaybeMoment ∷ Whole 1 10 ∷ Whole 0 999999 ∷ Words 24 ∷ []
 
--- all columns behind the letter
+-- all columns after the letter
 abbrev pub record_columns : Sizes → Table → List Column
 record_columns scale table = key_columns scale table ++ other_columns scale table
 
 -- ---- the fault of a record
 
--- what a record's first field says that it is: a table's, or the end
+-- what a record is by its first field: a table's row, or the end record
 pub data Kind : Type 0 where
   Of : Table → Kind
   Ending : Kind
@@ -133,34 +133,34 @@ kind_of word =
     else (if bytes_eq word (letter Lines) then Some (Of Lines)
     else (if bytes_eq word (codes "END") then Some Ending else None)))))))))
 
--- where a table's record stands: the table's number, and the numbers of its key
+-- the place of a table's record: the table's number, and the numbers of its key
 abbrev pub place_in : Sizes → Table → List (List ℕ) → List ℕ
 place_in scale table fields = table_number table ∷ map (digits_value 10) (take (length (key_columns scale table)) fields)
 
--- Whether a table's record may come right after one at that place. Only the rows of HISTORY, which have no key, may share
--- a place.
+-- Whether a table's record may directly follow one at the place last. Only rows of HISTORY, which have no key, may
+-- share a place.
 abbrev pub comes_after : Table → List ℕ → List ℕ → Bool
 comes_after Histories place last = is_le (slice_cmp nat_cmp last place)
 comes_after table place last = is_lt (slice_cmp nat_cmp last place)
 
--- a record out of order, if it has no lesser fault
+-- the given fault, otherwise OutOfOrder if the record is out of order
 abbrev pub or_order : Option FaultKind → Bool → Option FaultKind
 or_order (Some kind) in_order = Some kind
 or_order None true = None
 or_order None false = Some OutOfOrder
 
--- the fault of a record of that kind, behind one at that place, with so many records of each table before it
+-- the fault of a record of that kind, after one at the place last, with so many records of each table before it
 abbrev pub kind_fault : Sizes → List ℕ → List ℕ → Option Kind → List (List ℕ) → Option FaultKind
 kind_fault scale last counts None fields = Some WrongShape
 kind_fault scale last counts (Some Ending) fields = columns_fault (map (λ count. Count count) counts) fields
 kind_fault scale last counts (Some (Of table)) fields =
     or_order (columns_fault (record_columns scale table) fields) (comes_after table (place_in scale table fields) last)
 
--- the fault of a record, whatever its length
+-- the fault of a record, regardless of its length
 abbrev pub fields_fault : Sizes → List ℕ → List ℕ → List (List ℕ) → Option FaultKind
 fields_fault scale last counts [] = Some WrongShape
 fields_fault scale last counts (word ∷ fields) = kind_fault scale last counts (kind_of word) fields
 
--- the fault of a record, which may be too long
+-- the fault of a record, including that of its length
 abbrev pub record_fault : Sizes → List ℕ → List ℕ → List (List ℕ) → Option FaultKind
 record_fault scale last counts fields = unless_long fields (fields_fault scale last counts fields)

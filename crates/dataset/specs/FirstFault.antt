@@ -14,26 +14,26 @@ use Rattle.files.specs.Columns.{Column, Whole, columns_fault}
 use Rattle.dataset.specs.Ranges.{InRange}
 use Rattle.dataset.specs.Records.{AreRecords}
 
--- ---- what is known of the records before one
+-- ---- properties of the records before one
 
--- whether a record is one of that table
+-- whether a record is of that table
 abbrev pub is_of : Table → List (List ℕ) → Bool
 is_of table [] = false
 is_of table (word ∷ fields) = bytes_eq word (letter table)
 
--- how many of the records are of that table
+-- the number of records of that table
 unfoldable pub number_of : Table → List (List (List ℕ)) → ℕ
 number_of table [] = 0
 number_of table (row ∷ rows) = (if is_of table row then 1 else 0) + number_of table rows
 
--- how many are of each table
+-- the number of records of each table
 abbrev pub counts : List (List (List ℕ)) → List ℕ
 counts rows =
     number_of Items rows ∷ number_of Warehouses rows ∷ number_of Districts rows ∷ number_of Stocks rows
     ∷ number_of Customers rows ∷ number_of Histories rows ∷ number_of Orders rows ∷ number_of NewOrders rows
     ∷ number_of Lines rows ∷ []
 
--- where a record of that kind stands; the header stands before all tables
+-- the place of a record of that kind; the header is before all tables
 abbrev pub kind_place : Sizes → Option Kind → List (List ℕ) → List ℕ
 kind_place scale (Some (Of table)) fields = place_in scale table fields
 kind_place scale (Some Ending) fields = 0 ∷ []
@@ -43,21 +43,21 @@ abbrev pub record_place : Sizes → List (List ℕ) → List ℕ
 record_place scale [] = 0 ∷ []
 record_place scale (word ∷ fields) = kind_place scale (kind_of word) fields
 
--- where the last of the records stands
+-- the place of the last of the records
 abbrev pub last_place : Sizes → List (List (List ℕ)) → List ℕ
 last_place scale [] = 0 ∷ []
 last_place scale (row ∷ []) = record_place scale row
 last_place scale (row ∷ next ∷ rows) = last_place scale (next ∷ rows)
 
--- whether it is the end record
+-- whether a record is the end record
 abbrev pub is_end : List (List ℕ) → Bool
 is_end [] = false
 is_end (word ∷ fields) = bytes_eq word (codes "END")
 
 -- ---- the first fault
 
--- The first fault of the records that come after those before, the first of which is the header. Each record is seen
--- beside those before it: it comes after the last of them, and the end record counts them.
+-- The first fault of the records that follow those before, the first of which is the header. Each record is compared
+-- with those before it: it must follow the last of them, and the end record must count them.
 unfoldable pub rows_fault : Sizes → List (List (List ℕ)) → List (List (List ℕ)) → Option FileFault
 rows_fault scale before [] = Some (fault_at NoEnd (length before + 1))
 rows_fault scale before (row ∷ rows) =
@@ -75,23 +75,23 @@ header_sizes fields = record {
   customers = digits_value 10 (get_or fields 4 []);
 }
 
--- a header has five fields: the name and the number of the format, and those
+-- a header has five fields: the name and the number of the format, and these three numbers
 abbrev pub is_header : List (List ℕ) → Bool
 is_header fields = length fields == 5 && (bytes_eq (get_or fields 0 []) (codes "TPCC") && bytes_eq (get_or fields 1 []) (codes "1"))
 
--- the fault of the first record, whatever its length, and in all
+-- the fault of the first record, regardless of its length, and below including that of its length
 abbrev pub reported_header : List (List ℕ) → Option FaultKind
 reported_header fields = if is_header fields then columns_fault header_columns (drop 2 fields) else Some NoHeader
 
 abbrev pub header_fault : List (List ℕ) → Option FaultKind
 header_fault fields = unless_long fields (reported_header fields)
 
--- the fault of a text that ends after its first record, which is the header
+-- the first fault of a text up to its first record, which is the header
 abbrev pub header_first : List (List (List ℕ)) → Option FileFault
 header_first [] = Some (fault_at NoHeader 1)
 header_first (header ∷ rows) = fault_or (header_fault header) 1 None
 
--- the first fault of a text with these records, but for a rule of the scale that its rows break
+-- the first fault of a text with these records, except a broken rule of the scale
 unfoldable pub first_fault : List (List (List ℕ)) → Option FileFault
 first_fault [] = Some (fault_at NoHeader 1)
 first_fault (header ∷ rows) = fault_or (header_fault header) 1 (rows_fault (header_sizes header) (header ∷ []) rows)
@@ -100,19 +100,19 @@ first_fault (header ∷ rows) = fault_or (header_fault header) 1 (rows_fault (he
 abbrev pub HasNoTables : List (List (List ℕ)) → Type 0
 HasNoTables rows = (t : Database) → IsWithinScale t → InRange t → AreRecords t rows → ⊥
 
--- The fault of a text with these records: the first one; and where there is none, but no tables have the records, that a
--- rule of the scale is broken, at the end record.
+-- The fault of a text with these records: the first one. If there is none, but no tables have the records, it is
+-- ScaleBroken at the end record.
 abbrev pub IsFaultOf : List (List (List ℕ)) → FileFault → Type 0
 IsFaultOf rows fault =
     MatchOption (first_fault rows) ((fault ≡ fault_at ScaleBroken (length rows)) × HasNoTables rows) (λ first. fault ≡ first)
 
--- an error that says that what was read is no dataset: it is not lack of memory, and the reader did not fail
+-- the error is a fault of the text: not out of memory, and not a failed read
 abbrev pub IsFault : FileError → Type 0
 IsFault NoMemory = ⊥
 IsFault (Failed number) = ⊥
 IsFault (File fault) = Unit {0}
 
--- an error that is told of such a text: its fault, beside lack of memory and a reader that failed
+-- an error for a text with these records: its fault, or out of memory, or a failed read
 abbrev pub Reports : List (List (List ℕ)) → FileError → Type 0
 Reports rows NoMemory = Unit {0}
 Reports rows (Failed number) = Unit {0}

@@ -1,4 +1,4 @@
--- What was read of a dataset, as far as it was read.
+-- What has been read of a dataset so far.
 use Rattle.std.specs.Prelude.{◌≡◌, ℕ, List, [], ◌∷◌, ◌++◌, Option, map, IsTrue}
 use Rattle.std.specs.List.{AllByRecursion, AllZip}
 use Rattle.std.specs.Ordering.{is_le}
@@ -17,17 +17,17 @@ use Rattle.dataset.specs.Records.{AreSpelt, header_fields}
 use Rattle.dataset.specs.TableRow.{TableRow, OfItem, OfWarehouse, OfDistrict, OfStock, OfCustomer, OfHistory, OfOrder, OfNewOrder, OfLine, AddsRow, row_fields, row_place, rows_read}
 use Rattle.dataset.specs.Writing.{count_fields}
 
--- these rows were added to those, one after another
+-- new consists of old with these rows added, one after another
 abbrev pub AddsRows : Scale → List TableRow → TableRows → TableRows → Type 0
 AddsRows scale [] old new = new ≡ old
 AddsRows scale (row ∷ rows) old new = (mid : TableRows) × (AddsRow scale row old mid × AddsRows scale rows mid new)
 
--- each row follows all those before it
+-- each row follows all rows before it
 abbrev pub AreInOrder : List TableRow → Type 0
 AreInOrder [] = Unit {0}
 AreInOrder (row ∷ rows) = AllByRecursion (λ later. IsTrue (follows (row_place later) (row_place row))) rows × AreInOrder rows
 
--- its key is one of the scale, where the scale tells which there are
+-- the key of the row is one of the scale, for the tables whose keys the scale determines
 abbrev pub HasKey : Scale → TableRow → Type 0
 HasKey scale (OfItem key row) = IsTrue (has_item scale key)
 HasKey scale (OfWarehouse key row) = IsTrue (has_warehouse scale key)
@@ -39,8 +39,8 @@ HasKey scale (OfOrder key row) = Unit {0}
 HasKey scale (OfNewOrder key row) = Unit {0}
 HasKey scale (OfLine key row) = Unit {0}
 
--- The rows that these records tell, in order, none of which stands after the last place: those that there are were given, and no
--- others, and the records spell them.
+-- These are the rows of the records, in order, and no row's place is after last. The rows in has are exactly these, and
+-- the records spell them.
 pub record HasRows (scale : Scale) (has : TableRows) (last : Place) (records : List (List (List ℕ))) (rows : List TableRow) : Type 0 where
   pub none : TableRows
   pub are_none : AreNoRows none
@@ -50,8 +50,8 @@ pub record HasRows (scale : Scale) (has : TableRows) (last : Place) (records : L
   pub not_after : AllByRecursion (λ row. IsTrue (is_le (place_cmp (row_place row) last))) rows
   pub are_spelt : AllZip AreSpelt (map row_fields rows) records
 
--- The loader's rows are those of these records, the first of which is the header of its scale, and it stands where the last of
--- them does.
+-- The loader's rows are those of these records. The first record is the header of the loader's scale, and the loader is
+-- at the place of the last record.
 pub record HasLoaded (l : Loader) (read : List (List (List ℕ))) : Type 0 where
   pub header : List (List ℕ)
   pub records : List (List (List ℕ))
@@ -60,7 +60,7 @@ pub record HasLoaded (l : Loader) (read : List (List (List ℕ))) : Type 0 where
   pub rows : HasRows l.scale l.rows l.last records (rows_read (sizes l.scale) records)
   pub last : place_numbers l.last ≡ last_place (sizes l.scale) read
 
--- the records that were read of a text are those of the loader's rows, and then the end record of these
+-- the records that were read of a text are those of the loader's rows, followed by the end record of these rows
 pub record HasEnded {R : Type 0} (remaining : R → Option (List ℕ)) (text : List ℕ) (l : Loader) (r : Records R) : Type 0 where
   pub read : List (List (List ℕ))
   pub end : List (List ℕ)

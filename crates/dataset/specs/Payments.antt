@@ -3,7 +3,7 @@ use Rattle.std.specs.Prelude.{◌≡◌, ℕ, ◌+◌, ◌≤◌, List, [], ◌�
 use Rattle.std.specs.List.{AllByRecursion, slice_get}
 use Rattle.rows.specs.declared.records.History.{History}
 
--- empty lists came, until there were so many, and no more than these
+-- empty lists were added until there were at least count lists, and no more than needed
 pub record Opens (count : ℕ) (old new : List (List History)) : Type 0 where
   pub opened : List (List History)
   pub are_empty : AllByRecursion (λ list. list ≡ []) opened
@@ -11,7 +11,7 @@ pub record Opens (count : ℕ) (old new : List (List History)) : Type 0 where
   pub reaches : count ≤ length new
   pub enough : length old ≤ count → length new ≡ count
 
--- the list of that place, which may have been opened for it with those before it, has a payment more
+-- the list at that index has one more payment; it may have been added for it, with those before it
 pub record Pays (place : Option ℕ) (row : History) (old new : List (List History)) : Type 0 where
   pub slot : ℕ
   pub is_slot : place ≡ Some slot

@@ -1,4 +1,4 @@
--- The ranges of the columns (clause 1.3.1): what the types of rows keep of every value.
+-- The ranges of the columns (clause 1.3.1), which the types of rows guarantee for every value.
 use Rattle.std.specs.Prelude.{◌≡◌, ◌<◌, ◌≤◌, ℕ, length, IfSome, IsTrue, List}
 use Rattle.std.specs.List.{AllByRecursion}
 use Rattle.std.specs.FinMap as table
@@ -21,13 +21,13 @@ use Rattle.schema.specs.declared.scale.Scale.{Scale}
 use Rattle.schema.specs.Scale.{has_item, has_warehouse, has_district, has_customer}
 use Rattle.schema.specs.Database.{Database, is_order_id, is_line_number}
 
--- ---- of a column
+-- ---- ranges of a column
 
--- from low to high, both included
+-- from low to high, inclusive
 abbrev pub IsFrom : ℕ → ℕ → ℕ → Type 0
 IsFrom low high number = (low ≤ number) × (number ≤ high)
 
--- a count that only grows
+-- a counter that only grows
 abbrev pub IsCounter : ℕ → Type 0
 IsCounter number = IsFrom 0 999999999 number
 
@@ -35,7 +35,7 @@ IsCounter number = IsFrom 0 999999999 number
 abbrev pub IsRate : ℕ → Type 0
 IsRate number = number < 10000
 
--- ---- of a row
+-- ---- ranges of a row
 
 -- street_1, street_2, city, state and zip
 pub record AddressInRange (a : Address) : Type 0 where
@@ -45,21 +45,21 @@ pub record AddressInRange (a : Address) : Type 0 where
   pub state : IsText 2 a.state
   pub zip : IsText 9 a.zip
 
--- the columns of ITEM but for its key
+-- the columns of ITEM except its key
 pub record ItemInRange (row : Item) : Type 0 where
   pub im_id : IsFrom 1 10000 row.im_id
   pub name : IsText 24 row.name
   pub price : IsFrom 1 99999 row.price
   pub item_data : IsText 50 row.data
 
--- the columns of WAREHOUSE but for its key
+-- the columns of WAREHOUSE except its key
 pub record WarehouseInRange (row : Warehouse) : Type 0 where
   pub name : IsText 10 row.name
   pub address : AddressInRange row.address
   pub tax : IsRate row.tax
   pub ytd : IsMoney row.ytd
 
--- the columns of DISTRICT but for its key
+-- the columns of DISTRICT except its key
 pub record DistrictInRange (row : District) : Type 0 where
   pub name : IsText 10 row.name
   pub address : AddressInRange row.address
@@ -72,7 +72,7 @@ pub record AreDistrictInfos (infos : List (List ℕ)) : Type 0 where
   pub ten : length infos ≡ 10
   pub texts : AllByRecursion (IsText 24) infos
 
--- the columns of STOCK but for its key
+-- the columns of STOCK except its key
 pub record StockInRange (row : Stock) : Type 0 where
   pub quantity : IsFrom 10 100 row.quantity
   pub dist : AreDistrictInfos row.dist
@@ -81,7 +81,7 @@ pub record StockInRange (row : Stock) : Type 0 where
   pub remote_cnt : IsCounter row.remote_cnt
   pub stock_data : IsText 50 row.data
 
--- the columns of CUSTOMER but for its key
+-- the columns of CUSTOMER except its key
 pub record CustomerInRange (row : Customer) : Type 0 where
   pub first : IsText 16 row.first
   pub middle : IsText 2 row.middle
@@ -97,28 +97,28 @@ pub record CustomerInRange (row : Customer) : Type 0 where
   pub delivery_cnt : IsCounter row.delivery_cnt
   pub customer_data : IsText 500 row.data
 
--- the columns of HISTORY but for the district's number and the payer's
+-- the columns of HISTORY except the numbers of the district and of the customer who paid
 pub record HistoryInRange (row : History) : Type 0 where
   pub date : IsMoment row.date
   pub amount : IsMoney row.amount
   pub history_data : IsText 24 row.data
 
--- the columns of ORDER but for its key and its customer
+-- the columns of ORDER except its key and its customer
 pub record OrderInRange (row : Order) : Type 0 where
   pub entry_d : IsMoment row.entry_d
   pub carrier_id : IfSome row.carrier_id (IsFrom 1 10)
   pub ol_cnt : IsFrom 1 15 row.ol_cnt
 
--- the columns of ORDER-LINE but for its key, its item and its warehouse
+-- the columns of ORDER-LINE except its key, its item and its warehouse
 pub record LineInRange (row : OrderLine) : Type 0 where
   pub delivery_d : IfSome row.delivery_d IsMoment
   pub quantity : IsFrom 1 10 row.quantity
   pub amount : IsFrom 0 999999 row.amount
   pub dist_info : IsText 24 row.dist_info
 
--- ---- of all rows
+-- ---- ranges of all rows
 
--- each row of each table; what rows refer to by number has its range by the scale
+-- each row of each table; the scale gives the range of the numbers that refer to other rows
 pub record InRange (t : Database) : Type 0 where
   pub items : AllByRecursion ItemInRange (table.values t.items)
   pub warehouses : AllByRecursion WarehouseInRange (table.values t.warehouses)
@@ -129,7 +129,7 @@ pub record InRange (t : Database) : Type 0 where
   pub orders : AllByRecursion OrderInRange (table.values t.orders)
   pub lines : AllByRecursion LineInRange (table.values t.lines)
 
--- ---- of a row of a scale, with what it refers to by number
+-- ---- ranges of a row within a scale, including the numbers that refer to other rows
 
 -- a payment by a customer of the scale
 pub record IsPayment (scale : Scale) (row : History) : Type 0 where
@@ -151,7 +151,7 @@ pub record IsLineKey (scale : Scale) (key : OrderLineKey) : Type 0 where
   pub order : IsOrderKey scale (order_of_line key)
   pub number : IsTrue (is_line_number key.number)
 
--- a line for an item of the scale, from a warehouse of it
+-- a line for an item of the scale, supplied by a warehouse of the scale
 pub record IsLine (scale : Scale) (row : OrderLine) : Type 0 where
   pub item : IsTrue (has_item scale row.i_id)
   pub supplier : IsTrue (has_warehouse scale row.supply_w_id)

@@ -1,4 +1,4 @@
--- What the records of tables tell.
+-- What the records of tables determine.
 use Rattle.std.specs.Prelude.{◌≡◌, ℕ, List}
 use Rattle.schema.specs.Database.{Database, IsWithinScale}
 use Rattle.dataset.specs.Records.{AreRecords}

@@ -25,7 +25,7 @@ use Rattle.files.specs.MomentText.{IsMomentText}
 use Rattle.files.specs.Sending.{OfFirst}
 use Rattle.files.specs.Word.{credit_text}
 
--- a field: words, a number, an amount in cents, a date and time in seconds after 1970 began, or null
+-- a field: words, a number, an amount in cents, a date and time in seconds since the start of 1970, or null
 pub data Field : Type 0 where
   Words : List ℕ → Field
   Number : ℕ → Field
@@ -41,7 +41,7 @@ IsSpelt (Money cents) text = text ≡ signed_decimal cents
 IsSpelt (Date seconds) text = IsMomentText text seconds
 IsSpelt Null text = text ≡ []
 
--- ---- the columns of each table beside its key
+-- ---- the columns of each table without its key
 
 -- the five columns of an address (clause 1.3.1, as all columns)
 abbrev pub address_fields : Address → List Field
@@ -66,7 +66,7 @@ abbrev pub district_columns : District → List Field
 district_columns row =
     Words row.name ∷ address_fields row.address ++ Number row.tax ∷ Money row.ytd ∷ Number row.next_o_id ∷ []
 
--- STOCK; after S_QUANTITY come S_DIST_01 to S_DIST_10
+-- STOCK; S_DIST_01 to S_DIST_10 follow S_QUANTITY
 abbrev pub stock_columns : Stock → List Field
 stock_columns row =
     Number row.quantity ∷ map (λ text. Words text) row.dist
@@ -78,7 +78,7 @@ customer_columns row =
     Words row.first ∷ Words row.middle ∷ Words row.last ∷ address_fields row.address
     ++ Words row.phone ∷ Date row.since ∷ Words (credit_text row.credit) ∷ account_fields row
 
--- HISTORY; first comes the customer who paid
+-- HISTORY; the customer who paid is first
 abbrev pub history_columns : History → List Field
 history_columns row =
     Number row.customer.w_id ∷ Number row.customer.d_id ∷ Number row.customer.c_id
@@ -142,7 +142,7 @@ stock_fields key row = Words (codes "S") ∷ Number key.w_id ∷ Number key.i_id
 abbrev pub customer_fields : CustomerKey → Customer → List Field
 customer_fields key row = Words (codes "C") ∷ customer_key_fields key ++ customer_columns row
 
--- HISTORY, by the district in whose list the payment stands
+-- HISTORY, by the district whose list contains the payment
 abbrev pub history_fields : DistrictKey → History → List Field
 history_fields home row = Words (codes "H") ∷ district_key_fields home ++ history_columns row
 
@@ -170,11 +170,11 @@ header_fields scale =
 abbrev pub row_records : {K X : Type 0} → (K → X → List Field) → List (K × X) → List (List Field)
 row_records fields rows = map (λ e. fields e.0 e.1) rows
 
--- the rows of a table, by ascending keys
+-- the records of the rows of a table, by ascending keys
 abbrev pub table_records : {K X : Type 0} {R : K → K → Ordering} → (K → X → List Field) → table.FinMap R X → List (List Field)
 table_records fields rows = row_records fields (table.entries rows)
 
--- the payments of each district, by ascending districts, and those of a district in the order of its list
+-- the records of the payments, by ascending districts, and those of a district in the order of its list
 abbrev pub payment_records : List (DistrictKey × List History) → List (List Field)
 payment_records lists = flat_map (λ e. map (history_fields e.0) e.1) lists
 
@@ -187,7 +187,7 @@ records_by_table t =
     ∷ table_records order_fields t.orders ∷ table_records new_order_fields t.new_orders
     ∷ table_records line_fields t.lines ∷ []
 
--- END, and how many records each table has
+-- END, and the number of records of each table
 abbrev pub end_fields : List (List (List Field)) → List Field
 end_fields tables = Words (codes "END") ∷ map (λ records. Number (length records)) tables
 
@@ -205,6 +205,6 @@ AreSpelt fields texts = AllZip IsSpelt fields texts
 unfoldable pub AreRecords : Database → List (List (List ℕ)) → Type 0
 AreRecords t rows = AllZip AreSpelt (records t) rows
 
--- these are some number of the first of them
+-- these are the first records of the tables, some number of them
 abbrev pub AreFirstRecords : Database → List (List (List ℕ)) → Type 0
 AreFirstRecords t rows = OfFirst (λ (first : List (List Field)). AllZip AreSpelt first) (records t) rows

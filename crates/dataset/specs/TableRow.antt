@@ -55,7 +55,7 @@ row_fields (OfOrder key row) = order_fields key row
 row_fields (OfNewOrder key row) = new_order_fields key row
 row_fields (OfLine key row) = line_fields key row
 
--- where its record stands
+-- the place of the row's record
 abbrev pub row_place : TableRow → Place
 row_place (OfItem key row) = at.Item key
 row_place (OfWarehouse key row) = at.Warehouse key
@@ -67,7 +67,7 @@ row_place (OfOrder key row) = at.Order key
 row_place (OfNewOrder key row) = at.NewOrder key
 row_place (OfLine key row) = at.Line key
 
--- its key is one of the scale, what it refers to is too, and its columns are in their ranges
+-- the row's key and the rows that it refers to are within the scale, and its columns are in their ranges
 abbrev pub RowFits : Scale → TableRow → Type 0
 RowFits scale (OfItem key row) = IsTrue (has_item scale key) × ItemInRange row
 RowFits scale (OfWarehouse key row) = IsTrue (has_warehouse scale key) × WarehouseInRange row
@@ -103,7 +103,7 @@ infos_of v =
     v.0 ∷ v.1.0 ∷ v.1.1.0 ∷ v.1.1.1.0 ∷ v.1.1.1.1.0 ∷ v.1.1.1.1.1.0 ∷ v.1.1.1.1.1.1.0 ∷ v.1.1.1.1.1.1.1.0
     ∷ v.1.1.1.1.1.1.1.1.0 ∷ v.1.1.1.1.1.1.1.1.1.0 ∷ []
 
--- the row, with its key, that the fields behind the letter tell
+-- the row, with its key, made from the values of the fields after the letter
 abbrev pub row_of : (scale : Sizes) (table : Table) → Values (record_columns scale table) → TableRow
 row_of scale Items (i_id, (im_id, (name, (price, (words, _))))) = OfItem i_id (record { im_id = im_id; name = name; price = price; «data» = words })
 row_of scale Warehouses (w_id, (name, (street_1, (street_2, (city, (state, (zip, (tax, (ytd, _))))))))) =
@@ -167,11 +167,11 @@ row_of scale Lines (w_id, (d_id, (o_id, (number, (i_id, (supply_w_id, (delivery_
       dist_info = dist_info;
     })
 
--- the same, of the fields themselves: what a field with a fault tells is of no account
+-- the same from the fields themselves; the value of a faulty field does not matter
 abbrev pub row_read : (scale : Sizes) (table : Table) → List (List ℕ) → TableRow
 row_read scale table fields = row_of scale table (read_columns (record_columns scale table) (record { left = fields; fault = None })).0
 
--- the row that a record of that kind tells, if it tells one
+-- the row of a record of that kind, if it has one
 abbrev pub kind_rows : Sizes → Option Kind → List (List ℕ) → List TableRow
 kind_rows scale None fields = []
 kind_rows scale (Some Ending) fields = []
@@ -181,13 +181,13 @@ abbrev pub record_rows : Sizes → List (List ℕ) → List TableRow
 record_rows scale [] = []
 record_rows scale (word ∷ fields) = kind_rows scale (kind_of word) fields
 
--- the rows that these records tell, one after another
+-- the rows of these records, in order
 abbrev pub rows_read : Sizes → List (List (List ℕ)) → List TableRow
 rows_read scale records = flat_map (record_rows scale) records
 
 -- ---- a row that is added
 
--- these rows are those, and the row: at the end of its table, under its key, or at the end of its district's list
+-- new consists of old and the row: at the end of its table, under its key, or at the end of its district's list
 abbrev pub AddsRow : Scale → TableRow → TableRows → TableRows → Type 0
 AddsRow scale (OfItem key row) old new = (new ≡ record old { items = new.items }) × (new.items.items ≡ old.items.items ++ row ∷ [])
 AddsRow scale (OfWarehouse key row) old new = (new ≡ record old { warehouses = new.warehouses }) × (new.warehouses.items ≡ old.warehouses.items ++ row ∷ [])
@@ -199,7 +199,7 @@ AddsRow scale (OfOrder key row) old new = (new ≡ record old { orders = new.ord
 AddsRow scale (OfNewOrder key row) old new = (new ≡ record old { new_orders = new.new_orders }) × (new.new_orders.entries ≡ insert_entry order_cmp old.new_orders.entries key row)
 AddsRow scale (OfLine key row) old new = (new ≡ record old { lines = new.lines }) × (new.lines ≡ insert_entry line_cmp old.lines key row)
 
--- the loader has the row more, and stands where its record does
+-- the row was added to the loader, which is at the place of its record
 pub record IsAdded (row : TableRow) (l m : Loader) : Type 0 where
   pub scale : m.scale ≡ l.scale
   pub last : m.last ≡ row_place row

@@ -1,4 +1,4 @@
--- Records that were taken, by their faults.
+-- Records that were taken, and their faults.
 use Rattle.std.specs.Prelude.{◌≡◌, ◌<◌, ◌^◌, ◌+◌, ◌⊎◌, ℕ, List, [], ◌∷◌, ◌++◌, map, length, sum, Option, Some, None, Result, Ok, Err, true}
 use Rattle.schema.specs.declared.scale.Scale.{Scale}
 use Rattle.schema.specs.Database.{Database, IsWithinScale}
@@ -23,12 +23,13 @@ use Rattle.dataset.specs.Records.{AreRecords, AreSpelt, header_fields}
 use Rattle.dataset.specs.TableRow.{IsAdded, row_read}
 use Rattle.dataset.specs.Writing.{count_fields, table_counts}
 
--- the fields behind the letter were taken as a row's of that table: with their fault, or the loader has the row that they tell
+-- the fields after the letter were taken as those of a row of that table: with their fault, or their row was added to
+-- the loader
 pub record IsRowOf (table : Table) (l m : Loader) (old new : Fields) : Type 0 where
   pub fault : fault_of new ≡ kind_fault (sizes l.scale) (place_numbers l.last) [] (Some (Of table)) (fields_left old)
   pub added : fault_of new ≡ None → IsAdded (row_read (sizes l.scale) table (fields_left old)) l m
 
--- a row's record has no fault, and the loader has the row that it tells
+-- a row's record has no fault, and its row was added to the loader
 pub record HasRow (l m : Loader) (word : List ℕ) (fields : List (List ℕ)) : Type 0 where
   pub table : Table
   pub is_letter : word ≡ letter table
@@ -47,18 +48,18 @@ pub record IsTakenAs (taken : Taken) (l m : Loader) (old new : Fields) : Type 0 
       → fault_of new ≡ fields_fault (sizes l.scale) (place_numbers l.last) (table_counts l.rows) (fields_left old)
   pub done : fault_of new ≡ None → IsDone taken l m (fields_left old)
 
--- a header was read: as that of a scale, or with its fault
+-- a header was read: as a scale, or with its fault
 abbrev pub IsHeaderAs : Result Scale FaultKind → List (List ℕ) → Type 0
 IsHeaderAs (Ok scale) fields = reported_header fields ≡ None
 IsHeaderAs (Err kind) fields = reported_header fields ≡ Some kind
 
--- the record of that number was read: it has no fault, or it has the one that is told
+-- the record with that number was read: it has no fault, or the error reports its fault
 abbrev pub IsReadAs : Result Taken FileError → Loader → List (List ℕ) → ℕ → Type 0
 IsReadAs (Ok taken) l fields number = fields_fault (sizes l.scale) (place_numbers l.last) (table_counts l.rows) fields ≡ None
 IsReadAs (Err error) l fields number =
     ReportsKind error (fields_fault (sizes l.scale) (place_numbers l.last) (table_counts l.rows) fields) number
 
--- of all these records the end record was read, and more may be left
+-- the end record of these records was read, and more records may be left
 pub record ReachesEnd {R : Type 0} (remaining : R → Option (List ℕ)) (scale : Sizes) (read rows : List (List (List ℕ))) (l : Loader) (r : Records R) : Type 0 where
   pub before : List (List (List ℕ))
   pub end : List (List ℕ)
@@ -69,7 +70,7 @@ pub record ReachesEnd {R : Type 0} (remaining : R → Option (List ℕ)) (scale 
   pub left : HasLeft remaining more r
   pub number : record_number r ≡ length before + 1
 
--- of all these records the header of that scale was read, and it has no fault
+-- the header of these records, with that scale, was read, and it has no fault
 pub record BeginsDataset {R : Type 0} (remaining : R → Option (List ℕ)) (scale : Scale) (rows : List (List (List ℕ))) (r : Records R) : Type 0 where
   pub header : List (List ℕ)
   pub more : List (List (List ℕ))
@@ -79,7 +80,7 @@ pub record BeginsDataset {R : Type 0} (remaining : R → Option (List ℕ)) (sca
   pub left : HasLeft remaining more r
   pub number : record_number r ≡ 1
 
--- no tables within their scale have the records that were read, and an end record
+-- no tables within their scale have the records that were read, followed by an end record
 abbrev pub HasReadNoTables : Loader → Type 0
 HasReadNoTables l =
     (t : Database) (read : List (List (List ℕ))) (end : List (List ℕ))

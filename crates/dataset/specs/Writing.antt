@@ -6,20 +6,20 @@ use Rattle.files.specs.Written.{csv_text}
 use Rattle.schema.specs.declared.table_rows.TableRows.{TableRows}
 use Rattle.dataset.specs.Records.{Field, Words, Number, AreSpelt}
 
--- a record has texts more, which spell these fields
+-- texts that spell these fields were appended to a record
 pub record Adds (fields : List Field) (old new : List (List ℕ)) : Type 0 where
   pub texts : List (List ℕ)
   pub are_spelt : AreSpelt fields texts
   pub added : new ≡ old ++ texts
 
--- how many rows each table has
+-- the number of rows of each table
 abbrev pub table_counts : TableRows → List ℕ
 table_counts rows =
     length rows.items.items ∷ length rows.warehouses.items ∷ length rows.districts.items ∷ length rows.stocks.items
     ∷ length rows.customers.items ∷ sum (map length rows.histories.items) ∷ length rows.orders.entries
     ∷ length rows.new_orders.entries ∷ length rows.lines ∷ []
 
--- as fields
+-- these numbers as fields
 abbrev pub row_counts : TableRows → List Field
 row_counts rows = map (λ count. Number count) (table_counts rows)
 
@@ -27,13 +27,14 @@ row_counts rows = map (λ count. Number count) (table_counts rows)
 abbrev pub count_fields : TableRows → List Field
 count_fields rows = Words (codes "END") ∷ row_counts rows
 
--- What comes to a sink where records are written: the text that was gathered before, and then theirs, and this text is gathered still.
+-- The effect on a sink if records are written: the text gathered before, followed by that of the records, was sent,
+-- except for new, which is still gathered.
 pub record Puts (before after : Option (List ℕ)) (old new : List ℕ) (records : List (List Field)) : Type 0 where
   pub rows : List (List (List ℕ))
   pub are_spelt : AllZip AreSpelt records rows
   pub sends : Sends before after (old ++ csv_text rows) new
 
--- the same where that ended early: a beginning of that text, with the first of these records
+-- the same if writing ended early: a prefix of that text, with the first of these records, was sent
 pub record StopsIn (before after : Option (List ℕ)) (old : List ℕ) (records : List (List Field)) : Type 0 where
   pub first : List (List Field)
   pub others : List (List Field)

@@ -17,7 +17,8 @@ use files::{Fields, NewRecord, credit_word};
 use rows::{Customer, CustomerKey, District};
 use schema::{NoMemory, Scale};
 
-/// Takes a record of CUSTOMER behind its letter, and adds its row if it has no fault.
+/// Takes the fields of a record of CUSTOMER after its letter. If the record has no fault, adds its row.
+/// Returns `NoMemory` if an allocation fails.
 pub fn take(loader: &mut Loader, fields: &mut Fields) -> Result<(), NoMemory>
     ensures { OnOk result (fault_of fields.old ≡ None → IsRowOf Customers loader.old loader.new fields.old fields.new) }
 {
@@ -44,7 +45,7 @@ pub fn take(loader: &mut Loader, fields: &mut Fields) -> Result<(), NoMemory>
     Ok(())
 }
 
-/// Takes the key of a customer, three fields.
+/// Takes the three fields of a customer's key.
 pub fn key(fields: &mut Fields, scale: Scale) -> CustomerKey
     ensures { Reads (customer_key (sizes scale)) (customer_key_of (sizes scale)) result fields.old fields.new }
 {
@@ -55,7 +56,7 @@ pub fn key(fields: &mut Fields, scale: Scale) -> CustomerKey
     }
 }
 
-/// Adds the key of a customer, three fields.
+/// Appends the three fields of a customer's key.
 pub fn put_key(out: &mut NewRecord, key: CustomerKey) -> Result<(), NoMemory>
     ensures { OnOk result (Adds (customer_key_fields key) out.old out.new) }
 {
@@ -95,7 +96,7 @@ impl Dense<CustomerKey> for Customer {
     }
 }
 
-// Adds C_CREDIT_LIM to C_DATA.
+// Appends the columns C_CREDIT_LIM to C_DATA.
 fn put_account(out: &mut NewRecord, row: &Customer) -> Result<(), NoMemory>
     ensures { OnOk result (Adds (account_fields row.now) out.old out.new) }
 {

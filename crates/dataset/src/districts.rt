@@ -16,7 +16,8 @@ use files::{Fields, NewRecord};
 use rows::{District, DistrictKey};
 use schema::{NoMemory, Scale};
 
-/// Takes a record of DISTRICT behind its letter, and adds its row if it has no fault.
+/// Takes the fields of a record of DISTRICT after its letter. If the record has no fault, adds its row.
+/// Returns `NoMemory` if an allocation fails.
 pub fn take(loader: &mut Loader, fields: &mut Fields) -> Result<(), NoMemory>
     ensures { OnOk result (fault_of fields.old ≡ None → IsRowOf Districts loader.old loader.new fields.old fields.new) }
 {
@@ -34,7 +35,7 @@ pub fn take(loader: &mut Loader, fields: &mut Fields) -> Result<(), NoMemory>
     Ok(())
 }
 
-/// Takes the key of a district, two fields.
+/// Takes the two fields of a district's key.
 pub fn key(fields: &mut Fields, scale: Scale) -> DistrictKey
     ensures known { IsTrue (has_district scale result) }
     ensures reads { Reads (district_key (sizes scale)) (district_key_of (sizes scale)) result fields.old fields.new }
@@ -45,7 +46,7 @@ pub fn key(fields: &mut Fields, scale: Scale) -> DistrictKey
     }
 }
 
-/// Adds the key of a district, two fields.
+/// Appends the two fields of a district's key.
 pub fn put_key(out: &mut NewRecord, key: DistrictKey) -> Result<(), NoMemory>
     ensures { OnOk result (Adds (district_key_fields key) out.old out.new) }
 {

@@ -9,8 +9,8 @@ use crate::histories;
 use files::{FaultKind, Fields, NewRecord};
 use schema::{HistoryList, NoMemory, TableRows};
 
-/// Takes the counts of an end record, from its second field on; `WrongCount` where one is not that of
-/// the rows read.
+/// Takes the counts of an end record, from its second field on. Notes `WrongCount` if a count is not
+/// the number of rows that were read.
 pub fn check(fields: &mut Fields, rows: &TableRows)
     ensures columns { sum (map length rows.now.histories.items) < 2 ^ 64 → fields_view fields.new ≡ take_columns (map (λ count. Count count) (table_counts rows.now)) (fields_view fields.old) }
     ensures taken { Takes fields.old fields.new (AreSpelt (row_counts rows.now)) }
@@ -26,7 +26,8 @@ pub fn check(fields: &mut Fields, rows: &TableRows)
     fields.expect_count(rows.lines.len() as u64);
 }
 
-// Takes the count of HISTORY. A field can't have the number of more payments than a `u64` counts.
+// Takes the count of HISTORY. If there are more payments than fit in a `u64`, no field can have their
+// number.
 fn check_payments(fields: &mut Fields, lists: &[HistoryList])
     ensures columns { sum (map length lists.now) < 2 ^ 64 → fields_view fields.new ≡ take_columns (Count (sum (map length lists.now)) ∷ []) (fields_view fields.old) }
     ensures taken { Takes fields.old fields.new (AreSpelt (Number (sum (map length lists.now)) ∷ [])) }
@@ -37,7 +38,7 @@ fn check_payments(fields: &mut Fields, lists: &[HistoryList])
     }
 }
 
-/// Adds the fields of the end record.
+/// Appends the fields of the end record.
 pub fn put(out: &mut NewRecord, rows: &TableRows) -> Result<(), NoMemory>
     ensures { OnOk result (Adds (count_fields rows.now) out.old out.new) }
 {

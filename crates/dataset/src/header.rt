@@ -7,7 +7,8 @@ ghost use Rattle.dataset.specs.Writing.{Adds};
 use files::{FaultKind, Fields, NewRecord};
 use schema::{NoMemory, Scale};
 
-/// The scale of a header record: `NoHeader` where the record is none of this format.
+/// The scale of a header record. Returns `NoHeader` if the record does not have this format, otherwise
+/// the least fault of its fields, if there is one.
 pub fn parse(fields: &mut Fields) -> Result<Scale, FaultKind>
     ensures exact { fault_of fields.old ≡ None → IsHeaderAs result (fields_left fields.old) }
     ensures spelt { IfOk result (λ scale. AreSpelt (header_fields scale) (fields_left fields.old)) }
@@ -24,7 +25,7 @@ pub fn parse(fields: &mut Fields) -> Result<Scale, FaultKind>
     }
 }
 
-/// Adds the fields of the header record.
+/// Appends the fields of the header record.
 pub fn put(out: &mut NewRecord, scale: Scale) -> Result<(), NoMemory>
     ensures { OnOk result (Adds (header_fields scale) out.old out.new) }
 {

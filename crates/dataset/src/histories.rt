@@ -20,7 +20,8 @@ use schema::{HistoryList, NoMemory, Scale};
 use std::alloc::Global;
 use std::io::Write;
 
-/// Takes a record of HISTORY behind its letter, and adds its row at the end of its district's list if it has no fault.
+/// Takes the fields of a record of HISTORY after its letter. If the record has no fault, appends its
+/// row to its district's list. Returns `NoMemory` if an allocation fails.
 pub fn take(loader: &mut Loader, fields: &mut Fields) -> Result<(), NoMemory>
     ensures { OnOk result (fault_of fields.old ≡ None → IsRowOf Histories loader.old loader.new fields.old fields.new) }
 {
@@ -40,7 +41,7 @@ pub fn take(loader: &mut Loader, fields: &mut Fields) -> Result<(), NoMemory>
     }
 }
 
-// Adds the row at the end of the list of that place, which is opened if need be.
+// Appends the row to the list at this index. Adds empty lists up to it if they are missing.
 fn push(
     alloc: Global,
     lists: &mut Vec<HistoryList>,
@@ -54,7 +55,7 @@ fn push(
     lists[place].push(row)
 }
 
-/// Adds empty lists until there are that many.
+/// Adds empty lists until there are at least `count` lists. Returns `NoMemory` if an allocation fails.
 pub fn open(alloc: Global, lists: &mut Vec<HistoryList>, count: usize) -> Result<(), NoMemory>
     ensures { OnOk result (Opens count lists.old.items lists.new.items) }
 {
@@ -77,7 +78,7 @@ impl Recorded<DistrictKey> for History {
     }
 }
 
-/// Writes the payments of all districts, each district's in the order of its list.
+/// Writes the payments of all districts, those of each district in the order of its list.
 pub fn write<W: Write>(
     writer: &mut RecordWriter,
     sink: &mut W,
@@ -120,7 +121,7 @@ fn write_list<W: Write>(
     Ok(())
 }
 
-/// How many payments there are, in a number that any lists fit.
+/// The number of payments. The type is wide enough for any lists.
 pub fn count(lists: &[HistoryList]) -> u128
     ensures { result ≡ sum (map length lists.now) }
 {

@@ -12,7 +12,8 @@ use files::{Fields, NewRecord};
 use rows::Item;
 use schema::{NoMemory, Scale};
 
-/// Takes a record of ITEM behind its letter, and adds its row if it has no fault.
+/// Takes the fields of a record of ITEM after its letter. If the record has no fault, adds its row.
+/// Returns `NoMemory` if an allocation fails.
 pub fn take(loader: &mut Loader, fields: &mut Fields) -> Result<(), NoMemory>
     ensures { OnOk result (fault_of fields.old ≡ None → IsRowOf Items loader.old loader.new fields.old fields.new) }
 {

@@ -1,4 +1,4 @@
-//! Laws of a dataset's records: functions that change nothing, and are proved.
+//! Laws about a dataset's records: proved functions that change nothing.
 ghost use Rattle.std.specs.Prelude.{◌≡◌, ℕ, List};
 ghost use Rattle.dataset.specs.RecordLaws.{RecordsReportTables};
 ghost use Rattle.dataset.specs.Records.{AreRecords};
@@ -6,13 +6,13 @@ ghost use Rattle.dataset.specs.Records.{AreRecords};
 use crate::columns_are_in_range;
 use schema::Tables;
 
-/// Different tables have different records, where they are within their scale and their columns within
+/// Different tables have different records, if they are within their scale and their columns are within
 /// their ranges.
 pub fn different_tables_have_different_records()
     ensures { RecordsReportTables }
 {}
 
-/// Tables with the same records are equal, whichever tables these are.
+/// Any tables with the same records are equal.
 pub fn records_report_tables(one: &Tables, other: &Tables)
     ensures { (rows : List (List (List ℕ))) → AreRecords one.now rows → AreRecords other.now rows → one.now ≡ other.now }
 {

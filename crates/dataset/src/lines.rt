@@ -14,8 +14,9 @@ use files::{Fields, NewRecord};
 use rows::{Moment, OrderLine, OrderLineKey};
 use schema::NoMemory;
 
-/// Takes a record of ORDER-LINE behind its letter, and adds its row if it has no fault. OL_NUMBER is 1 to 15, and OL_DELIVERY_D is
-/// null where the field is empty.
+/// Takes the fields of a record of ORDER-LINE after its letter. If the record has no fault, adds its
+/// row. OL_NUMBER is 1 to 15, and OL_DELIVERY_D is null if the field is empty. Returns `NoMemory` if an
+/// allocation fails.
 pub fn take(loader: &mut Loader, fields: &mut Fields) -> Result<(), NoMemory>
     ensures { OnOk result (fault_of fields.old ≡ None → IsRowOf Lines loader.old loader.new fields.old fields.new) }
 {
@@ -55,7 +56,7 @@ impl Recorded<OrderLineKey> for OrderLine {
     }
 }
 
-// Adds OL_DELIVERY_D, an empty field where it is null.
+// Appends OL_DELIVERY_D; the field is empty if it is null.
 fn put_delivery(out: &mut NewRecord, delivery: Option<Moment>) -> Result<(), NoMemory>
     ensures { OnOk result (Adds (delivery_field delivery ∷ []) out.old out.new) }
 {

@@ -18,25 +18,25 @@ use files::{FaultKind, Fields};
 use schema::{NoMemory, Scale, ScaleFault, TableRows, Tables};
 use std::alloc::Global;
 
-/// What kind of record was taken.
+/// The kind of a record that was taken.
 #[derive(Clone, Copy, Debug, PartialEq, Eq)]
 pub enum Taken {
     Row,
     End,
 }
 
-/// The rows of a dataset, as far as it was read. A record with a fault adds none.
+/// The rows of a dataset that have been read so far. A record with a fault adds none.
 #[derive(Drop)]
 pub struct Loader {
     pub(crate) alloc: Global,
     pub(crate) scale: Scale,
     pub(crate) rows: TableRows,
-    // Where the last record stood.
+    // The place of the last record.
     last: Place,
 }
 
 impl Loader {
-    /// No rows, after a header record of that scale.
+    /// No rows, after a header record with that scale.
     pub fn new(alloc: Global, scale: Scale) -> Self
         ensures scale { result.scale ≡ scale }
         ensures loads { (header : List (List ℕ)) → AreSpelt (header_fields scale) header → HasLoaded result (header ∷ []) }
@@ -49,7 +49,8 @@ impl Loader {
         }
     }
 
-    /// Takes a record. Its fault, if it has one, is noted in `fields`.
+    /// Takes a record. Its fault, if it has one, is noted in `fields`. Returns `NoMemory` if an
+    /// allocation fails.
     pub fn take(&mut self, fields: &mut Fields) -> Result<Taken, NoMemory>
         ensures { IfOk result (λ taken. fault_of fields.old ≡ None → IsTakenAs taken self.old self.new fields.old fields.new) }
     {
@@ -73,8 +74,8 @@ impl Loader {
         Ok(Taken::Row)
     }
 
-    /// Stands where a record does whose fields were taken, and says whether it has no fault. A field too many is noted, and a record
-    /// out of order where it has no other fault.
+    /// Moves to the place of a record whose fields were taken, and returns whether the record has no
+    /// fault. Notes a field too many; and, if there is no other fault, a record out of order.
     pub(crate) fn stand_at(&mut self, place: Place, fields: &mut Fields) -> bool
         ensures fault { fault_of fields.new ≡ or_order (at_end (fields_left fields.old) (fault_of fields.old)) (follows place self.old.last) }
         ensures free { result ≡ is_none (fault_of fields.new) }
@@ -87,7 +88,8 @@ impl Loader {
         fields.fault().is_none()
     }
 
-    /// The tables of all rows; `Err` is a rule of the scale that they break, and then no tables have the records that were read.
+    /// The tables of all rows. The inner `Err` is a rule of the scale that they break; no tables have
+    /// the records that were read then. Returns `NoMemory` if an allocation fails.
     pub fn finish(mut self) -> Result<Result<Tables, ScaleFault>, NoMemory>
         ensures tables { IfOk result (λ checked. IfOk checked (λ tables. (read : List (List (List ℕ))) (end : List (List ℕ))
             → HasLoaded self read → AreSpelt (count_fields self.rows) end → AreRecords tables (read ++ end ∷ []))) }

@@ -6,7 +6,7 @@ use files::{NewRecord, moment_text};
 use rows::Moment;
 use schema::NoMemory;
 
-/// Adds a field that spells the moment.
+/// Appends a field that spells the moment.
 pub fn put_moment(out: &mut NewRecord, moment: Moment) -> Result<(), NoMemory>
     ensures { OnOk result (Adds (Date moment ∷ []) out.old out.new) }
 {

@@ -12,7 +12,8 @@ use files::{Fields, NewRecord};
 use rows::{NewOrder, OrderKey};
 use schema::NoMemory;
 
-/// Takes a record of NEW-ORDER behind its letter, which has no field beside its key, and adds its row if it has no fault.
+/// Takes the fields of a record of NEW-ORDER after its letter, which are only its key. If the record
+/// has no fault, adds its row. Returns `NoMemory` if an allocation fails.
 pub fn take(loader: &mut Loader, fields: &mut Fields) -> Result<(), NoMemory>
     ensures { OnOk result (fault_of fields.old ≡ None → IsRowOf NewOrders loader.old loader.new fields.old fields.new) }
 {

@@ -15,8 +15,9 @@ use files::{Fields, NewRecord};
 use rows::{CarrierId, Order, OrderKey};
 use schema::{NoMemory, Scale};
 
-/// Takes a record of ORDER behind its letter, and adds its row if it has no fault. O_CARRIER_ID is null where the field is
-/// empty, and O_ALL_LOCAL is 1 or 0.
+/// Takes the fields of a record of ORDER after its letter. If the record has no fault, adds its row.
+/// O_CARRIER_ID is null if the field is empty, and O_ALL_LOCAL is 1 or 0. Returns `NoMemory` if an
+/// allocation fails.
 pub fn take(loader: &mut Loader, fields: &mut Fields) -> Result<(), NoMemory>
     ensures { OnOk result (fault_of fields.old ≡ None → IsRowOf Orders loader.old loader.new fields.old fields.new) }
 {
@@ -34,7 +35,7 @@ pub fn take(loader: &mut Loader, fields: &mut Fields) -> Result<(), NoMemory>
     Ok(())
 }
 
-/// Takes the key of an order, three fields; O_ID is 1 to 9,999,999.
+/// Takes the three fields of an order's key. O_ID is 1 to 9,999,999.
 pub fn key(fields: &mut Fields, scale: Scale) -> OrderKey
     ensures { Reads (order_key (sizes scale)) (order_key_of (sizes scale)) result fields.old fields.new }
 {
@@ -45,7 +46,7 @@ pub fn key(fields: &mut Fields, scale: Scale) -> OrderKey
     }
 }
 
-/// Adds the key of an order, three fields.
+/// Appends the three fields of an order's key.
 pub fn put_key(out: &mut NewRecord, key: OrderKey) -> Result<(), NoMemory>
     ensures { OnOk result (Adds (order_key_fields key) out.old out.new) }
 {
@@ -68,7 +69,7 @@ impl Recorded<OrderKey> for Order {
     }
 }
 
-// Adds O_CARRIER_ID, an empty field where it is null.
+// Appends O_CARRIER_ID; the field is empty if it is null.
 fn put_carrier(out: &mut NewRecord, carrier: Option<CarrierId>) -> Result<(), NoMemory>
     ensures { OnOk result (Adds (carrier_field carrier ∷ []) out.old out.new) }
 {

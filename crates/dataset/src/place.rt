@@ -3,7 +3,7 @@ ghost use Rattle.dataset.specs.Order.{follows};
 
 use rows::{CustomerKey, DistrictKey, OrderKey, OrderLineKey, StockKey};
 
-/// Where a record stands in the order of a dataset: by table, and in its table by key.
+/// The place of a record in the order of a dataset: by table, and within its table by key.
 #[derive(Clone, Copy, Debug, PartialEq, Eq, PartialOrd, Ord)]
 pub enum Place {
     Header,
@@ -19,7 +19,7 @@ pub enum Place {
 }
 
 impl Place {
-    /// Whether a record at this place may come right after one at `last`. Only the rows of HISTORY, which
+    /// Whether a record at this place may directly follow one at `last`. Only rows of HISTORY, which
     /// have no key, may share a place.
     pub fn follows(self, last: Place) -> bool
         ensures { result ≡ follows self last }

@@ -1,5 +1,5 @@
-//! The ranges of the columns, which the types of rows keep: functions that read each column, and
-//! change nothing.
+//! The ranges of the columns, which the types of rows guarantee. The functions read each column and
+//! change nothing; their contracts state the ranges.
 ghost use Rattle.std.specs.Prelude.{List, IfSome};
 ghost use Rattle.std.specs.Iterator.{IsFinite};
 ghost use Rattle.std.specs.List.{AllByRecursion};
@@ -15,7 +15,7 @@ use rows::{
 };
 use schema::{HistoryList, Tables};
 
-/// A row, or a list of them, whose columns have ranges.
+/// A row, or a list of rows, whose columns have ranges.
 trait Columns {
     ghost in_range: { Self → Type 0 };
 
@@ -24,7 +24,7 @@ trait Columns {
         ensures { in_range self.now };
 }
 
-/// The columns of all rows are in their ranges.
+/// The columns of all rows are in their ranges. Changes nothing.
 pub fn columns_are_in_range(tables: &Tables)
     ensures { InRange tables.now }
 {

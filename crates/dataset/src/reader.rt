@@ -18,18 +18,18 @@ use files::{FaultKind, FileError, FileFault, Input, Records};
 use schema::{Scale, Tables};
 use std::alloc::Global;
 
-/// The tables of the dataset that `source` gives.
+/// Reads the tables of the dataset in `source`.
 ///
-/// A fault comes with its record, and nothing else is given then; it comes only where no tables have the
-/// records of the text. It is the first fault of the text: the first faulty record
-/// decides, and of its faults the least one; a broken rule of the scale is looked for after the whole
-/// file was read, and named at the end record.
+/// Returns a fault, with the number of its record, only if no tables have the records of the text. It
+/// is the first fault of the text: that of the first faulty record, and of its faults the least. The
+/// rules of the scale are checked after the whole file is read, and a broken one is reported at the end
+/// record. This holds for a text of fewer than 2^64 - 1 records.
 ///
-/// `NoMemory` comes where there is none for a record or for the rows; `Failed` comes where a read of `source`
-/// fails, with the number of the record in flight, and never where none does. Of the text neither says
-/// anything, and nothing else is given then either. After an error it is not said how far `source` was read.
-/// Memory is taken row by row; by the numbers of the header only for an empty list of payments for each
-/// district, of which there are at most 640.
+/// Returns `NoMemory` if an allocation for a record or for the rows fails. Returns `Failed`, with the
+/// number of the current record, if a read of `source` fails, and only then. Neither implies anything
+/// about the text. After any error, no tables are returned, and it is not specified how far `source`
+/// was read. Memory is allocated row by row. The numbers of the header determine only how many empty
+/// lists of payments are allocated: one for each district, at most 640.
 pub fn read<R: Input + Drop>(alloc: Global, source: R) -> Result<Tables, FileError>
     ensures tables { IfOk result (λ tables. (text : List ℕ) → R.remaining source ≡ Some text → (rows : List (List (List ℕ))) × IsCsv text rows × AreRecords tables rows) }
     ensures first { (text : List ℕ) (rows : List (List (List ℕ))) → R.remaining source ≡ Some text → IsCsv text rows → length rows < 2 ^ 64 - 1
@@ -45,14 +45,14 @@ pub fn read<R: Input + Drop>(alloc: Global, source: R) -> Result<Tables, FileErr
     finish(records, loader)
 }
 
-/// The scale of the dataset that `source` gives, of which the header alone is read.
+/// Reads the scale of the dataset in `source`, from the header alone.
 ///
-/// A fault is one of the header, which is the first record; it comes only where the text begins with no
-/// header.
+/// A fault is one of the header, which is the first record. It is returned only if the text does not
+/// begin with a header.
 ///
-/// `NoMemory` comes where there is none for the record, and `Failed` with its number, 1, where a read of
-/// `source` fails, and never where none does. Of the text neither says anything, and nothing is given then. It
-/// is not said how far `source` was read.
+/// Returns `NoMemory` if an allocation for the record fails. Returns `Failed`, with its number, 1, if a
+/// read of `source` fails, and only then. Neither implies anything about the text. After any error, no
+/// scale is returned, and it is not specified how far `source` was read.
 pub fn read_scale<R: Input + Drop>(alloc: Global, source: R) -> Result<Scale, FileError>
     ensures first { (text : List ℕ) (rows : List (List (List ℕ))) → R.remaining source ≡ Some text → IsCsv text rows → IfErr result (λ error. ReportsFault error (first_fault rows)) }
     ensures scale { IfOk result (λ scale. (text : List ℕ) → R.remaining source ≡ Some text → (header : List (List ℕ)) × AreSpelt (header_fields scale) header × BeginsWith text header) }
@@ -64,7 +64,7 @@ pub fn read_scale<R: Input + Drop>(alloc: Global, source: R) -> Result<Scale, Fi
     read_header(&mut records)
 }
 
-// The scale of the first record, which is the header.
+// Reads the header, which is the first record, and returns its scale.
 fn read_header<R: Input + Drop>(records: &mut Records<R>) -> Result<Scale, FileError>
     ensures first { (rows : List (List (List ℕ))) → record_number records.old ≡ 0 → HasLeft R.remaining rows records.old
         → MatchResult result (λ scale. BeginsDataset R.remaining scale rows records.new) (λ error. ReportsFault error (header_first rows)) }
@@ -81,7 +81,7 @@ fn read_header<R: Input + Drop>(records: &mut Records<R>) -> Result<Scale, FileE
     }
 }
 
-// Takes the records up to the end record, which is then in flight.
+// Takes the records up to the end record, which is the current record afterwards.
 fn read_rows<R: Input + Drop>(
     records: &mut Records<R>,
     loader: &mut Loader,
@@ -104,7 +104,7 @@ fn read_rows<R: Input + Drop>(
     Err(records.fault(FaultKind::NoEnd))
 }
 
-// Takes the record in flight.
+// Takes the current record.
 fn read_record<R: Input + Drop>(
     records: &Records<R>,
     loader: &mut Loader,
@@ -121,7 +121,7 @@ fn read_record<R: Input + Drop>(
     }
 }
 
-// The tables, after the end record, which has to be the last.
+// The tables, after the end record, which must be the last record.
 fn finish<R: Input + Drop>(mut records: Records<R>, loader: Loader) -> Result<Tables, FileError>
     ensures none_left { OnOk result ((more : List (List (List ℕ))) → HasLeft R.remaining more records → more ≡ []) }
     ensures first { IfErr result (λ error. (more : List (List (List ℕ))) → HasLeft R.remaining more records → record_number records < 2 ^ 64 - 1

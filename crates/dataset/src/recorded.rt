@@ -9,11 +9,11 @@ use files::{FileError, NewRecord, RecordWriter};
 use schema::{NoMemory, Scale};
 use std::io::Write;
 
-/// A row of a table, under a key: a dataset has one record for it.
+/// A row of a table, with a key. A dataset has one record for it.
 pub trait Recorded<K> {
     ghost fields: { K → Self → List Field };
 
-    /// Adds the fields of the record: the table's letter, the key, and the other columns.
+    /// Appends the fields of the record: the table's letter, the key, and the other columns.
     fn put(&self, key: K, out: &mut NewRecord) -> Result<(), NoMemory>
         ensures { OnOk result (Adds (fields key self.now) out.old out.new) };
 }
@@ -22,7 +22,7 @@ pub trait Recorded<K> {
 pub trait Dense<K>: Recorded<K> {
     ghost keys: { Scale → List K };
 
-    /// The key that stands at that place among the keys in ascending order, from 0.
+    /// The key at this index among the keys in ascending order, from 0.
     fn key_at(scale: Scale, place: usize) -> K
         requires { place < length (keys scale) }
         ensures { slice_get (keys scale) place ≡ Some result };

@@ -15,7 +15,8 @@ use files::{Fields, NewRecord};
 use rows::{Stock, StockKey, Text};
 use schema::{NoMemory, Scale};
 
-/// Takes a record of STOCK behind its letter, and adds its row if it has no fault.
+/// Takes the fields of a record of STOCK after its letter. If the record has no fault, adds its row.
+/// Returns `NoMemory` if an allocation fails.
 pub fn take(loader: &mut Loader, fields: &mut Fields) -> Result<(), NoMemory>
     ensures { OnOk result (fault_of fields.old ≡ None → IsRowOf Stocks loader.old loader.new fields.old fields.new) }
 {
@@ -83,7 +84,7 @@ impl Dense<StockKey> for Stock {
     }
 }
 
-// Adds S_DIST_01 to S_DIST_10.
+// Appends S_DIST_01 to S_DIST_10.
 fn put_district_infos(out: &mut NewRecord, infos: &[Text<24>]) -> Result<(), NoMemory>
     ensures { OnOk result (Adds (map (λ text. Words text) infos.now) out.old out.new) }
 {

@@ -15,7 +15,8 @@ use files::{Fields, NewRecord};
 use rows::{Address, Warehouse};
 use schema::{NoMemory, Scale};
 
-/// Takes a record of WAREHOUSE behind its letter, and adds its row if it has no fault.
+/// Takes the fields of a record of WAREHOUSE after its letter. If the record has no fault, adds its
+/// row. Returns `NoMemory` if an allocation fails.
 pub fn take(loader: &mut Loader, fields: &mut Fields) -> Result<(), NoMemory>
     ensures { OnOk result (fault_of fields.old ≡ None → IsRowOf Warehouses loader.old loader.new fields.old fields.new) }
 {
@@ -66,7 +67,7 @@ impl Dense<u32> for Warehouse {
     }
 }
 
-/// Adds the five fields of an address.
+/// Appends the five fields of an address.
 pub fn put_address(out: &mut NewRecord, address: &Address) -> Result<(), NoMemory>
     ensures { OnOk result (Adds (address_fields address.now) out.old out.new) }
 {

@@ -16,9 +16,9 @@ use std::io::Write;
 
 /// Writes the dataset of the tables to the sink.
 ///
-/// `NoMemory` comes where there is none for a record, and `Failed` where the sink fails, with the number of
-/// the record in flight; since records are gathered before they are sent, what was not taken may be an
-/// earlier one. After an error the sink has got a beginning of the text.
+/// Returns `NoMemory` if an allocation for a record fails. Returns `Failed`, with the number of the
+/// current record, if the sink fails; since records are gathered before they are sent, the record that
+/// was not taken may be an earlier one. After an error, the sink has received a prefix of the text.
 pub fn write<W: Write>(alloc: Global, sink: &mut W, tables: &Tables) -> Result<(), FileError>
     ensures written { OnOk result (Writes (W.contents sink.old) (W.contents sink.new) (AreRecords tables.now)) }
     ensures begun { OnErr result (BeginsToWrite (W.contents sink.old) (W.contents sink.new) (AreFirstRecords tables.now)) }
@@ -61,7 +61,7 @@ fn put_tables<W: Write>(
     writer.write(sink, &out)
 }
 
-// Writes the rows of a table that stand in the order of the scale's keys.
+// Writes the rows of a table whose rows are in the order of the scale's keys.
 fn write_dense<W: Write, K, T: Dense<K>>(
     writer: &mut RecordWriter,
     sink: &mut W,
@@ -80,7 +80,7 @@ fn write_dense<W: Write, K, T: Dense<K>>(
     Ok(())
 }
 
-// Writes the rows of a table as they come with their keys.
+// Writes the rows of a table in the order of the iterator, with their keys.
 fn write_ordered<
     'a,
     W: Write,

@@ -10,7 +10,7 @@ use Rattle.files.specs.KindsRead.{count_read, credit_read, moment_read, money_re
 use Rattle.files.specs.Word.{text_read}
 use Rattle.files.proofs.KindsRead.{TookField, took_next}
 
--- the fields were read so: a record, by which the columns and what their fields tell are found
+-- the fields were read so: a record, by which the columns and the values of their fields are found
 pub record ReadsColumns (columns : List Column) (values : Values columns) (t u : FieldsView) : Type 0 where
   pub is : ◌≡◌ {A = Values columns × FieldsView} (values, u) (read_columns columns t)
 
@@ -18,7 +18,7 @@ pub record ReadsColumns (columns : List Column) (values : Values columns) (t u :
 pub read_none : {t : FieldsView} → ReadsColumns [] tt t t
 read_none = record { is = refl }
 
--- what one field and those behind it tell
+-- the values of one field and of those after it
 abbrev pub behind : (column : Column) (columns : List Column) → Value column → Values columns × FieldsView → Values (column ∷ columns) × FieldsView
 behind column columns value rest = ((value, rest.0), rest.1)
 
@@ -90,7 +90,7 @@ clean_one (Spelt fault) t none =
     let read = took_next word_read [] _ t.left _ t.fault _ refl kept.0 in
     record { faultless = read.faultless; text = read.text; is_read = read.is_read; left = read.left ∙ ap (λ l. read.text ∷ l) (sym kept.1) }
 
--- each text is read as what its column tells
+-- each text is read as its column's value
 unfoldable pub AreRead : (columns : List Column) → Values columns → List (List ℕ) → Type 0
 AreRead [] values [] = Unit {0}
 AreRead [] values (text ∷ texts) = ⊥

@@ -49,7 +49,7 @@ maybe_moment old new is = record { is = ap (λ (p : Option ℕ × FieldsView). p
 pub count : (number expected : ℕ) (old new : Fields) → expected ≡ number → fields_view new ≡ (field_read (count_read expected) expected (fields_view old)).1 → TakesColumns (Count number ∷ []) old new
 count number expected old new same is = record { is = is ∙ ap (λ n. (field_read (count_read n) n (fields_view old)).1) same }
 
--- what is told where no more fields should be left
+-- the fault at the end, where no more fields should be left
 pub ended : (left : List (List ℕ)) (old new : Option FaultKind) → (left ≡ [] → new ≡ old) → (left ≢ [] → new ≡ Some (with_fault old WrongShape)) → new ≡ at_end left old
 ended [] old new none some = none refl
 ended (field ∷ fields) old new none some = some (λ e. cc)

@@ -15,7 +15,7 @@ use Rattle.files.specs.declared.line.Mark.TheVariants as mark
 use Rattle.files.specs.Marks.{ArePlain, IsNextMark}
 use Rattle.files.specs.Line.{BeginsRecord, IsMark, IsBetween, IsOpen, IsWhole, is_in_record}
 
--- where a line stands at a place, whose field begins there
+-- the state of a line at an index, if its field begins at the other index
 pub line_state : ℕ → ℕ → State
 line_state from zero = st.StartRecord
 line_state from (suc to) = cond (from == suc to) st.StartField st.InField
@@ -154,7 +154,7 @@ whole bytes spans from to after between h inside stepped =
       size = ap record_size (parts_more bytes spans span) ∙ size_more (parts bytes spans) (part bytes span) ∙ omega (arith, size, long);
     }
 
--- a line's end does not stand first
+-- the first byte is not a line end
 not_first : (bytes : List ℕ) (to : ℕ) → BeginsRecord bytes → (get_or bytes to 0 ≡ 10) ⊎ (get_or bytes to 0 ≡ 13) → 0 < to
 not_first [] to h ends = absurd h
 not_first (byte ∷ bytes) zero h (inl feed) = absurd (h.0 feed)

@@ -96,7 +96,7 @@ four_in text = by_century (two_digits text) (two_in text)
     by_century None h = tt
     by_century (Some c) h = by_year c.0 (two_digits c.1) h (two_in c.1)
 
--- a field lies from its lowest to its highest
+-- a field is from its lowest to its highest value
 field_in : (missing : Syntax) (low high : ℕ) (bound : Bound) (text : List ℕ) → Gives (field missing low high bound text) (λ n. IsInRange low high n.0)
 unfolding field
 field_in missing low high bound text =

@@ -14,7 +14,7 @@ use Rattle.files.specs.Marks.{ArePlain, IsNextMark, Reports, is_mark}
 abbrev mask_of : List ℕ → ℕ
 mask_of lanes = mask_l (map (top 7) (zip2 (λ a b. cond (leb a b) 255 0) lanes (replicate 32 44))) % 2 ^ 64
 
--- that mask tells of those bytes
+-- the mask has a bit for each of those bytes
 pub lanes_reported : (bytes : List ℕ) (at : ℕ) → at + 32 ≤ length bytes → Reports bytes at (record { mask = mask_of (chunk at 32 bytes); end = at + 32 })
 lanes_reported bytes at room =
     let all : 32 ≡ at + 32 - at = omega arith in
@@ -92,7 +92,7 @@ first_reported bytes at marks h some =
       },
     )
 
--- the bits behind that of a byte tell of the bytes behind it
+-- the bits after that of a byte are those of the bytes after it
 pub rest_reported : (bytes : List ℕ) (at skipped : ℕ) (marks : Marks) → Reports bytes at marks → skipped < marks.end - at
     → Reports bytes (at + skipped + 1) (record { mask = marks.mask / 2 ^ (skipped + 1); end = marks.end })
 rest_reported bytes at skipped marks h within =

@@ -17,7 +17,7 @@ pub number_plain : (bs : List ℕ) → is_number bs ≡ true → get_or bs 0 0 �
 number_plain [] h = grind arith
 number_plain (c ∷ cs) h = grind (arith, nat_tests)
 
--- and where it is digits, `0` stands first only alone
+-- and if it is digits, `0` is first only if it is alone
 number_no_zeros : (bs : List ℕ) → is_number bs ≡ true → list_all is_ascii_digit bs ≡ true → get_or bs 0 0 ≡ 48 → length bs ≡ 1
 number_no_zeros [] h d z = grind arith
 number_no_zeros (c ∷ cs) h d z = grind (arith, nat_tests)

@@ -20,7 +20,7 @@ part_plain bytes from count plain =
     (plain_parts (take count (drop from bytes)) (drop count (drop from bytes)) (rw take-append-drop rest.1)).0
 
 module _ (row : Row) (place : ℕ) (field : List ℕ) (plain : needs_quotes format row.bytes ≡ false) (within : place < length row.ends) (is : Some field ≡ field_at (fields_of row) place) where
-  -- a field stands in the text as it is
+  -- a field is in the text as it is
   field_plain : field_text format field ≡ field
   field_plain =
       let cut = field-cut 0 row.ends row.bytes place within in
@@ -28,7 +28,7 @@ module _ (row : Row) (place : ℕ) (field : List ℕ) (plain : needs_quotes form
       let none : needs_quotes format field ≡ false = rw part (part_plain row.bytes _ _ plain) in
       rw none refl
 
-  -- the text up to one more field, before which a comma stands unless it is the first
+  -- the text up to one more field, preceded by a comma unless it is the first
   pub one_more : row_body format (take (place + 1) (fields_of row)) ≡ row_body format (take place (fields_of row)) ++ (next_sep format place ++ field)
   one_more =
       let fields = fields_of row in

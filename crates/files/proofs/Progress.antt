@@ -1,4 +1,4 @@
--- How a reader goes on through its text.
+-- How a reader proceeds through its text.
 use Rattle.std.proofs.Common.{◌≡◌, ℕ, Bool, true, false, List, [], ◌∷◌, ◌++◌, drop, Option, Some, None, refl, sym, subst, ◌∙◌}
 use Rattle.std.specs.Io.KnownBytes.{Keeps, prepend_known}
 use Rattle.csv.specs.Machine.{Read, next_record}
@@ -53,7 +53,7 @@ next_none remaining before r fields begun none empty reads = record {
   is_kept = λ some. cc some;
 }
 
--- what is read of a text is read of one that is kept, or that goes on as it does
+-- what is read of a text is also read of one that is kept, or that continues in the same way
 pub next_kept : {R : Type 0} (remaining : R → Option (List ℕ)) (before mid : Option (List ℕ)) (found : Bool) (r : Records R) → Keeps before mid
     → IsNext remaining mid found r → IsNext remaining before found r
 next_kept remaining before mid found r keeps next = record {

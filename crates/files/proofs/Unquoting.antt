@@ -40,7 +40,7 @@ stepped_in st.InComment byte (inr acts) goes = absurd (acts (grind (arith, nat_t
 stepped_in st.AfterCr byte (inl never) goes = cc never
 stepped_in st.AfterCr byte (inr acts) goes = grind (arith, nat_tests, acts)
 
--- a record that was begun goes on, or ends
+-- a record that has begun continues or ends
 pub still_in_record : (s s2 : State) (a : Action) (byte : ℕ) → (s2, a) ≡ step default_config s byte → (is_in_record s ≡ true) ⊎ (a ≢ act.Skip) → is_end a ≡ false → is_in_record s2 ≡ true
 still_in_record s s2 a byte stepped h goes =
     let first : s2 ≡ (step default_config s byte).0 = ap (λ (q : State × Action). q.0) stepped in

@@ -2,7 +2,7 @@
 use Rattle.std.specs.Prelude.{ℕ, List, [], ◌∷◌, Bool, false}
 use Rattle.csv.specs.Reading.{is_bom}
 
--- whether the bytes begin with one
+-- whether the bytes begin with a byte order mark
 abbrev pub is_marked : List ℕ → Bool
 is_marked [] = false
 is_marked (first ∷ []) = false

@@ -13,26 +13,26 @@ use Rattle.files.specs.declared.source.First.TheVariants as first
 use Rattle.files.specs.declared.span.Span.{Span}
 use Rattle.files.specs.Span.{parts, record_size}
 
--- the first byte of a record, which ends no line, stands first
+-- the bytes begin with the first byte of a record, which is not a line end
 abbrev pub BeginsRecord : List ℕ → Type 0
 BeginsRecord [] = ⊥
 BeginsRecord (byte ∷ bytes) = (byte ≢ 10) × (byte ≢ 13)
 
--- what stands first among bytes
+-- the kind of the first byte
 abbrev pub IsFirst : List ℕ → First → Type 0
 IsFirst [] kind = kind ≡ first.None
 IsFirst (byte ∷ bytes) first.LineEnd = (byte ≡ 10) ⊎ (byte ≡ 13)
 IsFirst (byte ∷ bytes) first.OfRecord = BeginsRecord (byte ∷ bytes)
 IsFirst (byte ∷ bytes) first.None = ⊥
 
--- what a byte of a line is
+-- the kind of a byte of a line
 abbrev pub IsMark : ℕ → Mark → Type 0
 IsMark byte mark.Plain = (byte ≢ 44) × (byte ≢ 34) × (byte ≢ 10) × (byte ≢ 13)
 IsMark byte mark.Comma = byte ≡ 44
 IsMark byte mark.LineEnd = (byte ≡ 10) ⊎ (byte ≡ 13)
 IsMark byte mark.Quote = byte ≡ 34
 
--- whether a record was begun and has not ended
+-- whether a record has begun and has not ended
 abbrev pub is_in_record : State → Bool
 is_in_record state.StartRecord = false
 is_in_record state.AfterCr = false
@@ -43,11 +43,11 @@ is_in_record state.AfterQuote = true
 is_in_record state.InEscape = false
 is_in_record state.InComment = false
 
--- a state in which a record begins as at the start of a text
+-- from this state, the next record is read as at the start of a text
 abbrev pub IsBetween : State → Type 0
 IsBetween s = (text : List ℕ) → next_record default_config s [] [] text ≡ next_record default_config state.StartRecord [] [] text
 
--- the first so many bytes are a whole record with its end, and these are its fields
+-- the first count bytes are a whole record with its end, and these are its fields
 pub record IsWhole (bytes : List ℕ) (spans : List Span) (count : ℕ) : Type 0 where
   pub after : State
   pub is_between : IsBetween after
@@ -55,7 +55,7 @@ pub record IsWhole (bytes : List ℕ) (spans : List Span) (count : ℕ) : Type 0
   pub fed : Feeds default_config state.StartRecord [] [] (take count bytes) after (parts bytes spans) [] true
   pub size : record_size (parts bytes spans) ≡ count
 
--- the bytes are all of one record, which has these fields and one more, from that place on, as far as they go
+-- all bytes belong to one record; it has these fields and one more, which begins at from and has not ended
 pub record IsOpen (bytes : List ℕ) (spans : List Span) (from : ℕ) : Type 0 where
   pub after : State
   pub in_record : is_in_record after ≡ true

@@ -1,9 +1,9 @@
--- How whole numbers are spelt.
+-- The spelling of whole numbers.
 use Rattle.std.specs.Prelude.{ℕ, List, [], ◌∷◌, Bool, false, not, ◌&&◌, ◌==◌, length, if◌then◌else◌}
 use Rattle.std.specs.List.{list_all}
 use Rattle.std.specs.Char.{is_ascii_digit}
 
--- decimal digits, of which the first is not 0
+-- decimal digits, the first of which is not 0
 abbrev pub is_positive : List ℕ → Bool
 is_positive [] = false
 is_positive (first ∷ rest) = not (first == 48) && list_all is_ascii_digit (first ∷ rest)

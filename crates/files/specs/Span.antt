@@ -1,4 +1,4 @@
--- Fields, by their places among the bytes of a record.
+-- Fields, as spans of the bytes of a record.
 use Rattle.std.specs.Prelude.{ℕ, ◌+◌, List, take, drop, length, map, sum_by}
 use Rattle.files.specs.declared.span.Span.{Span}
 
@@ -10,6 +10,6 @@ part bytes span = drop span.from (take span.to bytes)
 abbrev pub parts : List ℕ → List Span → List (List ℕ)
 parts bytes spans = map (part bytes) spans
 
--- how many bytes a record has: those of its fields, and one for the end of each
+-- the number of bytes of a record: those of its fields, and one for the end of each
 abbrev pub record_size : List (List ℕ) → ℕ
 record_size fields = sum_by (λ field. length field + 1) fields

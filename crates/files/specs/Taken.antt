@@ -1,4 +1,4 @@
--- What is known of a record while its fields are taken.
+-- The state of a record while its fields are taken.
 use Rattle.std.specs.Prelude.{◌≡◌, ℕ, List, ◌∷◌, ◌++◌, drop, Option, Some, None}
 use Rattle.files.specs.Span.{parts}
 use Rattle.files.specs.declared.fault.FaultKind.{FaultKind}
@@ -13,26 +13,26 @@ fields_left f = drop f.place (parts f.bytes.now f.spans.now)
 abbrev pub fault_of : Fields → Option FaultKind
 fault_of f = f.fault
 
--- the least fault, where one more is noted
+-- the least fault after one more is noted
 abbrev pub with_fault : Option FaultKind → FaultKind → FaultKind
 with_fault None kind = kind
 with_fault (Some fault) kind = least_fault fault kind
 
--- where no fault is known afterwards, none was known before, and this field was taken
+-- if there is no fault afterwards, there was none before, and this field was taken
 abbrev pub TakesWell : Fields → Fields → List ℕ → Type 0
 TakesWell old new field = fault_of new ≡ None → (fault_of old ≡ None) × (fields_left old ≡ field ∷ fields_left new)
 
--- the same of several fields
+-- the same for several fields
 abbrev pub TakesAll : Fields → Fields → List (List ℕ) → Type 0
 TakesAll old new taken = fault_of new ≡ None → (fault_of old ≡ None) × (fields_left old ≡ taken ++ fields_left new)
 
--- no fault was known before, and texts were taken of which this is said
+-- there was no fault before, and fields with this property were taken
 pub record Took (old new : Fields) (AreSaid : List (List ℕ) → Type 0) : Type 0 where
   pub faultless : fault_of old ≡ None
   pub texts : List (List ℕ)
   pub are_said : AreSaid texts
   pub left : fields_left old ≡ texts ++ fields_left new
 
--- the same, where no fault is known afterwards
+-- the same, if there is no fault afterwards
 abbrev pub Takes : Fields → Fields → (List (List ℕ) → Type 0) → Type 0
 Takes old new AreSaid = fault_of new ≡ None → Took old new AreSaid

@@ -1,4 +1,4 @@
--- A record with quotation marks, as far as it was read.
+-- A record with quotation marks, as far as it has been read.
 use Rattle.std.specs.Prelude.{◌≡◌, ◌≤◌, ◌<◌, true, ◌+◌, ℕ, List, drop, length}
 use Rattle.std.specs.List.{AllByRecursion}
 use Rattle.csv.specs.declared.parser.State.{State as MachineState}
@@ -23,7 +23,7 @@ machine_state state.InField = machine.InField
 machine_state state.InQuoted = machine.InQuoted
 machine_state state.AfterQuote = machine.AfterQuote
 
--- what a byte does in that machine
+-- the action of a byte in that machine
 abbrev pub machine_action : Action → MachineAction
 machine_action action.Skip = act.Skip
 machine_action action.Copy = act.Copy
@@ -34,21 +34,21 @@ machine_action action.EndRecord = act.EndRecord
 abbrev pub fields_ended : Unquoted → List Span → List (List ℕ)
 fields_ended u spans = parts u.bytes.items spans
 
--- the bytes of the field in flight
+-- the bytes of the current field
 abbrev pub field_begun : Unquoted → List ℕ
 field_begun u = drop u.from u.bytes.items
 
--- how many bytes the record has so far, with one for the end of each field
+-- the number of bytes of the record so far, with one for the end of each field
 abbrev pub size_so_far : Unquoted → List Span → ℕ
 size_so_far u spans = length u.bytes.items + length spans
 
--- the fields are among the bytes, one after the other, and the next one begins there
+-- the fields are in the bytes, one after the other, and the next one begins at from
 pub record FieldsInTurn (s : MachineState) (bytes : List ℕ) (from : ℕ) (spans : List Span) : Type 0 where
   pub ended : AllByRecursion (λ span. span.to ≤ length bytes) spans
   pub begun : from ≤ length bytes
   pub size : record_size (parts bytes spans) ≡ from + length spans
   pub in_record : 0 < length bytes + length spans → is_in_record s ≡ true
 
--- the same of a record that is read
+-- the same for a record that is being read
 abbrev pub IsInTurn : Unquoted → List Span → Type 0
 IsInTurn u spans = FieldsInTurn (machine_state u.state) u.bytes.items u.from spans

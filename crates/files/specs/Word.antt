@@ -1,4 +1,4 @@
--- What is read of a text.
+-- How texts are read.
 use Rattle.std.specs.Prelude.{ℕ, List, length, nat_le, codes, Result, Ok, Err, if◌then◌else◌}
 use Rattle.std.specs.List.{list_all}
 use Rattle.rows.specs.declared.records.Credit.{Credit}
@@ -12,7 +12,7 @@ abbrev pub text_read : ℕ → List ℕ → Result (List ℕ) FaultKind
 text_read width bytes =
     if list_all is_printable_byte bytes then (if nat_le (length bytes) width then Ok bytes else Err OutOfRange) else Err NotOfKind
 
--- how C_CREDIT is spelt
+-- the spelling of C_CREDIT
 abbrev pub credit_text : Credit → List ℕ
 credit_text Good = codes "GC"
 credit_text Bad = codes "BC"

@@ -5,7 +5,8 @@ ghost use Rattle.files.specs.declared.fault.FileError.TheVariants.{NoMemory};
 use std::alloc::AllocError;
 use std::fmt;
 
-/// What can be wrong with the text of a file. Of several faults of one record the least is given, in this order.
+/// A kind of fault in the text of a file. If a record has several faults, the least is reported, in
+/// this order.
 #[derive(Clone, Copy, Debug, PartialEq, Eq)]
 pub enum FaultKind {
     /// The header record is missing or not of this format.
@@ -16,20 +17,21 @@ pub enum FaultKind {
     NotOfKind,
     /// A value is out of its column's range.
     OutOfRange,
-    /// A record is out of order, or a key stands twice.
+    /// A record is out of order, or a key occurs twice.
     OutOfOrder,
-    /// A rule of the scale is broken: a row missing or too many, or a reference to no row.
+    /// A rule of the scale is broken: a table has a row too few or too many, or a row refers to a row
+    /// that does not exist.
     ScaleBroken,
     /// The end record is missing.
     NoEnd,
     /// A count in the end record is wrong.
     WrongCount,
-    /// A record comes after the end record.
+    /// A record follows the end record.
     AfterEnd,
 }
 
 impl FaultKind {
-    /// The number by which the program names the fault, from 1 to 9.
+    /// The number by which the program reports the fault, from 1 to 9.
     pub fn number(self) -> u8
         ensures { result ≡ fault_number self }
     {
@@ -46,7 +48,7 @@ impl FaultKind {
         }
     }
 
-    /// The lesser of two faults of one record, which is the one given.
+    /// The lesser of two faults of one record, which is the one reported.
     pub fn least(self, other: FaultKind) -> FaultKind
         ensures { result ≡ least_fault self other }
     {
@@ -58,7 +60,7 @@ impl FaultKind {
     }
 }
 
-/// A fault of a file's text, and the record where it was found.
+/// A fault of a file's text, and the record that has it.
 #[derive(Clone, Copy, Debug, PartialEq, Eq)]
 pub struct FileFault {
     pub kind: FaultKind,
@@ -79,12 +81,12 @@ impl fmt::Display for FileFault {
     }
 }
 
-/// Why a file was not read, or not written to its end.
+/// Why a file was not read, or was not written to its end.
 #[derive(Clone, Copy, Debug, PartialEq, Eq)]
 pub enum FileError {
-    /// There was no memory for what the file holds, or for a record.
+    /// An allocation for the file's contents or for a record failed.
     NoMemory,
-    /// Reading or writing failed, at the record of that number, from 1.
+    /// Reading or writing failed at the record with this number, from 1.
     Failed(u64),
     /// The file's text has a fault.
     File(FileFault),

@@ -13,15 +13,15 @@ use amounts::{Cents, Rate};
 use rows::{Credit, Moment, Ranged, Text};
 use std::str::from_utf8;
 
-/// The fields of one record, taken from left to right. A field that is faulty gives some value of its
-/// column in its place, and the least fault so far is kept: so a record is taken whole, and then asked
-/// for its fault.
+/// The fields of one record, taken from left to right. A faulty field yields a stand-in value of its
+/// column, and the least fault so far is kept. So all fields of a record are taken first, and its fault
+/// is checked afterwards.
 #[derive(Drop)]
 pub struct Fields<'r> {
     bytes: &'r [u8],
-    // Where each field is among the bytes.
+    // The span of each field in the bytes.
     spans: &'r [Span],
-    // The place of the next field.
+    // The index of the next field.
     place: usize,
     fault: Option<FaultKind>,
 }
@@ -31,7 +31,7 @@ impl<'r> Fields<'r> {
     ghost use Rattle.files.specs.KindsRead.{count_read, credit_read, moment_read, money_read, optional_read, word_read};
     ghost use Rattle.files.specs.Taken.{fields_left, fault_of, with_fault, TakesWell};
 
-    /// All fields of the record, none taken and without a fault.
+    /// All fields of the record. None is taken yet, and there is no fault.
     pub(crate) fn new(bytes: &'r [u8], spans: &'r [Span]) -> Self
         ensures left { fields_left result ≡ parts bytes.now spans.now }
         ensures fault { fault_of result ≡ None }
@@ -44,19 +44,19 @@ impl<'r> Fields<'r> {
         }
     }
 
-    /// How many fields the record has.
+    /// The number of fields of the record.
     pub fn count(&self) -> usize {
         self.spans.len()
     }
 
-    /// How many fields are left.
+    /// The number of fields that are left.
     pub fn left(&self) -> usize
         ensures { result ≡ length (fields_left self.now) }
     {
         self.spans.len().saturating_sub(self.place)
     }
 
-    /// Whether the next field is there and is empty.
+    /// Whether there is a next field and it is empty.
     pub fn next_is_empty(&self) -> bool
         ensures { IsTrue result ↔ ((rest : List (List ℕ)) × (fields_left self.now ≡ [] ∷ rest)) }
     {
@@ -73,7 +73,7 @@ impl<'r> Fields<'r> {
         self.fault
     }
 
-    /// Keeps the fault, unless a lesser one is kept.
+    /// Notes the fault, unless a lesser one is noted already.
     pub fn note(&mut self, kind: FaultKind)
         ensures fault { fault_of self.new ≡ Some (with_fault (fault_of self.old) kind) }
         ensures left { fields_left self.new ≡ fields_left self.old }
@@ -84,8 +84,8 @@ impl<'r> Fields<'r> {
         };
     }
 
-    /// The least fault of the record, all of whose fields should be taken: `WrongShape` where some are
-    /// left.
+    /// The least fault of the record. All its fields should be taken before; if some are left,
+    /// `WrongShape` is noted.
     pub fn finish(&mut self) -> Option<FaultKind>
         ensures well { result ≡ None → (fields_left self.old ≡ []) × (fault_of self.old ≡ None) }
         ensures fault { result ≡ fault_of self.new }
@@ -98,7 +98,7 @@ impl<'r> Fields<'r> {
         self.fault
     }
 
-    // The next field, which is not taken, if there is one.
+    // The next field, without taking it, or `None` if there is none.
     fn peek(&self) -> Option<&'r [u8]>
         ensures some { IfSome result (λ bytes. fields_left self.now ≡ bytes.now ∷ drop 1 (fields_left self.now)) }
         ensures none { IfNone result (fields_left self.now ≡ []) }
@@ -109,7 +109,8 @@ impl<'r> Fields<'r> {
         }
     }
 
-    /// The bytes of the next field; none where there is none, which is noted as `WrongShape`.
+    /// Takes the next field and returns its bytes. If there is no field, returns no bytes and notes
+    /// `WrongShape`.
     pub fn bytes(&mut self) -> &'r [u8]
         ensures left { fields_left self.new ≡ drop 1 (fields_left self.old) }
         ensures none { fields_left self.old ≡ [] → (result.now ≡ []) × (fault_of self.new ≡ Some (with_fault (fault_of self.old) FaultKind.WrongShape)) }
@@ -128,8 +129,8 @@ impl<'r> Fields<'r> {
         }
     }
 
-    /// The next field as it stands. `""` where there is none, which is noted as `WrongShape`, and where
-    /// its bytes are no text at all, noted as `NotOfKind`.
+    /// Takes the next field as text. Returns `""` if there is no field, which is noted as `WrongShape`,
+    /// or if its bytes are not UTF-8, which is noted as `NotOfKind`.
     pub fn word(&mut self) -> &'r str
         ensures field { (result.now, fields_view self.new) ≡ field_read word_read [] (fields_view self.old) }
         ensures taken { TakesWell self.old self.new result.now }
@@ -144,7 +145,7 @@ impl<'r> Fields<'r> {
         }
     }
 
-    /// The next field as a number from `low` to `high`; `low` after a fault.
+    /// Takes the next field as a number from `low` to `high`. Returns `low` after a fault.
     #[inline(always)]
     pub fn whole(&mut self, low: u32, high: u32) -> u32
         ensures range { low ≤ high → (low ≤ result) × (result ≤ high) }
@@ -160,7 +161,7 @@ impl<'r> Fields<'r> {
         }
     }
 
-    /// The next field as a number of its column's range.
+    /// Takes the next field as a number in its column's range. Returns `LOW` after a fault.
     pub fn ranged<const LOW: u32, const HIGH: u32>(&mut self) -> Ranged<LOW, HIGH>
         requires { LOW ≤ HIGH }
         ensures field { (result, fields_view self.new) ≡ field_read (whole_read LOW HIGH) LOW (fields_view self.old) }
@@ -170,7 +171,7 @@ impl<'r> Fields<'r> {
         self.or_note(number, Ranged::new(LOW))
     }
 
-    /// The same, and `None` where the field is empty.
+    /// As `ranged`, but returns `None` if the field is empty or after a fault.
     pub fn optional_ranged<const LOW: u32, const HIGH: u32>(&mut self) -> Option<Ranged<LOW, HIGH>>
         ensures field { (result, fields_view self.new) ≡ field_read (optional_read (whole_read LOW HIGH)) None (fields_view self.old) }
         ensures taken { MatchOption result (TakesWell self.old self.new []) (λ number. TakesWell self.old self.new (decimal number)) }
@@ -179,7 +180,7 @@ impl<'r> Fields<'r> {
         self.or_note(number, None)
     }
 
-    /// The next field as a text; the empty one after a fault.
+    /// Takes the next field as a text. Returns the empty text after a fault.
     #[inline(always)]
     pub fn text<const WIDTH: usize>(&mut self) -> Text<WIDTH>
         ensures field { (result, fields_view self.new) ≡ field_read (text_read WIDTH) [] (fields_view self.old) }
@@ -189,7 +190,7 @@ impl<'r> Fields<'r> {
         self.or_note(text, Text::new())
     }
 
-    /// The next field as money; 0 after a fault.
+    /// Takes the next field as money. Returns 0 after a fault.
     pub fn cents(&mut self) -> Cents
         ensures field { (result, fields_view self.new) ≡ field_read money_read (pos 0) (fields_view self.old) }
         ensures taken { TakesWell self.old self.new (signed_decimal result) }
@@ -198,7 +199,7 @@ impl<'r> Fields<'r> {
         self.or_note(cents, Cents::ZERO)
     }
 
-    /// The next field as a rate; 0 after a fault.
+    /// Takes the next field as a rate. Returns 0 after a fault.
     pub fn rate(&mut self) -> Rate
         ensures field { (result, fields_view self.new) ≡ field_read (whole_read 0 9999) 0 (fields_view self.old) }
         ensures taken { TakesWell self.old self.new (decimal result) }
@@ -207,7 +208,7 @@ impl<'r> Fields<'r> {
         self.or_note(rate, Rate::new(0))
     }
 
-    /// The next field as C_CREDIT; good after a fault.
+    /// Takes the next field as C_CREDIT. Returns `Good` after a fault.
     pub fn credit(&mut self) -> Credit
         ensures field { (result, fields_view self.new) ≡ field_read credit_read Credit.Good (fields_view self.old) }
         ensures taken { TakesWell self.old self.new (credit_text result) }
@@ -216,7 +217,7 @@ impl<'r> Fields<'r> {
         self.or_note(credit, Credit::Good)
     }
 
-    /// The next field as a moment; the first one after a fault.
+    /// Takes the next field as a moment. Returns the first moment, 1970-01-01T00:00:00, after a fault.
     pub fn moment(&mut self) -> Moment
         ensures field { (result, fields_view self.new) ≡ field_read moment_read 0 (fields_view self.old) }
         ensures taken { fault_of self.new ≡ None → (fault_of self.old ≡ None) × ((text : List ℕ) × IsMomentText text result × (fields_left self.old ≡ text ∷ fields_left self.new)) }
@@ -225,7 +226,7 @@ impl<'r> Fields<'r> {
         self.or_note(moment, Moment::new(0))
     }
 
-    /// The same, and `None` where the field is empty.
+    /// As `moment`, but returns `None` if the field is empty or after a fault.
     pub fn optional_moment(&mut self) -> Option<Moment>
         ensures field { (result, fields_view self.new) ≡ field_read (optional_read moment_read) None (fields_view self.old) }
         ensures null { IfNone result (TakesWell self.old self.new []) }
@@ -235,7 +236,7 @@ impl<'r> Fields<'r> {
         self.or_note(moment, None)
     }
 
-    /// Notes `WrongCount` where the next field is another number than `count`.
+    /// Takes the next field as a number. Notes `WrongCount` if it is a number other than `count`.
     pub fn expect_count(&mut self, count: u64)
         ensures field { fields_view self.new ≡ (field_read (count_read count) count (fields_view self.old)).1 }
         ensures taken { TakesWell self.old self.new (decimal count) }
@@ -244,7 +245,7 @@ impl<'r> Fields<'r> {
         let _ = self.or_note(counted, count);
     }
 
-    // The value that was parsed; `other` where none was, and the fault is noted.
+    // The parsed value. If parsing failed, notes the fault and returns `other`.
     fn or_note<T: Drop>(&mut self, parsed: Result<T, FaultKind>, other: T) -> T
         ensures left { fields_left self.new ≡ fields_left self.old }
         ensures ok { IfOk parsed (λ value. (result ≡ value) × (fault_of self.new ≡ fault_of self.old)) }

@@ -5,16 +5,16 @@ ghost use Rattle.std.specs.Io.KnownBytes.{ReadConsumes};
 use std::io;
 use std::io::Read;
 
-/// What the text of a file is read from. It reads as `Read` does, and contracts can know of it that no read
-/// of it fails.
+/// A source of a file's text. It reads like `Read`, and contracts can state that no read of it fails.
 pub trait Input {
-    // The bytes that reads will give from here on, where they are known.
+    // The bytes that the reads from here on return, if they are known.
     ghost remaining: { Self → Option (List ℕ) };
 
     // No read fails from here on.
     ghost lasts: { Self → Type 0 };
 
-    /// Reads as many of the next bytes as come and have room; says how many, 0 at the end.
+    /// Reads the next bytes, as many as are available and fit into `buf`. Returns their number, 0 at
+    /// the end.
     fn read(&mut self, buf: &mut [u8]) -> io::Result<usize>
         ensures bound { ReadsAtMost result buf.new }
         ensures bytes { ReadConsumes (remaining self.old) (remaining self.new) result buf.new }
@@ -31,7 +31,7 @@ impl<R: Input> Input for &mut R {
     }
 }
 
-/// A text in memory: no read of it fails.
+/// A text in memory. No read of it fails.
 impl Input for &[u8] {
     ghost remaining = { λ text. Some text.now };
 
@@ -42,7 +42,7 @@ impl Input for &[u8] {
     }
 }
 
-/// Any reader, a read of which may fail.
+/// Any reader. A read of it may fail.
 #[derive(Drop)]
 pub struct Reader<R> {
     pub source: R,

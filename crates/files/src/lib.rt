@@ -1,5 +1,5 @@
-//! What all files of the program have in common: they are CSV without a header row, their records may
-//! have different lengths, and a fault names its kind and the number of its record.
+//! The common format of the program's files: CSV without a header row, with records of different
+//! lengths. A fault has a kind and the number of its record.
 #![tactic(auto)]
 
 mod fault;

@@ -5,19 +5,19 @@ use crate::marks::Marks;
 use crate::span::Span;
 use std::alloc::AllocError;
 
-/// How far a line goes.
+/// How far a line extends.
 #[derive(Clone, Copy, Debug, PartialEq, Eq)]
 pub enum Line {
-    /// Its end is the last of so many bytes.
+    /// The line, including its line end, has this many bytes.
     Ends(usize),
-    /// It has a quotation mark.
+    /// The line contains a quotation mark.
     Quoted,
-    /// It has no end among the bytes; its last field, so far, begins there.
+    /// The bytes do not contain the end of the line. Its last field so far begins at this index.
     Open(usize),
 }
 
-/// Finds the fields of the line that the bytes begin with, by its commas, up to its end or to a
-/// quotation mark.
+/// Finds the fields of the line at the front of the bytes, by its commas, up to its end or a quotation
+/// mark. Returns `AllocError` if an allocation fails.
 #[inline(always)]
 pub fn cut_line(bytes: &[u8], spans: &mut Vec<Span>) -> Result<Line, AllocError>
     requires { BeginsRecord bytes.now }
@@ -45,7 +45,7 @@ pub fn cut_line(bytes: &[u8], spans: &mut Vec<Span>) -> Result<Line, AllocError>
     Ok(Line::Open(from))
 }
 
-// What a byte of a line is.
+// The kind of a byte of a line.
 enum Mark {
     Plain,
     Comma,
@@ -53,7 +53,7 @@ enum Mark {
     Quote,
 }
 
-// Most marks are commas, which the first test finds, since no mark is above a comma.
+// Most marks are commas. The first test finds them, since no mark is greater than a comma.
 fn mark_of(byte: u8) -> Mark
     requires { byte ≤ 44 }
     ensures { IsMark byte result }
@@ -68,7 +68,7 @@ fn mark_of(byte: u8) -> Mark
     }
 }
 
-/// Adds the field from `from` up to `to`.
+/// Appends the field with the bytes from `from` up to `to`, exclusive.
 pub fn add(spans: &mut Vec<Span>, from: usize, to: usize) -> Result<(), AllocError>
     ensures { OnOk result (spans.new.items ≡ spans.old.items ++ (record { from = from; to = to } ∷ [])) }
 {

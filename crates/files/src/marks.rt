@@ -1,31 +1,31 @@
-//! Where the bytes of a line are that may be more than one of its field.
+//! Finds the bytes of a line that may be something other than part of a field.
 ghost use Rattle.std.specs.Prelude.{◌≡◌, ◌+◌, ◌≤◌, ℕ, List, length, MatchOption, IfSome};
 ghost use Rattle.files.specs.Marks.{ArePlain, IsNextMark, Reports};
 
 use std::simd::prelude::*;
 
-// How many bytes are looked at at once.
+// The number of bytes that are compared at once.
 const LANES: usize = 32;
 
-/// The marks among bytes, one after the other: those bytes that are at most a comma, as commas,
-/// quotation marks and ends of lines are.
+/// The marks among bytes, in order. A mark is a byte that is at most a comma; commas, quotation marks
+/// and line ends are marks.
 #[derive(Drop)]
 pub struct Marks {
-    // A bit for each byte up to `end`, that of the next byte lowest: whether it is a mark.
+    // One bit for each byte up to `end`, the lowest for the next byte: 1 if it is a mark.
     mask: u64,
     end: usize,
 }
 
 impl Marks {
-    /// Those of any bytes, before the first.
+    /// The marks of any bytes, before the first one.
     pub fn new() -> Marks
         ensures { (bytes : List ℕ) → Reports bytes 0 result }
     {
         Marks { mask: 0, end: 0 }
     }
 
-    /// The place of the next mark from `at` on, which is 0 at first, and then the place behind the
-    /// mark before.
+    /// The index of the next mark from `at` on, or `None` if there is none. `at` is 0 in the first
+    /// call, and then the index after the previous mark.
     pub fn next(&mut self, bytes: &[u8], at: usize) -> Option<usize>
         requires { Reports bytes.now at self.old }
         ensures next { MatchOption result (ArePlain bytes.now at (length bytes.now)) (IsNextMark bytes.now at) }
@@ -46,7 +46,7 @@ impl Marks {
         Some(place + skipped)
     }
 
-    // Those of the bytes from `at` on, as many as are looked at at once.
+    // The marks of the next `LANES` bytes from `at` on.
     fn of_lanes(bytes: &[u8], at: usize) -> Marks
         requires { at + 32 ≤ length bytes.now }
         ensures reports { Reports bytes.now at result }
@@ -62,8 +62,8 @@ impl Marks {
     }
 }
 
-// The place of the next mark from `at` on, byte by byte. Few bytes are left for it: it stays out of
-// the loops above, which are shorter for that.
+// The index of the next mark from `at` on, byte by byte. It is called for the few last bytes. It is a
+// separate function, which keeps the loops above short.
 #[cold]
 #[inline(never)]
 fn next_of_few(bytes: &[u8], at: usize) -> Option<usize>

@@ -15,8 +15,8 @@ use jiff_core::civil::{Date, Time};
 use rows::Moment;
 use std::str::from_utf8;
 
-/// The moment that the field spells: `YYYY-MM-DDTHH:MM:SS`, a date and time that exist, in the years
-/// 1970 to 9999, with seconds from 00 to 59. Any other spelling is `NotOfKind`.
+/// The moment that the field spells as `YYYY-MM-DDTHH:MM:SS`: an existing date and time in the years
+/// 1970 to 9999, with seconds from 00 to 59. Returns `NotOfKind` for any other spelling.
 pub fn parse_moment(field: &str) -> Result<Moment, FaultKind>
     ensures exact { result ≡ moment_read field.now }
     ensures spelt { IfOk result (λ seconds. (moment : Civil) × Spells moment field.now seconds) }
@@ -26,7 +26,7 @@ pub fn parse_moment(field: &str) -> Result<Moment, FaultKind>
     read_moment(field.as_bytes())
 }
 
-/// The same of the bytes of a field.
+/// As `parse_moment`, from the bytes of a field.
 pub(crate) fn read_moment(field: &[u8]) -> Result<Moment, FaultKind>
     ensures exact { result ≡ moment_read field.now }
     ensures faults { IfErr result (λ kind. kind ≡ FaultKind.NotOfKind) }
@@ -54,7 +54,7 @@ fn any_moment(field: &str) -> Result<Moment, FaultKind>
     seconds_of(moment)
 }
 
-/// The moment of a column that may be empty: null where the field is empty.
+/// The moment of a column that may be empty, or `None` if the field is empty.
 pub(crate) fn read_optional_moment(field: &[u8]) -> Result<Option<Moment>, FaultKind>
     ensures { result ≡ optional_read moment_read field.now }
 {
@@ -67,8 +67,8 @@ pub(crate) fn read_optional_moment(field: &[u8]) -> Result<Option<Moment>, Fault
     }
 }
 
-// The moment of a field of 19 bytes, which nearly all have: each byte is looked at once, and no text
-// is written. `None` says nothing of the field.
+// The moment of a field of 19 bytes. Nearly all fields have this length. Each byte is read once, and no
+// text is written. `None` implies nothing about the field.
 fn plain_moment(field: &[u8]) -> Option<Moment>
     ensures spelt { IfSome result (λ seconds. IsMomentText field.now seconds) }
     ensures high { IfSome result (λ seconds. seconds ≤ 253402300799) }
@@ -121,7 +121,8 @@ fn two_digits(tens: u8, ones: u8) -> Option<u64>
     Some(tens * 10 + ones)
 }
 
-// Whether the field is what is written for the moment, which has no fraction of a second.
+// Whether the field is the text that is written for the moment, and the moment has no fraction of a
+// second.
 fn is_spelt(field: &str, moment: DateTime) -> bool
     ensures { IsTrue result ↔ ((iso_datetime_text moment ≡ field.now) × (moment.time.subsec_nanosecond ≡ 0)) }
 {
@@ -129,7 +130,7 @@ fn is_spelt(field: &str, moment: DateTime) -> bool
     spelling.as_str() == field && moment.subsec_nanosecond() == 0
 }
 
-// The moment, which is known to be before the year 10000; `NotOfKind` before 1970.
+// The moment of a date and time, which is before the year 10000. Returns `NotOfKind` before 1970.
 fn seconds_of(moment: DateTime) -> Result<Moment, FaultKind>
     ensures exact { result ≡ moment_at (civil_seconds moment) }
     ensures reads { (seconds : ℕ) → (result ≡ Ok seconds) ↔ ((civil_seconds moment ≡ pos seconds) × (seconds ≤ 253402300799)) }
@@ -141,7 +142,7 @@ fn seconds_of(moment: DateTime) -> Result<Moment, FaultKind>
     }
 }
 
-/// The text that spells the moment, which `parse_moment` reads as the same moment.
+/// The text that spells the moment. `parse_moment` reads it as the same moment.
 pub fn moment_text(moment: Moment) -> ArrayString<32>
     ensures { IsMomentText result.bytes moment }
 {

@@ -8,12 +8,12 @@ use std::alloc::{AllocError, Global};
 use std::fmt::Display;
 use std::marker::Model;
 
-/// A record that is put together, one field after the other. It is cleared and used again for the
-/// next one, so that its memory is taken once. After lack of memory it has no field.
+/// A record that is built field by field. It is cleared and used again for the next record, so that its
+/// memory is allocated once. After a failed allocation it has no fields.
 #[derive(Drop)]
 pub struct NewRecord {
     row: ByteRecord,
-    // The words of a field that is printed, before they are added.
+    // The text of a field that is printed, before it is added.
     words: String,
 }
 
@@ -39,14 +39,15 @@ impl NewRecord {
         }
     }
 
-    /// Takes all fields away, and keeps their memory.
+    /// Removes all fields and keeps their memory.
     pub fn clear(&mut self)
         ensures { self.new ≡ [] }
     {
         self.row.clear();
     }
 
-    /// Adds a field of these words.
+    /// Appends a field with these words. Returns `AllocError` if an allocation fails; the record has no
+    /// fields then.
     pub fn push(&mut self, words: &str) -> Result<(), AllocError>
         ensures added { OnOk result (self.new ≡ self.old ++ (words.now ∷ [])) }
         ensures err { OnErr result (self.new ≡ []) }
@@ -58,7 +59,7 @@ impl NewRecord {
         Ok(())
     }
 
-    /// Adds a field that spells the number.
+    /// Appends a field that spells the number. Its error is that of `push`.
     pub fn push_number(&mut self, number: u64) -> Result<(), AllocError>
         ensures added { OnOk result (self.new ≡ self.old ++ (decimal number ∷ [])) }
         ensures err { OnErr result (self.new ≡ []) }
@@ -67,7 +68,8 @@ impl NewRecord {
         self.push(buffer.format(number))
     }
 
-    /// Adds a field that spells the number, with `-` before a negative one.
+    /// Appends a field that spells the number, with `-` before a negative one. Its error is that of
+    /// `push`.
     pub fn push_signed(&mut self, number: i64) -> Result<(), AllocError>
         ensures added { OnOk result (self.new ≡ self.old ++ (signed_decimal number ∷ [])) }
         ensures err { OnErr result (self.new ≡ []) }
@@ -76,7 +78,7 @@ impl NewRecord {
         self.push(buffer.format(number))
     }
 
-    /// Adds a field of what the value prints.
+    /// Appends a field with what the value prints. After an error, the record has no fields.
     pub fn push_display<D: Display>(&mut self, value: &D) -> Result<(), AllocError>
         ensures added { OnOk result (IfSome (D.output value.now) (λ words. self.new ≡ self.old ++ (words ∷ []))) }
         ensures err { OnErr result (self.new ≡ []) }
@@ -98,7 +100,7 @@ impl NewRecord {
         &self.row
     }
 
-    /// The same by value.
+    /// As `as_byte_record`, by value.
     pub fn into_byte_record(self) -> ByteRecord
         ensures { fields_of result ≡ self }
     {

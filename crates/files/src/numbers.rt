@@ -12,8 +12,9 @@ use amounts::{Cents, Rate};
 use rows::Ranged;
 use std::str::from_utf8;
 
-/// The number from `low` to `high` that the field spells: decimal digits without leading zeros.
-/// `NotOfKind` where the field spells no whole number at all, else `OutOfRange`.
+/// The number from `low` to `high` that the field spells, in decimal digits without leading zeros.
+/// Returns `NotOfKind` if the field spells no whole number, otherwise `OutOfRange` if the number is out
+/// of range.
 pub fn parse_whole(field: &str, low: u64, high: u64) -> Result<u64, FaultKind>
     ensures value { IfOk result (λ number. decimal number ≡ field.now) }
     ensures range { IfOk result (λ number. (low ≤ number) × (number ≤ high)) }
@@ -24,7 +25,7 @@ pub fn parse_whole(field: &str, low: u64, high: u64) -> Result<u64, FaultKind>
     read_whole(field.as_bytes(), low, high)
 }
 
-/// The same of the bytes of a field.
+/// As `parse_whole`, from the bytes of a field.
 pub(crate) fn read_whole(field: &[u8], low: u64, high: u64) -> Result<u64, FaultKind>
     ensures value { IfOk result (λ number. decimal number ≡ field.now) }
     ensures range { IfOk result (λ number. (low ≤ number) × (number ≤ high)) }
@@ -38,7 +39,7 @@ pub(crate) fn read_whole(field: &[u8], low: u64, high: u64) -> Result<u64, Fault
     }
 }
 
-// The number, where it is from `low` to `high`.
+// The number, or `OutOfRange` if it is not from `low` to `high`.
 fn within(number: u64, low: u64, high: u64) -> Result<u64, FaultKind>
     ensures range { IfOk result (λ same. (same ≡ number) × (low ≤ number) × (number ≤ high)) }
     ensures reads { low ≤ number → number ≤ high → result ≡ Ok number }
@@ -51,8 +52,8 @@ fn within(number: u64, low: u64, high: u64) -> Result<u64, FaultKind>
     }
 }
 
-// The number that the digits spell, which are looked at once; `None` where they spell none, and where
-// there are more than a `u64` has for sure.
+// The number that the digits spell. Each digit is read once. `None` if they spell no number, or if
+// there are more digits than are certain to fit in a `u64`.
 fn short_number(field: &[u8]) -> Option<u64>
     ensures { IfSome result (λ number. (decimal number ≡ field.now) × (number < 2 ^ 64)) }
 {
@@ -69,7 +70,7 @@ fn short_number(field: &[u8]) -> Option<u64>
     Some(number)
 }
 
-/// The value of a decimal digit; `None` where the byte is no digit.
+/// The value of a decimal digit, or `None` if the byte is not a digit.
 pub(crate) fn digit_of(byte: u8) -> Option<u64>
     ensures { IfSome result (λ digit. (digit < 10) × (byte ≡ 48 + digit)) }
 {
@@ -80,8 +81,8 @@ pub(crate) fn digit_of(byte: u8) -> Option<u64>
     }
 }
 
-// The number that a field of any length spells. It stands apart so that short numbers, which nearly all are,
-// are read without what only this needs.
+// The number that a field of any length spells. It is a separate function, so that short numbers, which
+// are nearly all, are read without the costs of this one.
 #[cold]
 #[inline(never)]
 fn read_any(field: &[u8], low: u64, high: u64) -> Result<u64, FaultKind>
@@ -133,7 +134,7 @@ pub(crate) fn read_rate(field: &[u8]) -> Result<Rate, FaultKind>
     }
 }
 
-/// The number that a column may be empty of: null where the field is empty, else that of `read_ranged`.
+/// The number of a column that may be empty: `None` if the field is empty, otherwise as `read_ranged`.
 pub(crate) fn read_optional<const LOW: u32, const HIGH: u32>(
     field: &[u8],
 ) -> Result<Option<Ranged<LOW, HIGH>>, FaultKind>
@@ -148,8 +149,8 @@ pub(crate) fn read_optional<const LOW: u32, const HIGH: u32>(
     }
 }
 
-/// The number that is expected: `WrongCount` where the field spells another one, and `NotOfKind` where
-/// it spells none.
+/// The expected number. Returns `WrongCount` if the field spells another number, and `NotOfKind` if it
+/// spells none.
 pub(crate) fn read_count(field: &[u8], count: u64) -> Result<u64, FaultKind>
     ensures { result ≡ count_read count field.now }
 {
@@ -160,8 +161,8 @@ pub(crate) fn read_count(field: &[u8], count: u64) -> Result<u64, FaultKind>
     }
 }
 
-/// The amount of money in whole cents, from -10^15 to 10^15, with `-` before a negative one. Its faults
-/// are those of `parse_whole`.
+/// The amount of money in whole cents, from -10^15 to 10^15. A negative amount begins with `-`. Its
+/// faults are those of `parse_whole`.
 pub fn parse_cents(field: &str) -> Result<Cents, FaultKind>
     ensures exact { result ≡ money_read field.now }
     ensures value { IfOk result (λ cents. signed_decimal cents ≡ field.now) }
@@ -172,7 +173,7 @@ pub fn parse_cents(field: &str) -> Result<Cents, FaultKind>
     read_cents(field.as_bytes())
 }
 
-/// The same of the bytes of a field.
+/// As `parse_cents`, from the bytes of a field.
 pub(crate) fn read_cents(field: &[u8]) -> Result<Cents, FaultKind>
     ensures exact { result ≡ money_read field.now }
     ensures not_of_kind { (result ≡ Err FaultKind.NotOfKind) ↔ (is_number field.now ≡ false) }
@@ -184,7 +185,7 @@ pub(crate) fn read_cents(field: &[u8]) -> Result<Cents, FaultKind>
     }
 }
 
-// The same of a field that is text.
+// As `read_cents`, from a field that is text.
 fn cents_of(field: &str) -> Result<Cents, FaultKind>
     ensures exact { result ≡ money_read field.now }
     ensures not_of_kind { (result ≡ Err FaultKind.NotOfKind) ↔ (is_number field.now ≡ false) }
@@ -202,7 +203,7 @@ fn cents_of(field: &str) -> Result<Cents, FaultKind>
     }
 }
 
-// Whether the bytes spell a whole number: `0`, a positive one, or `-` and a positive one.
+// Whether the bytes spell a whole number: `0`, a positive number, or `-` and a positive number.
 fn is_number(bytes: &[u8]) -> bool
     ensures { result ≡ is_number bytes.now }
 {
@@ -214,7 +215,7 @@ fn is_number(bytes: &[u8]) -> bool
     }
 }
 
-// Whether the bytes are decimal digits, of which the first is not 0.
+// Whether the bytes are decimal digits and the first is not 0.
 fn is_positive(digits: &[u8]) -> bool
     ensures { result ≡ is_positive digits.now }
 {

@@ -13,17 +13,17 @@ use std::io::Write;
 use std::marker::Model;
 use std::mem;
 
-// So many bytes are gathered, or a few more, before they are sent.
+// Gathered text is sent once it has at least this many bytes.
 const CHUNK: usize = 65_536;
 
 /// Gathers the text of records, each ended by one line feed, and sends it to a sink, many records at a
-/// time. What was written is in the sink for sure only after `finish`.
+/// time. Only after `finish` is all that was written certain to be in the sink.
 #[derive(Drop)]
 pub struct RecordWriter {
     alloc: Global,
-    // The text that was not sent yet.
+    // The text that has not been sent yet.
     text: Vec<u8>,
-    // How many records there are, with the one in flight.
+    // The number of records, including the current one.
     number: u64,
 }
 
@@ -36,7 +36,7 @@ impl Model for RecordWriter {
 }
 
 impl RecordWriter {
-    /// A writer of no records yet.
+    /// A writer that has no records yet.
     pub fn new(alloc: Global) -> Self
         ensures { result ≡ record { text = []; number = 0 } }
     {
@@ -47,9 +47,10 @@ impl RecordWriter {
         }
     }
 
-    /// Writes the record. A failure of the sink, also one that comes late since records are gathered
-    /// before they are sent, is `Failed` at this record. After an error the sink has got a beginning of what was
-    /// written, with this record, and the writer has nothing more to send.
+    /// Writes the record. Returns `NoMemory` if an allocation fails. Returns `Failed`, with the number
+    /// of this record, if the sink fails; since records are gathered before they are sent, the failure
+    /// may concern earlier records. After an error, the sink has received a prefix of the text written
+    /// so far, including this record, and the writer has nothing more to send.
     pub fn write<W: Write>(&mut self, sink: &mut W, row: &NewRecord) -> Result<(), FileError>
         ensures sent { OnOk result (Sends (W.contents sink.old) (W.contents sink.new) (self.old.text ++ record_text row.now) self.new.text) }
         ensures begun { OnErr result (Begins (W.contents sink.old) (W.contents sink.new) (self.old.text ++ record_text row.now)) }
@@ -66,8 +67,8 @@ impl RecordWriter {
         self.send_all(sink)
     }
 
-    /// Has the sink take all records. Its errors are those of `write`, at the last record; after one the sink
-    /// has got a beginning of what was written.
+    /// Sends all remaining text to the sink and flushes it. Its errors are those of `write`, with the
+    /// number of the last record. After an error, the sink has received a prefix of what was written.
     pub fn finish<W: Write>(mut self, sink: &mut W) -> Result<(), FileError>
         ensures sent { OnOk result (Sends (W.contents sink.old) (W.contents sink.new) self.text []) }
         ensures begun { OnErr result (Begins (W.contents sink.old) (W.contents sink.new) self.text) }
@@ -81,7 +82,7 @@ impl RecordWriter {
         }
     }
 
-    // Sends what was gathered.
+    // Sends the gathered text.
     fn send_all<W: Write>(&mut self, sink: &mut W) -> Result<(), FileError>
         ensures sent { OnOk result (Sends (W.contents sink.old) (W.contents sink.new) self.old.text self.new.text) }
         ensures none { self.new.text ≡ [] }
@@ -98,7 +99,7 @@ impl RecordWriter {
         }
     }
 
-    // Gathers the record. After lack of memory nothing is gathered any more.
+    // Gathers the record. After a failed allocation, nothing is gathered any more.
     fn add(&mut self, row: &ByteRecord) -> Result<(), AllocError>
         ensures added { OnOk result (self.new.text ≡ self.old.text ++ record_text (fields_of row.now)) }
         ensures none { OnErr result (self.new.text ≡ []) }
@@ -114,8 +115,8 @@ impl RecordWriter {
     }
 }
 
-// Whether a comma, a quotation mark or an end of a line is among the bytes: a field with one needs quotation
-// marks.
+// Whether the bytes contain a comma, a quotation mark or a line end. A field that contains one needs
+// quotation marks.
 fn needs_quotes(bytes: &[u8]) -> bool
     ensures { result ≡ needs_quotes format bytes.now }
 {
@@ -130,7 +131,7 @@ fn needs_quotes(bytes: &[u8]) -> bool
     false
 }
 
-// The text with a record behind it that has several fields, none of which needs quotation marks.
+// The text followed by a record that has several fields, none of which needs quotation marks.
 fn with_plain(mut text: Vec<u8>, row: &ByteRecord) -> Result<Vec<u8>, AllocError>
     requires several { 1 < length (fields_of row.now) }
     requires plain { needs_quotes format (text_of row.now) ≡ false }
@@ -148,8 +149,8 @@ fn with_plain(mut text: Vec<u8>, row: &ByteRecord) -> Result<Vec<u8>, AllocError
     Ok(text)
 }
 
-// The text with any record behind it. A writer of `csv` has 8 KiB in place, and a function in which one is made
-// clears them whenever it is called: so this is no part of `write`.
+// The text followed by any record. A writer of `csv` contains a buffer of 8 KiB, and a function that
+// makes one clears the buffer on every call. So this is not part of `write`.
 #[inline(never)]
 fn with_any(text: Vec<u8>, row: &ByteRecord) -> Result<Vec<u8>, AllocError>
     ensures { IfOk result (λ longer. longer.items ≡ text.items ++ record_text (fields_of row.now)) }

@@ -18,13 +18,14 @@ use crate::unquoted::{Fed, Unquoted};
 use crate::{FaultKind, Fields, FileError, FileFault};
 use std::alloc::Global;
 
-/// The records of a file, one after the other, with their numbers from 1. Blank lines and a byte order
-/// mark at the front are no records.
+/// The records of a file, in order, with their numbers from 1. Blank lines and a byte order mark at the
+/// front are not records.
 #[derive(Drop)]
 pub struct Records<R> {
     source: Source<R>,
-    // How many of the bytes at hand are those of the record in flight and its end. Its fields are among
-    // them, or among those of `unquoted` where it has quotation marks; then none are.
+    // How many of the bytes in memory belong to the current record and its line end. The fields of the
+    // record are among them. If the record has quotation marks, its fields are among the bytes of
+    // `unquoted`, and this number is 0.
     taken: usize,
     spans: Vec<Span>,
     unquoted: Unquoted,
@@ -35,7 +36,7 @@ pub struct Records<R> {
 impl<R: Input> Records<R> {
     ghost use Rattle.files.specs.Place.{input, record_number, record_fields, text_left, file_fault, IsCsv, HasRead, HasReadOn, HasLeft, HasLeftAfter, IsKept, IsNext, FirstIsTooLong, NextIsTooLong};
 
-    /// The records that `source` gives, before the first.
+    /// The records of `source`, before the first one.
     pub fn new(alloc: Global, source: R) -> Self
         ensures number { record_number result ≡ 0 }
         ensures input { input result ≡ source }
@@ -52,10 +53,11 @@ impl<R: Input> Records<R> {
         }
     }
 
-    /// Goes on to the next record, and says whether there is one. Where a read of the source fails, that is
-    /// `Failed` at the record in flight. A record of more than 65,536 bytes is the fault `WrongShape`, and is
-    /// not kept: its fields count with a byte for the end of each, and without the quotation marks around
-    /// them. After an error nothing is said of the records to come.
+    /// Reads the next record and returns whether there is one. Returns `Failed`, with the record's
+    /// number, if a read of the source fails. Returns the fault `WrongShape` if the record has more
+    /// than 65,536 bytes, and does not keep it; the size counts the fields without the quotation marks
+    /// around them, plus one byte for the end of each. Returns `NoMemory` if an allocation fails. After
+    /// an error, nothing is guaranteed about later records.
     pub fn advance(&mut self) -> Result<bool, FileError>
         ensures reads { IfOk result (λ found. (text : List ℕ) (rows : List (List (List ℕ))) → HasRead R.remaining text rows self.old → HasReadOn R.remaining text rows found self.new) }
         ensures reads_next { IfOk result (λ found. (rows : List (List (List ℕ))) → HasLeft R.remaining rows self.old → HasLeftAfter R.remaining rows found self.new) }
@@ -73,8 +75,8 @@ impl<R: Input> Records<R> {
         }
     }
 
-    /// Asks that no record is left: another one, whatever it holds, is the fault `AfterEnd`. The other
-    /// faults are those of `advance`.
+    /// Checks that no record is left. If there is one, returns the fault `AfterEnd`, whatever the
+    /// record contains. `NoMemory` and `Failed` are returned as by `advance`.
     pub fn expect_end(&mut self) -> Result<(), FileError>
         ensures reads { OnOk result ((text : List ℕ) (rows : List (List (List ℕ))) → HasRead R.remaining text rows self.old → IsCsv text rows) }
         ensures none_left { OnOk result ((rows : List (List (List ℕ))) → HasLeft R.remaining rows self.old → rows ≡ []) }
@@ -109,7 +111,7 @@ impl<R: Input> Records<R> {
         }
     }
 
-    // Takes the bytes of the record in flight.
+    // Takes the bytes of the current record.
     fn leave(&mut self)
         ensures left { text_left R.remaining self.new ≡ text_left R.remaining self.old }
         ensures none_taken { self.new.taken ≡ 0 }
@@ -121,7 +123,7 @@ impl<R: Input> Records<R> {
         self.taken = 0;
     }
 
-    // Finds the fields of the record whose first byte is at hand.
+    // Finds the fields of the record whose first byte is in memory.
     fn cut(&mut self) -> Result<bool, Stop>
         requires first { BeginsRecord (at_hand self.old.source) }
         requires none_taken { self.old.taken ≡ 0 }
@@ -149,7 +151,7 @@ impl<R: Input> Records<R> {
         Err(Stop::NoMemory)
     }
 
-    // Ends the last record, which has no line end; its last field begins there.
+    // Ends the last record, which has no line end. Its last field begins at `from`.
     fn cut_last(&mut self, from: usize) -> Result<bool, Stop>
         requires open { IsOpen (at_hand self.old.source) self.old.spans.items from }
         requires plain { self.old.is_quoted ≡ false }
@@ -169,7 +171,7 @@ impl<R: Input> Records<R> {
         Ok(true)
     }
 
-    // Takes the record whose first byte is at hand, byte by byte.
+    // Reads the record whose first byte is in memory, byte by byte.
     fn unquote(&mut self) -> Result<bool, Stop>
         requires none_taken { self.old.taken ≡ 0 }
         requires begun { is_begun self.old.source ≡ true }
@@ -197,7 +199,7 @@ impl<R: Input> Records<R> {
         Err(Stop::NoMemory)
     }
 
-    // Ends the last record, where it was begun.
+    // Ends the last record, if it has begun.
     fn unquote_last(&mut self) -> Result<bool, Stop>
         requires in_turn { IsInTurn self.old.unquoted self.old.spans.items }
         requires quoted { self.old.is_quoted ≡ true }
@@ -220,14 +222,14 @@ impl<R: Input> Records<R> {
         Ok(true)
     }
 
-    /// The number of the record in flight; after the last one, the number past it.
+    /// The number of the current record; after the last record, the number after it.
     pub fn number(&self) -> u64
         ensures { result ≡ record_number self.now }
     {
         self.number
     }
 
-    /// The fields of the record in flight.
+    /// The fields of the current record.
     pub fn fields(&self) -> Fields<'_>
         ensures left { fields_left result ≡ record_fields self.now }
         ensures fault { fault_of result ≡ None }
@@ -239,7 +241,7 @@ impl<R: Input> Records<R> {
         }
     }
 
-    /// The fault at the record in flight.
+    /// The fault of that kind at the current record.
     pub fn fault(&self, kind: FaultKind) -> FileError
         ensures { result ≡ file_fault kind (record_number self.now) }
     {

@@ -5,8 +5,8 @@ ghost use Rattle.files.specs.Sending.{Begins};
 use std::io;
 use std::io::{ErrorKind, Write};
 
-/// Sends the bytes to the sink. A write that is interrupted is tried again. After an error, which is the
-/// sink's, or `WriteZero` where it takes nothing, the sink has got a beginning of the bytes.
+/// Sends the bytes to the sink. An interrupted write is tried again. Returns the sink's error, or
+/// `WriteZero` if the sink takes no byte; the sink has received a prefix of the bytes then.
 pub fn send<W: Write>(sink: &mut W, bytes: &[u8]) -> io::Result<()>
     ensures sent { OnOk result (Appends (W.contents sink.old) (W.contents sink.new) bytes.now) }
     ensures begun { OnErr result (Begins (W.contents sink.old) (W.contents sink.new) bytes.now) }

@@ -11,19 +11,19 @@ use crate::input::Input;
 use crate::stop::{Stop, Unreadable};
 use crate::window::{MOST_BYTES, Window};
 
-/// The text of a file, from left to right. A byte order mark at its front is none of it.
+/// The text of a file, from left to right. A byte order mark at the front is not part of it.
 #[derive(Drop)]
 pub struct Source<R> {
     reader: R,
     window: Window,
-    // Whether a byte order mark was looked for.
+    // Whether a byte order mark has been looked for.
     is_begun: bool,
 }
 
 impl<R: Input> Source<R> {
     ghost use Rattle.files.specs.Source.{at_hand, ahead, unread, is_begun};
 
-    /// All text that `reader` gives.
+    /// All text that `reader` returns.
     pub fn new(reader: R) -> Self
         ensures unread { unread R.remaining result ≡ option_map strip_bom (R.remaining reader) }
         ensures reader { result.reader ≡ reader }
@@ -35,7 +35,7 @@ impl<R: Input> Source<R> {
         }
     }
 
-    /// The bytes of it that are in memory.
+    /// The bytes of the text that are in memory.
     pub fn at_hand(&self) -> &[u8]
         ensures value { result.now ≡ at_hand self.now }
         ensures fits { length result.now ≤ 65536 }
@@ -50,7 +50,7 @@ impl<R: Input> Source<R> {
         self.window.as_slice().len() == MOST_BYTES
     }
 
-    /// Takes the first so many bytes.
+    /// Takes the first `count` bytes.
     pub fn consume(&mut self, count: usize)
         requires { count ≤ length (at_hand self.old) }
         ensures left { at_hand self.new ≡ drop count (at_hand self.old) }
@@ -74,8 +74,8 @@ impl<R: Input> Source<R> {
         byte
     }
 
-    /// Brings more bytes into memory; says whether any came. None come at the end of the file, and where
-    /// there is no room.
+    /// Reads more bytes into memory and returns whether there were any. There are none at the end of
+    /// the file, or if there is no room.
     pub fn more(&mut self) -> Result<bool, Unreadable>
         ensures keeps { OnOk result (Keeps (ahead R.remaining self.old) (ahead R.remaining self.new)) }
         ensures grows { IfOk result (λ came. (bytes : List ℕ) × (at_hand self.new ≡ at_hand self.old ++ bytes) × (came ≡ true → 0 < length bytes)) }
@@ -90,7 +90,7 @@ impl<R: Input> Source<R> {
         }
     }
 
-    /// Leaves a byte order mark out, before anything is taken.
+    /// Skips a byte order mark. This happens once, before anything is taken.
     pub fn begin(&mut self) -> Result<(), Unreadable>
         ensures unread { OnOk result (Keeps (unread R.remaining self.old) (ahead R.remaining self.new)) }
         ensures begun { OnOk result (is_begun self.new ≡ true) }
@@ -107,8 +107,8 @@ impl<R: Input> Source<R> {
         Ok(())
     }
 
-    /// Takes the ends of lines up to the next record; says whether there is one, whose first byte is in
-    /// memory then. More line ends than can be counted are as lack of memory.
+    /// Takes line ends up to the next record. Returns whether there is a record; its first byte is in
+    /// memory then. Returns `NoMemory` if there are more line ends than can be counted.
     pub fn skip_line_ends(&mut self) -> Result<bool, Stop>
         ensures tracks { OnOk result (Tracks default_config state.StartRecord (ahead R.remaining self.old) state.StartRecord [] [] (ahead R.remaining self.new)) }
         ensures first { IfOk result (λ found. found ≡ true → BeginsRecord (at_hand self.new)) }
@@ -131,7 +131,7 @@ impl<R: Input> Source<R> {
         Err(Stop::NoMemory)
     }
 
-    // Brings three bytes into memory, where the file has as many.
+    // Reads until three bytes are in memory or the file ends.
     fn three_bytes(&mut self) -> Result<(), Unreadable>
         ensures keeps { OnOk result (Keeps (ahead R.remaining self.old) (ahead R.remaining self.new)) }
         ensures three { OnOk result (length (at_hand self.new) < 3 → IsAtEnd (R.remaining self.new.reader)) }
@@ -146,7 +146,7 @@ impl<R: Input> Source<R> {
     }
 }
 
-// Whether a byte order mark stands first.
+// Whether the bytes begin with a byte order mark.
 fn is_marked(bytes: &[u8]) -> bool
     ensures { result ≡ is_marked bytes.now }
 {
@@ -156,7 +156,7 @@ fn is_marked(bytes: &[u8]) -> bool
     }
 }
 
-// What stands first among bytes.
+// The kind of the first byte.
 enum First {
     LineEnd,
     OfRecord,

@@ -1,14 +1,14 @@
 ghost use Rattle.std.specs.Prelude.{◌≡◌};
 ghost use Rattle.files.specs.Span.{part};
 
-/// A field among the bytes of its record: those from `from` up to `to`.
+/// A field, as a range of the bytes of its record: from `from` up to `to`, exclusive.
 #[derive(Clone, Copy, Debug, PartialEq, Eq)]
 pub struct Span {
     pub from: usize,
     pub to: usize,
 }
 
-/// The bytes of the field; what would lie behind the last byte is left out.
+/// The bytes of the field. A span that extends past the last byte is cut there.
 pub fn part(bytes: &[u8], span: Span) -> &[u8]
     ensures { result.now ≡ part bytes.now span }
 {

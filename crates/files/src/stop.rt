@@ -1,6 +1,6 @@
 use std::alloc::AllocError;
 
-/// Why there are no more bytes of a file: reading failed.
+/// A read failed, so there are no more bytes of a file.
 #[derive(Clone, Copy, Debug, PartialEq, Eq)]
 pub struct Unreadable;
 

@@ -10,29 +10,29 @@ use crate::span::Span;
 use crate::window::MOST_BYTES;
 use std::alloc::{AllocError, Global};
 
-/// Where a record stands.
+/// The position within a record.
 #[derive(Clone, Copy, Debug, PartialEq, Eq)]
 pub enum State {
-    /// Before its first byte.
+    /// Before the record's first byte.
     StartRecord,
-    /// The same, after a carriage return.
+    /// Before the record's first byte, after a carriage return.
     AfterReturn,
     /// Before the first byte of a field.
     StartField,
     /// In a field without quotation marks around it.
     InField,
-    /// In a field after its quotation mark.
+    /// In a field, after its opening quotation mark.
     InQuoted,
-    /// After a quotation mark in such a field, which ends it or is the first of two.
+    /// After a quotation mark in a quoted field. It ends the field or is the first of two.
     AfterQuote,
 }
 
 /// What a byte does.
 #[derive(Clone, Copy, Debug, PartialEq, Eq)]
 pub enum Action {
-    /// It is no byte of the field.
+    /// It is not part of the field.
     Skip,
-    /// It is one of the field's bytes.
+    /// It is part of the field.
     Copy,
     /// It ends the field.
     EndField,
@@ -40,7 +40,7 @@ pub enum Action {
     EndRecord,
 }
 
-// Where the record stands after a byte, and what the byte does.
+// The state after a byte, and what the byte does.
 fn step(state: State, byte: u8) -> (State, Action)
     ensures { (machine_state result.0, machine_action result.1) ≡ Machine.step default_config (machine_state state) byte }
 {
@@ -56,7 +56,7 @@ fn step(state: State, byte: u8) -> (State, Action)
     }
 }
 
-// The step before the first byte of a record.
+// The step from before the first byte of a record.
 fn first_step(byte: u8) -> (State, Action)
     ensures { (machine_state result.0, machine_action result.1) ≡ Machine.start_record default_config byte }
 {
@@ -67,7 +67,7 @@ fn first_step(byte: u8) -> (State, Action)
     }
 }
 
-// The step in a field, or before its first byte, which is no quotation mark.
+// The step in a field, or before its first byte if that is not a quotation mark.
 fn field_step(byte: u8) -> (State, Action)
     ensures { (machine_state result.0, machine_action result.1) ≡ Machine.in_field default_config byte }
 {
@@ -79,30 +79,30 @@ fn field_step(byte: u8) -> (State, Action)
     }
 }
 
-/// A record whose quotation marks are taken away, as far as it was read. Where its fields are among the
-/// bytes is kept beside it.
+/// A record without its quotation marks, as far as it has been read. The spans of its fields are stored
+/// separately.
 #[derive(Drop)]
 pub struct Unquoted {
     pub state: State,
-    /// The bytes of its fields, one after the other.
+    /// The bytes of the fields, one field after the other.
     pub bytes: Vec<u8>,
-    /// Where the field in flight begins.
+    /// The index at which the current field begins.
     pub from: usize,
 }
 
-/// What came of a byte.
+/// The result of a byte.
 #[derive(Clone, Copy, Debug, PartialEq, Eq)]
 pub enum Fed {
-    /// The record goes on.
+    /// The record continues.
     GoesOn,
-    /// It has ended.
+    /// The record has ended.
     Ends,
-    /// The record has more bytes than it may have.
+    /// The record has more bytes than the limit.
     TooLong,
 }
 
 impl Unquoted {
-    /// No byte of a record.
+    /// No bytes of a record yet.
     pub fn new(alloc: Global) -> Self {
         Unquoted {
             state: State::StartRecord,
@@ -111,7 +111,7 @@ impl Unquoted {
         }
     }
 
-    /// Begins a record, in the same memory.
+    /// Begins a record and reuses the memory.
     pub fn restart(&mut self, spans: &mut Vec<Span>)
         ensures in_turn { IsInTurn self.new spans.new.items }
         ensures state { self.new.state ≡ State.StartRecord }
@@ -134,14 +134,14 @@ impl Unquoted {
         }
     }
 
-    /// Whether the record is known to have more bytes than it may have.
+    /// Whether the record exceeds the limit of 65,536 bytes once its current field ends.
     pub fn is_too_long(&self, spans: &Vec<Span>) -> bool
         ensures { IsTrue result ↔ (65536 ≤ size_so_far self.now spans.now.items) }
     {
         self.bytes.len().saturating_add(spans.len()) >= MOST_BYTES
     }
 
-    /// Takes the next byte.
+    /// Processes the next byte. Returns `AllocError` if an allocation fails.
     pub fn feed(&mut self, byte: u8, spans: &mut Vec<Span>) -> Result<Fed, AllocError>
         requires { IsInTurn self.old spans.old.items }
         ensures goes_on { result ≡ Ok Fed.GoesOn → IsInTurn self.new spans.new.items × Machine.Feeds default_config (machine_state self.old.state) (fields_ended self.old spans.old.items) (field_begun self.old) (byte ∷ [])
@@ -172,7 +172,7 @@ impl Unquoted {
         }
     }
 
-    /// Ends the field in flight.
+    /// Ends the current field.
     pub fn end_field(&mut self, spans: &mut Vec<Span>) -> Result<(), AllocError>
         ensures ended { OnOk result (spans.new.items ≡ spans.old.items ++ (record { from = self.old.from; to = length self.old.bytes.items } ∷ [])) }
         ensures same { OnOk result (self.new ≡ record self.old { from = length self.old.bytes.items }) }

@@ -4,10 +4,10 @@ ghost use Rattle.std.specs.Io.KnownBytes.{Keeps, Consumes, IsAtEnd};
 use crate::input::Input;
 use std::io;
 
-/// How many bytes of a file are in memory at a time, and the most that a record may have.
+/// The number of bytes of a file that are in memory at a time, and the greatest size of a record.
 pub const MOST_BYTES: usize = 65_536;
 
-/// Bytes of a file: those from `start` to `end` were read and not taken yet.
+/// Bytes of a file. Those from `start` to `end` have been read and not yet taken.
 #[derive(Drop)]
 pub struct Window {
     bytes: [u8; MOST_BYTES],
@@ -31,7 +31,7 @@ impl Window {
         }
     }
 
-    /// The bytes that were read and not taken yet.
+    /// The bytes that have been read and not yet taken.
     pub fn as_slice(&self) -> &[u8]
         ensures value { result.now ≡ items self.now }
         ensures fits { length result.now ≤ 65536 }
@@ -39,7 +39,7 @@ impl Window {
         &self.bytes[self.start..self.end]
     }
 
-    /// Takes the first so many bytes.
+    /// Takes the first `count` bytes.
     pub fn consume(&mut self, count: usize)
         requires { count ≤ length (items self.old) }
         ensures { items self.new ≡ drop count (items self.old) }
@@ -47,7 +47,7 @@ impl Window {
         self.start += count;
     }
 
-    /// Makes all room that there can be.
+    /// Moves the bytes to the front, so that all free room is after them.
     pub fn move_to_front(&mut self)
         ensures items { items self.new ≡ items self.old }
         ensures room { room self.new + length (items self.new) ≡ 65536 }
@@ -58,7 +58,7 @@ impl Window {
         self.end = end - start;
     }
 
-    /// Reads once, behind the bytes that are there, as many bytes as come and have room; says how many.
+    /// Reads once, into the free room after the bytes. Returns the number of bytes read.
     pub fn read_from<R: Input>(&mut self, reader: &mut R) -> io::Result<usize>
         ensures ok { IfOk result (λ n. (more : List ℕ) × (length more ≡ n) × (items self.new ≡ items self.old ++ more)
             × Consumes (R.remaining reader.old) (R.remaining reader.new) more) }

@@ -6,15 +6,15 @@ use crate::FaultKind;
 use rows::{Credit, Text, TextFault, is_printable};
 use std::str::from_utf8;
 
-/// The text of at most `WIDTH` bytes: `NotOfKind` where a byte is not printable ASCII (32 to 126), else
-/// `OutOfRange` where the field is too long.
+/// The field as a text of at most `WIDTH` bytes. Returns `NotOfKind` if a byte is not printable ASCII
+/// (32 to 126), otherwise `OutOfRange` if the field is too long.
 pub fn parse_text<const WIDTH: usize>(field: &str) -> Result<Text<WIDTH>, FaultKind>
     ensures { result ≡ text_read WIDTH field.now }
 {
     read_text(field.as_bytes())
 }
 
-/// The same of the bytes of a field.
+/// As `parse_text`, from the bytes of a field.
 pub(crate) fn read_text<const WIDTH: usize>(field: &[u8]) -> Result<Text<WIDTH>, FaultKind>
     ensures { result ≡ text_read WIDTH field.now }
 {
@@ -25,8 +25,8 @@ pub(crate) fn read_text<const WIDTH: usize>(field: &[u8]) -> Result<Text<WIDTH>,
     }
 }
 
-/// Good for `GC` and bad for `BC`: `NotOfKind` where a byte is not printable ASCII, and `OutOfRange`
-/// for other words.
+/// `Good` for `GC` and `Bad` for `BC`. Of other fields, returns `NotOfKind` if a byte is not printable
+/// ASCII, otherwise `OutOfRange`.
 pub fn parse_credit(field: &str) -> Result<Credit, FaultKind>
     ensures exact { result ≡ credit_read field.now }
     ensures good { (result ≡ Ok Credit.Good) ↔ (field.now ≡ codes "GC") }
@@ -46,7 +46,7 @@ pub fn parse_credit(field: &str) -> Result<Credit, FaultKind>
     }
 }
 
-/// The same of the bytes of a field.
+/// As `parse_credit`, from the bytes of a field.
 pub(crate) fn read_credit(field: &[u8]) -> Result<Credit, FaultKind>
     ensures { result ≡ credit_read field.now }
 {
@@ -56,7 +56,7 @@ pub(crate) fn read_credit(field: &[u8]) -> Result<Credit, FaultKind>
     }
 }
 
-/// How a credit is spelt: `GC` where it is good and `BC` where it is bad.
+/// The spelling of a credit: `GC` if it is good, `BC` if it is bad.
 pub fn credit_word(credit: Credit) -> &'static str
     ensures { result.now ≡ credit_text credit }
 {

@@ -8,7 +8,7 @@ elements : {X : Type 0} (xs : List X) (from : ℕ) (defaults : List X) → List 
 elements xs from [] = []
 elements xs from (d ∷ ds) = slice_index_or xs from d ∷ elements xs (suc from) ds
 
--- all of them are what stands there from that place on
+-- they are exactly the elements of the list from that place on
 elements_are_rest : {X : Type 0} (xs : List X) (from : ℕ) (defaults : List X) → from + length defaults ≡ length xs
     → elements xs from defaults ≡ drop from xs
 unfolding elements

@@ -1,4 +1,4 @@
--- How last names are made (clause 4.3.2.3).
+-- Last names (clause 4.3.2.3).
 use Rattle.std.specs.Prelude.{ℕ, ◌/◌, ◌%◌, List, ◌++◌, ◌==◌, if◌then◌else◌, codes}
 
 -- the syllable of a digit
@@ -14,6 +14,6 @@ syllable_of digit =
     (if digit == 7 then codes "CALLY" else
     (if digit == 8 then codes "ATION" else codes "EING"))))))))
 
--- the syllables of the hundreds, the tens and the units
+-- the syllables of the hundreds, the tens and the units digit
 abbrev pub last_name_of : ℕ → List ℕ
 last_name_of number = syllable_of (number / 100) ++ (syllable_of (number / 10 % 10) ++ syllable_of (number % 10))

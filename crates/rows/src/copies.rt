@@ -1,10 +1,10 @@
-//! Copies of rows, which take no memory: a row owns none.
+//! Copies of rows. A copy does not allocate: a row owns no memory outside itself.
 ghost use Rattle.std.specs.Prelude.{◌≡◌};
 
 use crate::{Address, Customer, District, Stock, Warehouse};
 
 impl Address {
-    /// An equal address.
+    /// Returns an equal address.
     pub fn copy(&self) -> Address
         ensures { result ≡ self.now }
     {
@@ -19,7 +19,7 @@ impl Address {
 }
 
 impl Warehouse {
-    /// An equal row.
+    /// Returns an equal row.
     pub fn copy(&self) -> Warehouse
         ensures { result ≡ self.now }
     {
@@ -33,7 +33,7 @@ impl Warehouse {
 }
 
 impl District {
-    /// An equal row.
+    /// Returns an equal row.
     pub fn copy(&self) -> District
         ensures { result ≡ self.now }
     {
@@ -48,7 +48,7 @@ impl District {
 }
 
 impl Stock {
-    /// An equal row.
+    /// Returns an equal row.
     pub fn copy(&self) -> Stock
         ensures { result ≡ self.now }
     {
@@ -76,7 +76,7 @@ impl Stock {
 }
 
 impl Customer {
-    /// An equal row.
+    /// Returns an equal row.
     pub fn copy(&self) -> Customer
         ensures { result ≡ self.now }
     {

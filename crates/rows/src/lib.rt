@@ -1,5 +1,5 @@
-//! The rows of the nine tables of an order-entry database, with the range of every column kept by
-//! its type, and the small rules on single rows. Clauses are those of TPC-C 5.11.
+//! The rows of the nine tables of an order-entry database, and the rules that concern a single row. The
+//! type of a column keeps its value in range. Clause numbers refer to TPC-C 5.11.
 #![tactic(auto)]
 
 mod copies;

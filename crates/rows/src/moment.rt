@@ -3,8 +3,8 @@ ghost use Rattle.rows.specs.Ranged.{in_range};
 
 use std::marker::Model;
 
-/// A date and time in whole seconds from 1970-01-01T00:00:00, from 0 to 253,402,300,799, which is
-/// the last second of the year 9999. It has no zone.
+/// A date and time as whole seconds since 1970-01-01T00:00:00, from 0 to 253,402,300,799, which is the
+/// last second of the year 9999. It has no time zone.
 #[derive(Clone, Copy, Debug, PartialEq, Eq, Hash, PartialOrd, Ord)]
 pub struct Moment {
     seconds: u64,
@@ -23,7 +23,8 @@ impl Model for Moment {
 }
 
 impl Moment {
-    /// The moment of that many seconds, which is known to be before the year 10000.
+    /// The moment `seconds` seconds after 1970-01-01T00:00:00. The caller ensures that it is before the
+    /// year 10000.
     pub fn new(seconds: u64) -> Self
         requires { seconds ≤ 253402300799 }
         ensures { result ≡ seconds }
@@ -31,7 +32,7 @@ impl Moment {
         Moment { seconds }
     }
 
-    /// The moment of that many seconds, or `None` past the year 9999.
+    /// The moment `seconds` seconds after 1970-01-01T00:00:00, or `None` if it is after the year 9999.
     pub fn checked_new(seconds: u64) -> Option<Self>
         ensures { result ≡ in_range 0 253402300799 seconds }
     {

@@ -5,8 +5,8 @@ ghost use Rattle.rows.specs.PaymentNote.{payment_note};
 use crate::{CustomerKey, DistrictKey, Text};
 use itoa::Buffer;
 
-/// C_DATA of a customer of bad credit after a payment of `amount` cents at `district`: a note of the
-/// payment is put at the left, and bytes past 500 fall off at the right (clause 2.5.2.2).
+/// C_DATA of a customer with bad credit after a payment of `amount` cents at `district`: a note of the
+/// payment is inserted at the left, and the result is cut to 500 bytes at the right (clause 2.5.2.2).
 pub fn prepend_data(
     old_data: &Text<500>,
     customer: CustomerKey,

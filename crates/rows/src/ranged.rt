@@ -3,21 +3,21 @@ ghost use Rattle.rows.specs.Ranged.{in_range};
 
 use std::marker::Model;
 
-/// A whole number from `LOW` to `HIGH`, both included.
+/// A whole number from `LOW` to `HIGH`, inclusive.
 #[derive(Clone, Copy, Debug, PartialEq, Eq, Hash, PartialOrd, Ord)]
 pub struct Ranged<const LOW: u32, const HIGH: u32> {
     number: u32,
 }
 
-/// A count that only grows, from 0 to 999,999,999: S_YTD, S_ORDER_CNT, S_REMOTE_CNT, C_PAYMENT_CNT,
+/// A counter from 0 to 999,999,999 that only grows: S_YTD, S_ORDER_CNT, S_REMOTE_CNT, C_PAYMENT_CNT,
 /// C_DELIVERY_CNT (clause 1.3.1).
 pub type Counter = Ranged<0, 999_999_999>;
 
-/// D_NEXT_O_ID: the number from 1 that the district's next order gets, or 10,000,000 where all are used
-/// (clause 1.3.1).
+/// D_NEXT_O_ID: the number, from 1, that the district's next order gets, or 10,000,000 if all numbers
+/// are used (clause 1.3.1).
 pub type NextOrderId = Ranged<1, 10_000_000>;
 
-/// S_QUANTITY: how many of an item a warehouse has, from 10 to 100 (clause 4.3.3.1).
+/// S_QUANTITY: the quantity of an item in a warehouse's stock, from 10 to 100 (clause 4.3.3.1).
 pub type StockQuantity = Ranged<10, 100>;
 
 /// I_PRICE, in cents, from 1 to 99,999 (clause 1.3.1).
@@ -26,13 +26,13 @@ pub type Price = Ranged<1, 99_999>;
 /// I_IM_ID: the number of the item's picture, from 1 to 10,000 (clause 4.3.3.1).
 pub type ImageId = Ranged<1, 10_000>;
 
-/// O_CARRIER_ID: who delivers, from 1 to 10 (clause 2.7.1.2).
+/// O_CARRIER_ID: the carrier who delivers the order, from 1 to 10 (clause 2.7.1.2).
 pub type CarrierId = Ranged<1, 10>;
 
-/// O_OL_CNT: how many lines an order has, from 1 to 15 (clause 1.3.1).
+/// O_OL_CNT: the number of lines of an order, from 1 to 15 (clause 1.3.1).
 pub type LineCount = Ranged<1, 15>;
 
-/// OL_QUANTITY: how many of an item a line orders, from 1 to 10 (clause 2.4.1.5).
+/// OL_QUANTITY: the quantity of an item that a line orders, from 1 to 10 (clause 2.4.1.5).
 pub type LineQuantity = Ranged<1, 10>;
 
 /// OL_AMOUNT, in cents, from 0 to 999,999 (clause 1.3.1).
@@ -51,7 +51,7 @@ impl<const LOW: u32, const HIGH: u32> Model for Ranged<LOW, HIGH> {
 }
 
 impl<const LOW: u32, const HIGH: u32> Ranged<LOW, HIGH> {
-    /// That number, which is known to be from `LOW` to `HIGH`.
+    /// `number` as a `Ranged`. The caller ensures that it is from `LOW` to `HIGH`.
     pub fn new(number: u32) -> Self
         requires low { LOW ≤ number }
         requires high { number ≤ HIGH }
@@ -60,7 +60,7 @@ impl<const LOW: u32, const HIGH: u32> Ranged<LOW, HIGH> {
         Ranged { number }
     }
 
-    /// The number, or `None` where it is out of range.
+    /// `number` as a `Ranged`, or `None` if it is out of range.
     pub fn checked_new(number: u32) -> Option<Self>
         ensures { result ≡ in_range LOW HIGH number }
     {
@@ -71,7 +71,7 @@ impl<const LOW: u32, const HIGH: u32> Ranged<LOW, HIGH> {
         }
     }
 
-    /// The number itself, from `LOW` to `HIGH`.
+    /// The number, from `LOW` to `HIGH`.
     pub fn get(self) -> u32
         ensures value { result ≡ self.entry }
         ensures low { LOW ≤ self.entry }
@@ -80,7 +80,7 @@ impl<const LOW: u32, const HIGH: u32> Ranged<LOW, HIGH> {
         self.number
     }
 
-    /// The sum, or `None` where it is out of range.
+    /// The sum, or `None` if it is out of range.
     pub fn checked_add(self, more: u32) -> Option<Self>
         ensures { result ≡ in_range LOW HIGH (self.entry + more) }
     {

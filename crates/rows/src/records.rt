@@ -46,7 +46,7 @@ pub struct District {
 #[derive(Clone, Debug, PartialEq, Eq, Drop)]
 pub struct Stock {
     pub quantity: StockQuantity,
-    /// S_DIST_01 to S_DIST_10; that of district d stands at d - 1.
+    /// S_DIST_01 to S_DIST_10; the text of district d is at index d - 1.
     pub dist: [Text<24>; 10],
     pub ytd: Counter,
     pub order_cnt: Counter,
@@ -80,10 +80,11 @@ pub struct Customer {
     pub data: Text<500>,
 }
 
-/// A row of HISTORY (clause 1.3.1), without the district (H_W_ID, H_D_ID) under whose list it stands.
+/// A row of HISTORY (clause 1.3.1), without the district (H_W_ID, H_D_ID), which is the key of the list
+/// that contains the row.
 #[derive(Clone, Debug, PartialEq, Eq, Drop)]
 pub struct History {
-    /// H_C_W_ID, H_C_D_ID and H_C_ID: who paid.
+    /// H_C_W_ID, H_C_D_ID and H_C_ID: the customer who paid.
     pub customer: CustomerKey,
     pub date: Moment,
     pub amount: Cents,
@@ -101,7 +102,7 @@ pub struct Order {
     pub all_local: bool,
 }
 
-/// A row of NEW-ORDER (clause 1.3.1), which is its key (NO_W_ID, NO_D_ID, NO_O_ID) alone.
+/// A row of NEW-ORDER (clause 1.3.1): it consists of its key (NO_W_ID, NO_D_ID, NO_O_ID) only.
 #[derive(Clone, Copy, Debug, PartialEq, Eq)]
 pub struct NewOrder;
 

@@ -5,8 +5,8 @@ ghost use Rattle.rows.specs.StockInfo.{dist_info_of};
 
 use crate::{LineQuantity, Stock, StockQuantity, Text};
 
-/// The stock of an item after `ordered` of it were taken: what is left where that is at least 10,
-/// and 91 more where it would be less (clause 2.4.2.2).
+/// The stock of an item after `ordered` units are taken: the quantity that is left if that is at least
+/// 10, otherwise 91 more than that (clause 2.4.2.2).
 pub fn restock(quantity: StockQuantity, ordered: LineQuantity) -> StockQuantity
     ensures { result ≡ restocked quantity ordered }
 {
@@ -19,12 +19,12 @@ pub fn restock(quantity: StockQuantity, ordered: LineQuantity) -> StockQuantity
     }
 }
 
-/// A law, proved and of no effect: what `restock` leaves is the one number that the rule allows.
+/// A law (proved, no effect at run time): `restock` returns the only number that the rule allows.
 pub fn restocked_is_the_one()
     ensures { RestockedIsTheOne }
 {}
 
-/// Whether the item of an order line is a brand item, `B`, or generic, `G` (clause 2.4.2.2).
+/// Whether the item of an order line is a brand item (`B`) or generic (`G`), clause 2.4.2.2.
 #[derive(Clone, Copy, Debug, PartialEq, Eq)]
 pub enum BrandGeneric {
     /// `B`
@@ -33,7 +33,7 @@ pub enum BrandGeneric {
     Generic,
 }
 
-/// `Brand` where I_DATA and S_DATA both contain `ORIGINAL`, else `Generic`.
+/// `Brand` if I_DATA and S_DATA both contain `ORIGINAL`, otherwise `Generic`.
 pub fn brand(i_data: &Text<50>, s_data: &Text<50>) -> BrandGeneric
     ensures { result ≡ brand_of i_data.now s_data.now }
 {
@@ -44,7 +44,8 @@ pub fn brand(i_data: &Text<50>, s_data: &Text<50>) -> BrandGeneric
     }
 }
 
-/// A law, proved and of no effect: the test that `brand` goes by is that the word stands in the text.
+/// A law (proved, no effect at run time): the test that `brand` uses is true exactly if the text
+/// contains the word.
 pub fn has_original_is_exact()
     ensures { HasOriginalIsExact }
 {}
@@ -56,7 +57,8 @@ fn is_original(text: &Text<50>) -> bool
 }
 
 impl Stock {
-    /// S_DIST_xx of the district, from 1 to 10: what a line of an order from there shows (clause 2.4.2.2).
+    /// S_DIST_xx of the district `d_id`, from 1 to 10. The lines of that district's orders contain it
+    /// (clause 2.4.2.2).
     pub fn dist_info(&self, d_id: u32) -> &Text<24>
         requires low { 1 ≤ d_id }
         requires high { d_id ≤ 10 }

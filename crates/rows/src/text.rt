@@ -9,20 +9,20 @@ use std::fmt;
 use std::marker::Model;
 use std::str::from_utf8_unchecked;
 
-/// Why words are no text of a column.
+/// Why a string is not a text of a column.
 #[derive(Clone, Copy, Debug, PartialEq, Eq)]
 pub enum TextFault {
-    /// A byte outside 32 to 126.
+    /// It contains a byte outside 32 to 126.
     Byte,
-    /// More bytes than the column is wide.
+    /// It is longer than the column is wide.
     Width,
 }
 
-/// A text of printable ASCII (bytes 32 to 126), of at most `WIDTH` bytes. It takes as many bytes as its
-/// column is wide, and no memory beyond itself.
+/// A text of printable ASCII (bytes 32 to 126), at most `WIDTH` bytes long. It occupies `WIDTH` bytes
+/// and allocates nothing.
 #[derive(Clone, Drop)]
 pub struct Text<const WIDTH: usize> {
-    // The text, and behind it zeros: no text has one.
+    // The text, padded with zeros. A text contains no zero.
     bytes: [u8; WIDTH],
 }
 
@@ -45,15 +45,15 @@ impl<const WIDTH: usize> Text<WIDTH> {
         Text { bytes: [0; WIDTH] }
     }
 
-    /// A copy of `words`; `Byte` where one is not printable ASCII, else `Width` where they are too
-    /// long.
+    /// A copy of `words`. Returns `Byte` if a byte is not printable ASCII; otherwise `Width` if there
+    /// are more than `WIDTH` bytes.
     pub fn parse(words: &str) -> Result<Self, TextFault>
         ensures { result ≡ text_of WIDTH words.now }
     {
         Text::from_bytes(words.as_bytes())
     }
 
-    /// The same of bytes.
+    /// As `parse`, from bytes.
     pub fn from_bytes(bytes: &[u8]) -> Result<Self, TextFault>
         ensures { result ≡ text_of WIDTH bytes.now }
     {
@@ -68,7 +68,7 @@ impl<const WIDTH: usize> Text<WIDTH> {
         Ok(text)
     }
 
-    /// The bytes of the text, which are ASCII.
+    /// The bytes of the text as a string; they are ASCII.
     pub fn as_str(&self) -> &str
         ensures bytes { result.now ≡ self.now }
         ensures is_text { IsText WIDTH self.now }
@@ -76,7 +76,7 @@ impl<const WIDTH: usize> Text<WIDTH> {
         ascii(&self.bytes[..self.len()])
     }
 
-    // How many bytes the text has.
+    // The length of the text in bytes.
     fn len(&self) -> usize
         ensures value { result ≡ length self.now }
         ensures fits { result ≤ WIDTH }
@@ -84,7 +84,7 @@ impl<const WIDTH: usize> Text<WIDTH> {
         memchr(0, &self.bytes).unwrap_or(WIDTH)
     }
 
-    // Adds printable bytes to the text, which has `end` of them; there is room for more.
+    // Appends printable bytes to the text, which is `end` bytes long. The caller ensures that they fit.
     fn write(&mut self, end: usize, more: &[u8])
         requires end { end ≡ length self.old }
         requires room { end + length more.now ≤ WIDTH }
@@ -97,7 +97,8 @@ impl<const WIDTH: usize> Text<WIDTH> {
 }
 
 impl<const WIDTH: usize> Text<WIDTH> {
-    /// Adds `words`, which are printable ASCII, at the end; what doesn't fit falls off at the right.
+    /// Appends `words`, which must be printable ASCII, and cuts the result to `WIDTH` bytes at the
+    /// right.
     pub fn push_fitting(&mut self, words: &str)
         requires { IsTrue (list_all is_printable_byte words.now) }
         ensures { self.new ≡ take WIDTH (self.old ++ words.now) }
@@ -107,14 +108,14 @@ impl<const WIDTH: usize> Text<WIDTH> {
         self.write(len, &words.as_bytes()[..room]);
     }
 
-    /// An equal text. It takes no memory.
+    /// Returns an equal text. Does not allocate.
     pub fn copy(&self) -> Text<WIDTH>
         ensures { result ≡ self.now }
     {
         Text { bytes: self.bytes }
     }
 
-    /// The first `LENGTH` bytes, or all where there are fewer.
+    /// The first `LENGTH` bytes, or all bytes if there are fewer.
     pub fn prefix<const LENGTH: usize>(&self) -> Text<LENGTH>
         ensures { result ≡ take LENGTH self.now }
     {
@@ -144,8 +145,8 @@ impl<const WIDTH: usize> fmt::Debug for Text<WIDTH> {
     }
 }
 
-/// Whether each byte is printable ASCII. All are looked at, also behind one that isn't, so that many are
-/// at once.
+/// Whether every byte is printable ASCII. The loop has no early exit, so that several bytes can be
+/// tested at once.
 pub fn is_printable(bytes: &[u8]) -> bool
     ensures { result ≡ list_all is_printable_byte bytes.now }
 {
@@ -156,7 +157,7 @@ pub fn is_printable(bytes: &[u8]) -> bool
     printable
 }
 
-// Printable ASCII as text.
+// Printable ASCII as a string.
 fn ascii(bytes: &[u8]) -> &str
     requires { IsTrue (list_all is_printable_byte bytes.now) }
     ensures { result.now ≡ bytes.now }

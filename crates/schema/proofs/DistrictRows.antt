@@ -1,4 +1,4 @@
--- The customers of a district, who stand next to each other.
+-- The customers of a district, whose rows are adjacent.
 use Rattle.std.proofs.Common.{◌≡◌, ℕ, zero, suc, ◌+◌, ◌-◌, ◌*◌, ◌<◌, ◌≤◌, true, false, cond, nat_lt, List, [], ◌∷◌, length, take, drop, Option, Some, None, Bor, IfSome, IsTrue, is_some, refl, sym, ap, ◌∙◌, arith}
 use Rattle.std.specs.List.{slice_get, slice_range, PartBy}
 use Rattle.std.specs.Option.{option_and_then}

@@ -123,7 +123,7 @@ within_of (y ∷ ys) zero x h = omega arith
 within_of (y ∷ ys) (suc n) x h = let rest : n < length ys = within_of ys n x h in omega arith
 
 module _ {K X : Type 0} {R : K → K → Ordering} (o : IsTotalOrder R) (a : IsAntisymmetric R) where
-  -- a test of the rows that stand in the order of their keys is the test of each row
+  -- a test of rows in key order is the test of each row
   pub EachRow-dense : (test : X → Bool) (ks : List K) (xs : List X) → length xs ≡ length ks
       → (key_at : ℕ → K) → ((n : ℕ) → n < length ks → place (eq_by_cmp R (key_at n)) ks ≡ Some n)
       → IsTrue (list_all test xs) ↔ EachRow {R = R} (λ _ row. test row) (from_entries (zip ks xs))

@@ -29,7 +29,7 @@ table_of_mapped f old new is = ap line_table is ∙ same_map lines_total lines_e
     get-from_entries lines_total (mapped f old) q ∙ find-mapped line_cmp f lines_exact q old
     ∙ sym (get-map_rows line_cmp f lines_exact (line_table old) q ∙ ap (option_map (f q)) (get-from_entries lines_total old q)))
 
--- what comes of two lists comes of both together
+-- mapping two lists is mapping both together
 mapped_both : {K X : Type 0} (f : K → X → X) (xs ys us vs : List (K × X)) → mapped f xs ≡ us → mapped f ys ≡ vs → mapped f (xs ++ ys) ≡ us ++ vs
 mapped_both {K = K} {X = X} f xs ys us vs h k = split xs ∙ ap (λ l. l ++ mapped f ys) h ∙ ap (λ l. us ++ l) k
   where

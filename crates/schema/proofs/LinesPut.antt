@@ -76,7 +76,7 @@ pub length-lines_at : (lines : LineTable) (order : OrderKey) (number count : ℕ
 length-lines_at lines order number zero = refl
 length-lines_at lines order number (suc count) = ap (λ n. suc n) (length-lines_at lines order (number + 1) count)
 
--- what stands at lines that are alike
+-- the rows at line keys where two tables agree
 pub lines_at-alike : (old new : LineTable) (order : OrderKey) (number count : ℕ) → ((n : ℕ) → n < number + count → get new (line_key order n) ≡ get old (line_key order n))
     → lines_at new order number count ≡ lines_at old order number count
 lines_at-alike old new order number zero alike = refl
@@ -84,7 +84,7 @@ lines_at-alike old new order number (suc count) alike =
     ap (λ r. r ∷ lines_at new order (number + 1) count) (alike number (omega arith))
     ∙ ap (λ l. get old (line_key order number) ∷ l) (lines_at-alike old new order (number + 1) count (λ n h. alike n (omega arith)))
 
--- ---- what stood there is put back
+-- ---- replaced lines are restored
 
 -- a line of a lesser number may as well come later
 put_lines-earlier : (order : OrderKey) (number : ℕ) (rows : List (Option OrderLine)) (lines : LineTable) (n : ℕ) (w : Option OrderLine) → n < number
@@ -132,7 +132,7 @@ one_more_line order rest rows row old mid new all put later =
     ∙ sym (ap (λ l. put_lines order 1 (map (λ r. Some r) l) old) all ∙ ap (λ l. put_lines order 1 l old) (map-last (λ r. Some r) rest row)
     ∙ put_lines-last order 1 (map (λ r. Some r) rest) (Some row) old (length rest + 1) (omega (arith, length-some rest)))
 
--- what stood at the lines and at one more
+-- the rows that the lines and one more replaced
 pub one_more_was : (order : OrderKey) (rest rows : List OrderLine) (row : OrderLine) (old mid : LineTable) (none some all_were : List (Option OrderLine)) (was : Option OrderLine) → rows ≡ rest ++ row ∷ []
     → mid ≡ table.insert old (line_key order (length rest + 1)) row → was ≡ get old (line_key order (length rest + 1))
     → some ≡ none ++ lines_at mid order 1 (length rest) → all_were ≡ some ++ was ∷ [] → all_were ≡ none ++ lines_at old order 1 (length rows)
@@ -179,7 +179,7 @@ pub all_put : (order : OrderKey) (rows : List OrderLine) (old new : LineTable)
 all_put order rows old new put = same_map lines_total lines_exact new (put_lines order 1 (map (λ r. Some r) rows) old) (λ q.
     put q ∙ ap (λ r. option_or r (get old q)) (table.get-from_entries lines_total (with_keys order (numbered_from 1 rows)) q) ∙ sym (get-all_put order 1 rows old q))
 
--- nothing stood at the lines of an order that has none
+-- an order without lines has no rows at its line keys
 pub none_stood : (lines : LineTable) (order : OrderKey) → ((n : ℕ) → get lines (line_key order n) ≡ None) → (number count : ℕ) → lines_at lines order number count ≡ replicate count None
 none_stood lines order none number zero = refl
 none_stood lines order none number (suc count) =

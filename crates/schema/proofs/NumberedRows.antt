@@ -127,7 +127,7 @@ module _ {X : Type 0} where
 
   -- ---- a read
 
-  -- the row at the place of a number that stands there
+  -- the row at the index of a number that is present
   row_there : (n : ℕ) (es : List (ℕ × X)) (d : ℕ × X) → IsTrue (is_in n es) → find nat_cmp n es ≡ Some (get_or es (place_in n es) d).1
   row_there n [] d h = absurd cc
   row_there n (e ∷ es) d h =
@@ -227,7 +227,7 @@ module _ {X : Type 0} where
   put_order : (n : ℕ) (v : X) (es : List (ℕ × X)) → IsStrictlySortedBy nat_cmp (keys_of es) → IsStrictlySortedBy nat_cmp (keys_of (put nat_cmp n v es))
   put_order n v es sorted = is_sorted-to _ (is_sorted-put nat_cmp nat_cmp_total n v es (is_sorted-from es sorted))
 
-  -- a row that is put where none stood
+  -- a row that is inserted at a number that is absent
   inserted_rows : (n place : ℕ) (v : X) (es fs : List (ℕ × X)) → BelongsAt n es place → fs ≡ list.insert es place (n, v) → fs ≡ put nat_cmp n v es
   inserted_rows n place v es fs at is = is ∙ ap (λ p. list.insert es p (n, v)) at.place_is ∙ inserted n v es at.is_missing
 

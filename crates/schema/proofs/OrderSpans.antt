@@ -113,7 +113,7 @@ one_order order key = search rules
 abbrev pub first_of_warehouse : ℕ → OrderKey
 first_of_warehouse warehouse = record { w_id = warehouse; d_id = 0; o_id = 0 }
 
--- before it stand the orders of the warehouses before
+-- the orders before it are those of lower warehouses
 pub before_warehouse : (warehouse : ℕ) (key : OrderKey) → is_gt (order_cmp (first_of_warehouse warehouse) key) ≡ nat_lt key.w_id warehouse
 before_warehouse warehouse key = search rules
 

@@ -1,4 +1,4 @@
--- Lines that stand under their orders: which line is at a key, and that all are in order.
+-- Lines that are stored under their orders: which line is at a key, and that all are in order.
 use Rattle.std.proofs.Common.{◌≡◌, ◌≢◌, ℕ, ◌+◌, ◌-◌, ◌<◌, ◌≤◌, ◌^◌, Bool, true, false, cond, not, ◌&&◌, ◌||◌, List, [], ◌∷◌, ◌++◌, length, Option, Some, None, IsTrue, IsSome, is_some, nat_eq, nat_le, nat_lt, length-append, suc, refl, sym, ap, subst, ◌∙◌, arith, drop}
 use Rattle.std.specs.List.{filter, list_all, AllByRecursion}
 use Rattle.std.specs.List.Sorted.{IsStrictlySortedBy}
@@ -139,7 +139,7 @@ read_line orders sorted q =
     same_read None = refl
     same_read (Some lines) = sym (get-from_entries nat_cmp_total lines q.number)
 
--- ---- all lines stand in the order of their keys
+-- ---- all lines are in key order
 
 sorted_both : {K : Type 0} (R : K → K → Ordering) (xs ys : List K) → IsStrictlySortedBy R xs → IsStrictlySortedBy R ys
     → AllByRecursion (λ x. AllByRecursion (λ y. R x y ≡ Less) ys) xs → IsStrictlySortedBy R (xs ++ ys)
@@ -389,9 +389,9 @@ numbered_where test (order ∷ orders) each =
       | false ↦ numbered_where test orders each.1
     ]
 
--- ---- an order that comes with its lines
+-- ---- an order that is inserted with its lines
 
--- what stands among lines of one order
+-- a look-up among the lines of one order
 find_of : (q : OrderLineKey) (order : OrderKey) (lines : List (ℕ × OrderLine))
     → get (line_table (with_keys order lines)) q ≡ cond (eq_by_cmp order_cmp (order_of_line q) order) (get (numbered lines) q.number) None
 find_of q order lines =
@@ -507,7 +507,7 @@ set_same at lines (order ∷ orders) h =
       | false ↦ λ e. ap (λ l. order ∷ l) (set_same at lines orders e)
     ] h
 
--- where no key comes in, the entry is written in its place
+-- if no key is inserted, the entry is written in its place
 pub set_in_place : (order : OrderKey) (lines : List (ℕ × OrderLine)) (orders : List (OrderKey × List (ℕ × OrderLine))) → keys_of (insert_entry order_cmp orders order lines) ≡ keys_of orders
     → insert_entry order_cmp orders order lines ≡ set_value (is_at (order_cmp order)) orders lines
 set_in_place order lines [] stay = cc
@@ -555,7 +555,7 @@ few_between low high orders =
 
 -- ---- the lines of one order
 
--- behind an order it stands no more
+-- an order is not among the orders after it
 not_behind : (order : OrderKey) (orders : List (OrderKey × List (ℕ × OrderLine))) → AllByRecursion (λ later. order_cmp order later ≡ Less) (keys_of orders)
     → entries_between order_cmp (Included order) (Included order) orders ≡ []
 not_behind order [] behind = refl

@@ -1,4 +1,4 @@
--- Rows that stand in the order of their keys: what a look-up finds, and what a write in place changes.
+-- Rows in key order: what a look-up finds, and what a write in place changes.
 use Rattle.std.proofs.Common.{◌≡◌, ℕ, zero, suc, ◌+◌, ◌-◌, ◌*◌, ◌<◌, Bool, true, false, cond, ◌&&◌, nat_le, nat_lt, eqb, List, [], ◌∷◌, ◌++◌, map, length, Option, Some, None, refl, sym, ap, ◌∙◌, arith, is_some, slice_set}
 use Rattle.std.specs.List.{zip, slice_get, range_with_len}
 use Rattle.std.specs.Option.{option_map, option_and_then}
@@ -188,7 +188,7 @@ same_list : {X : Type 0} (xs : List X) → map (λ x. x) xs ++ [] ≡ xs
 same_list [] = refl
 same_list (x ∷ xs) = ap (λ l. x ∷ l) (same_list xs)
 
--- numbers from 1 stand at their number less 1
+-- numbers from 1 are at the index that is one less
 pub place-numbers : (test : ℕ → Bool) (q count : ℕ) → ((j : ℕ) → test j ≡ eqb q j)
     → place test (range_with_len 1 count) ≡ cond (nat_le 1 q && nat_le q count) (Some (q - 1)) None
 place-numbers test q count h =

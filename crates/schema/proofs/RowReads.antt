@@ -23,7 +23,7 @@ pub copied_item : {X : Type 0} (items slice : List X) → slice ≡ items → (i
 copied_item items slice same i r h = copied slice i r h ∙ ap (λ l. slice_get l i) same
 
 module _ {K X : Type 0} {R : K → K → Ordering} (o : IsTotalOrder R) (a : IsAntisymmetric R) where
-  -- a row that stands in the order of the keys, at the key's slot
+  -- the row at the key's slot, of rows in key order
   pub read_slot : (ks : List K) (xs : List X) (q : K) (slot r : Option ℕ) (n : ℕ) → place (eq_by_cmp R q) ks ≡ slot → r ≡ slot → r ≡ Some n
       → get (from_entries {R = R} (zip ks xs)) q ≡ slice_get xs n
   read_slot ks xs q slot r n placed is found =

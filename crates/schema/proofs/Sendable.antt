@@ -1,4 +1,4 @@
--- A list of payments, the lines of orders, and what stood in the places of an order's rows, may go to another thread.
+-- A list of payments, the lines of orders, and the rows that an order replaced, may go to another thread.
 use denote.Param.Send.{IsSend, sendable}
 use Rattle.std.proofs.Crossing.{Vec-send}
 use Rattle.std.proofs.MapsCrossing.{BTreeMap-send}

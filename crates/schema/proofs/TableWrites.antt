@@ -32,7 +32,7 @@ module _ {K X : Type 0} {R : K → K → Ordering} (o : IsTotalOrder R) (a : IsA
   pub unchanged : (m n : BTreeMap K X) → n.entries ≡ m.entries → table_of R n ≡ table_of R m
   unchanged m n h = same_map o a (table_of R n) (table_of R m) (λ q. read_tree n q ∙ ap (lookup (is_at (R q))) h ∙ sym (read_tree m q))
 
-  -- what stood there is put back
+  -- the replaced row is restored
   pub put_row_same : (m : FinMap R X) (k : K) (w : Option X) → get m k ≡ w → put_row m k w ≡ m
   put_row_same m k w h = same_map o a (put_row m k w) m (λ q.
       get-put_row m k w q
@@ -129,7 +129,7 @@ module _ {K X Y : Type 0} (R : K → K → Ordering) (f : K → X → Y) where
         | Greater ↦ λ h. find-mapped a q es
       ] refl
 
-  -- each row is changed, and none comes or goes
+  -- each row is changed, and none is inserted or deleted
   pub get-map_rows : IsAntisymmetric R → (m : FinMap R X) (q : K) → get (map_rows f m) q ≡ option_map (f q) (get m q)
   unfolding map_rows
   get-map_rows a m q =

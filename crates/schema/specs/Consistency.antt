@@ -1,4 +1,4 @@
--- When the tables are consistent (clause 3.3.2).
+-- The consistency conditions (clause 3.3.2).
 use Rattle.std.specs.Prelude.{◌≡◌, ◌≢◌, ◌↔◌, ℕ, ◌+◌, Bool, false, ◌&&◌, ◌==◌, if◌then◌else◌, List, [], ◌∷◌, length, map, max, min, sum, ℤ, pos, ◌+ℤ◌, ◌-ℤ◌, Option, Some, None, is_some, IsTrue}
 use Rattle.std.specs.List.{filter}
 use Rattle.std.specs.FinMap as table
@@ -17,19 +17,19 @@ use Rattle.rows.specs.Keys.{order_of_line}
 use Rattle.schema.specs.Sums.{sum_rows}
 use Rattle.schema.specs.Database.{Database, list_at, rows_where, is_of_district, is_of_order}
 
--- ---- what the conditions speak of
+-- ---- terms that the conditions use
 
--- what the payments of a list come to
+-- the sum of the amounts of a list's payments
 abbrev pub amounts_of : List History → ℤ
 amounts_of [] = pos 0
 amounts_of (row ∷ rows) = row.amount +ℤ amounts_of rows
 
--- the greatest of some numbers, 0 of none
+-- the greatest of some numbers, or 0 if there are none
 abbrev pub greatest : List ℕ → ℕ
 greatest [] = 0
 greatest (n ∷ ns) = max n (greatest ns)
 
--- the least of some numbers, the first being n
+-- the smallest of n and some numbers
 abbrev pub least : ℕ → List ℕ → ℕ
 least n [] = n
 least n (m ∷ ms) = least (min n m) ms
@@ -42,7 +42,7 @@ orders_of t home = rows_where (is_of_district home) t.orders
 abbrev pub new_orders_of : Database → DistrictKey → List (OrderKey × NewOrder)
 new_orders_of t home = rows_where (is_of_district home) t.new_orders
 
--- the lines of a district, and those of an order
+-- the lines of a district
 abbrev pub district_lines : Database → DistrictKey → List (OrderLineKey × OrderLine)
 district_lines t home = rows_where (λ key. is_of_district home (order_of_line key)) t.lines
 
@@ -50,11 +50,11 @@ district_lines t home = rows_where (λ key. is_of_district home (order_of_line k
 abbrev pub lines_of : Database → OrderKey → List (OrderLineKey × OrderLine)
 lines_of t order = rows_where (is_of_order order) t.lines
 
--- their numbers
+-- the order numbers in the keys of the rows
 abbrev pub numbers : {X : Type 0} → List (OrderKey × X) → List ℕ
 numbers rows = map (λ row. row.0.o_id) rows
 
--- whether the customer has ordered this order
+-- whether the customer placed this order
 abbrev pub has_ordered : Database → CustomerKey → OrderKey → Bool
 has_ordered t customer key = has_number (table.get t.orders key)
   where
@@ -62,7 +62,7 @@ has_ordered t customer key = has_number (table.get t.orders key)
     has_number (Some order) = (key.w_id == customer.w_id) && ((key.d_id == customer.d_id) && (order.c_id == customer.c_id))
     has_number None = false
 
--- what the lines that were delivered to the customer come to
+-- the sum of the amounts of the customer's delivered lines
 abbrev pub delivered : Database → CustomerKey → ℤ
 delivered t customer = sum_rows (λ key line. if is_some line.delivery_d && has_ordered t customer (order_of_line key) then pos line.amount else pos 0) t.lines
 
@@ -70,7 +70,7 @@ delivered t customer = sum_rows (λ key line. if is_some line.delivery_d && has_
 abbrev pub is_payer : CustomerKey → History → Bool
 is_payer customer row = (row.customer.w_id == customer.w_id) && ((row.customer.d_id == customer.d_id) && (row.customer.c_id == customer.c_id))
 
--- what the customer has paid, wherever
+-- the sum of the customer's payments, in all districts
 abbrev pub paid : Database → CustomerKey → ℤ
 paid t customer = sum_rows (λ _ rows. amounts_of (filter (is_payer customer) rows)) t.histories
 
@@ -81,34 +81,35 @@ abbrev pub WarehousesSumDistricts : Database → Type 0
 WarehousesSumDistricts t = (warehouse : ℕ) (row : Warehouse) → table.get t.warehouses warehouse ≡ Some row
     → row.ytd ≡ sum_rows (λ key district. if key.w_id == warehouse then district.ytd else pos 0) t.districts
 
--- 2 (clause 3.3.2.2): D_NEXT_O_ID - 1 is the greatest O_ID of the district, and its greatest NO_O_ID where it has one
+-- 2 (clause 3.3.2.2): D_NEXT_O_ID - 1 is the greatest O_ID of the district, and its greatest NO_O_ID if it has a new
+-- order
 abbrev pub NextOrderFollows : Database → DistrictKey → District → Type 0
 NextOrderFollows t home row =
     (row.next_o_id ≡ greatest (numbers (orders_of t home)) + 1)
     × (new_orders_of t home ≢ [] → row.next_o_id ≡ greatest (numbers (new_orders_of t home)) + 1)
 
--- 2, of each district
+-- 2, for each district
 abbrev pub NextOrdersFollow : Database → Type 0
 NextOrdersFollow t = (home : DistrictKey) (row : District) → table.get t.districts home ≡ Some row → NextOrderFollows t home row
 
--- 3 (clause 3.3.2.3): the greatest NO_O_ID of a district, less the least, and 1 more is their count, where it has one
+-- 3 (clause 3.3.2.3): if a district has new orders, its greatest NO_O_ID less the least, plus 1, is their number
 abbrev pub HasNoGap : Database → DistrictKey → Type 0
 HasNoGap t home = (first : ℕ) (others : List ℕ) → numbers (new_orders_of t home) ≡ first ∷ others
     → greatest (first ∷ others) + 1 ≡ least first others + length (first ∷ others)
 
--- 3, of each district
+-- 3, for each district
 abbrev pub NewOrdersHaveNoGap : Database → Type 0
 NewOrdersHaveNoGap t = (home : DistrictKey) (row : District) → table.get t.districts home ≡ Some row → HasNoGap t home
 
--- 4 (clause 3.3.2.4): the sum of O_OL_CNT is the number of lines, by district
+-- 4 (clause 3.3.2.4): the sum of O_OL_CNT of a district is the number of its lines
 abbrev pub CountsLines : Database → DistrictKey → Type 0
 CountsLines t home = sum (map (λ order. order.1.ol_cnt) (orders_of t home)) ≡ length (district_lines t home)
 
--- 4, of each district
+-- 4, for each district
 abbrev pub DistrictsCountLines : Database → Type 0
 DistrictsCountLines t = (home : DistrictKey) (row : District) → table.get t.districts home ≡ Some row → CountsLines t home
 
--- 5 (clause 3.3.2.5): O_CARRIER_ID is null exactly where there is a row of NEW-ORDER
+-- 5 (clause 3.3.2.5): O_CARRIER_ID is null exactly if the order has a row of NEW-ORDER
 abbrev pub NewOrdersHaveNoCarrier : Database → Type 0
 NewOrdersHaveNoCarrier t = (key : OrderKey) (row : Order) → table.get t.orders key ≡ Some row
     → (row.carrier_id ≡ None) ↔ IsTrue (table.contains_key t.new_orders key)
@@ -118,40 +119,40 @@ abbrev pub OrdersCountLines : Database → Type 0
 OrdersCountLines t = (key : OrderKey) (row : Order) → table.get t.orders key ≡ Some row
     → row.ol_cnt ≡ length (lines_of t key)
 
--- 7 (clause 3.3.2.7): OL_DELIVERY_D is null exactly where the order's O_CARRIER_ID is
+-- 7 (clause 3.3.2.7): OL_DELIVERY_D is null exactly if the order's O_CARRIER_ID is null
 abbrev pub LinesComeWithOrders : Database → Type 0
 LinesComeWithOrders t = (key : OrderLineKey) (line : OrderLine) (order : Order) → table.get t.lines key ≡ Some line → table.get t.orders (order_of_line key) ≡ Some order
     → (line.delivery_d ≡ None) ↔ (order.carrier_id ≡ None)
 
--- 8 (clause 3.3.2.8): W_YTD is the sum of H_AMOUNT
+-- 8 (clause 3.3.2.8): W_YTD is the sum of the warehouse's H_AMOUNT
 abbrev pub WarehousesSumPayments : Database → Type 0
 WarehousesSumPayments t = (warehouse : ℕ) (row : Warehouse) → table.get t.warehouses warehouse ≡ Some row
     → row.ytd ≡ sum_rows (λ key rows. if key.w_id == warehouse then amounts_of rows else pos 0) t.histories
 
--- 9 (clause 3.3.2.9): D_YTD is the sum of H_AMOUNT
+-- 9 (clause 3.3.2.9): D_YTD is the sum of the district's H_AMOUNT
 abbrev pub DistrictsSumPayments : Database → Type 0
 DistrictsSumPayments t = (home : DistrictKey) (row : District) → table.get t.districts home ≡ Some row
     → row.ytd ≡ amounts_of (list_at t.histories home)
 
--- 10 (clause 3.3.2.10): C_BALANCE is what was delivered to the customer less what the customer paid
+-- 10 (clause 3.3.2.10): C_BALANCE is the sum of the customer's delivered lines less the sum of the customer's payments
 abbrev pub BalancesAreOwed : Database → Type 0
 BalancesAreOwed t = (key : CustomerKey) (row : Customer) → table.get t.customers key ≡ Some row
     → row.balance ≡ delivered t key -ℤ paid t key
 
--- 11 (clause 3.3.2.11), of a fresh set at full scale: 2,100 orders of each district were delivered
+-- 11 (clause 3.3.2.11), for fresh tables at full scale: the district has 2,100 more orders than new orders
 abbrev pub IsFresh : Database → DistrictKey → Type 0
 IsFresh t home = length (orders_of t home) ≡ length (new_orders_of t home) + 2100
 
--- 11, of each district
+-- 11, for each district
 abbrev pub OrdersAreFresh : Database → Type 0
 OrdersAreFresh t = (home : DistrictKey) (row : District) → table.get t.districts home ≡ Some row → IsFresh t home
 
--- 12 (clause 3.3.2.12): C_BALANCE and C_YTD_PAYMENT are together what was delivered to the customer
+-- 12 (clause 3.3.2.12): C_BALANCE plus C_YTD_PAYMENT is the sum of the customer's delivered lines
 abbrev pub BalancesArePaid : Database → Type 0
 BalancesArePaid t = (key : CustomerKey) (row : Customer) → table.get t.customers key ≡ Some row
     → row.balance +ℤ row.ytd_payment ≡ delivered t key
 
--- All but the eleventh, which is asked of fresh tables alone.
+-- All conditions except the eleventh, which applies to fresh tables only.
 pub record Consistent (t : Database) : Type 0 where
   pub warehouses_sum_districts : WarehousesSumDistricts t
   pub next_orders_follow : NextOrdersFollow t

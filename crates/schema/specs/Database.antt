@@ -1,4 +1,4 @@
--- What a contract sees of the nine tables: finite maps from keys to rows (clause 1.3).
+-- How contracts see the nine tables: as finite maps from keys to rows (clause 1.3).
 use Rattle.std.specs.Prelude.{◌≡◌, ℕ, ◌-◌, Bool, ◌&&◌, ◌==◌, List, [], ◌∷◌, ◌++◌, length, take, unwrap_or}
 use Rattle.std.specs.List.{list_all, filter}
 use Rattle.std.specs.declared.cmp.Ordering.{Ordering}
@@ -24,15 +24,15 @@ use Rattle.schema.specs.declared.scale.Scale.{Scale}
 use Rattle.schema.specs.Scale.{has_item, has_warehouse, has_district, has_stock, has_customer}
 use Rattle.schema.specs.EachRow.{EachRow}
 
--- HISTORY: the list of each district's payments, the oldest first
+-- HISTORY: the list of each district's payments, oldest first
 abbrev pub HistoryTable : Type 0
 HistoryTable = map.FinMap district_cmp (List History)
 
--- the payments of a district, the oldest first
+-- the payments of a district, oldest first
 abbrev pub list_at : HistoryTable → DistrictKey → List History
 list_at histories key = unwrap_or (map.get histories key) []
 
--- the district's list with one payment more, at its end
+-- HISTORY with one more payment at the end of the district's list
 abbrev pub with_payment : HistoryTable → DistrictKey → History → HistoryTable
 with_payment histories key row = map.insert histories key (list_at histories key ++ row ∷ [])
 
@@ -40,11 +40,11 @@ with_payment histories key row = map.insert histories key (list_at histories key
 abbrev pub without_last : List History → List History
 without_last rows = take (length rows - 1) rows
 
--- the district's list without its last payment
+-- HISTORY without the last payment of the district's list
 abbrev pub without_payment : HistoryTable → DistrictKey → HistoryTable
 without_payment histories key = map.insert histories key (without_last (list_at histories key))
 
--- The nine tables, and how large they are: what a contract sees of them.
+-- The nine tables and their scale, as contracts see them.
 pub record Database : Type 0 where
   pub scale : Scale
   pub items : map.FinMap nat_cmp Item
@@ -59,23 +59,23 @@ pub record Database : Type 0 where
 
 -- ---- the rules of the scale
 
--- every payment of a list names a customer of the scale
+-- whether every payment of a list refers to a customer of the scale
 abbrev pub are_payers_known : Scale → List History → Bool
 are_payers_known scale rows = list_all (λ row. has_customer scale row.customer) rows
 
--- the customer of an order, which is of the order's district
+-- the key of an order's customer, who is of the order's district
 abbrev pub customer_of_order : OrderKey → Order → CustomerKey
 customer_of_order key row = record { w_id = key.w_id; d_id = key.d_id; c_id = row.c_id }
 
--- O_ID is from 1 to 9,999,999
+-- whether O_ID is from 1 to 9,999,999
 abbrev pub is_order_id : ℕ → Bool
 is_order_id number = is_between 1 9999999 number
 
--- OL_NUMBER is from 1 to 15
+-- whether OL_NUMBER is from 1 to 15
 abbrev pub is_line_number : ℕ → Bool
 is_line_number number = is_between 1 15 number
 
--- each payment names a customer of the scale
+-- each payment refers to a customer of the scale
 abbrev pub PayersKnown : Database → Type 0
 PayersKnown t = EachRow (λ _ rows. are_payers_known t.scale rows) t.histories
 
@@ -83,7 +83,7 @@ PayersKnown t = EachRow (λ _ rows. are_payers_known t.scale rows) t.histories
 abbrev pub OrdersNumbered : Database → Type 0
 OrdersNumbered t = EachRow (λ key _. is_order_id key.o_id) t.orders
 
--- each order is of a customer of the scale, of its own district
+-- each order refers to a customer of the scale, of its own district
 abbrev pub OrdersHaveCustomers : Database → Type 0
 OrdersHaveCustomers t = EachRow (λ key row. has_customer t.scale (customer_of_order key row)) t.orders
 
@@ -99,16 +99,16 @@ LinesHaveOrders t = EachRow (λ key _. map.contains_key t.orders (order_of_line 
 abbrev pub LinesNumbered : Database → Type 0
 LinesNumbered t = EachRow (λ key _. is_line_number key.number) t.lines
 
--- each line is of an item of the scale
+-- each line refers to an item of the scale
 abbrev pub LinesHaveItems : Database → Type 0
 LinesHaveItems t = EachRow (λ _ row. has_item t.scale row.i_id) t.lines
 
--- each line is supplied by a warehouse of the scale
+-- the supplying warehouse of each line is in the scale
 abbrev pub LinesHaveSuppliers : Database → Type 0
 LinesHaveSuppliers t = EachRow (λ _ row. has_warehouse t.scale row.supply_w_id) t.lines
 
--- The keys of six tables are exactly those of the scale, each district has a list of payments, and no row of the
--- others refers to a row that isn't there.
+-- The keys of six tables are exactly those of the scale; HISTORY has a list of payments for each district. Rows refer
+-- only to rows that exist, and the numbers of orders and lines are in their ranges.
 pub record IsWithinScale (t : Database) : Type 0 where
   pub items : (key : ℕ) → map.contains_key t.items key ≡ has_item t.scale key
   pub warehouses : (key : ℕ) → map.contains_key t.warehouses key ≡ has_warehouse t.scale key
@@ -125,16 +125,16 @@ pub record IsWithinScale (t : Database) : Type 0 where
   pub lines_have_items : LinesHaveItems t
   pub lines_have_suppliers : LinesHaveSuppliers t
 
--- ---- parts of tables
+-- ---- selections of rows
 
--- the rows whose keys pass the test, in the order of the keys
+-- the rows whose keys pass the test, in key order
 abbrev pub rows_where : {K X : Type 0} {R : K → K → Ordering} → (K → Bool) → map.FinMap R X → List (K × X)
 rows_where test table = filter (λ e. test e.0) (map.entries table)
 
--- the order is of this district
+-- whether the order is of this district
 abbrev pub is_of_district : DistrictKey → OrderKey → Bool
 is_of_district home key = (key.w_id == home.w_id) && (key.d_id == home.d_id)
 
--- the line is of this order
+-- whether the line is of this order
 abbrev pub is_of_order : OrderKey → OrderLineKey → Bool
 is_of_order order key = (key.w_id == order.w_id) && ((key.d_id == order.d_id) && (key.o_id == order.o_id))

@@ -1,4 +1,4 @@
--- Lines that stand under their orders, each with its number.
+-- Lines that are stored under their orders, each with its number.
 use Rattle.std.specs.Prelude.{◌≡◌, ℕ, ◌+◌, ◌<◌, ◌-◌, ◌^◌, List, [], ◌∷◌, ◌++◌, length, slice_get, Some, None}
 use Rattle.std.specs.BTreeMap.{BTreeMap, get}
 use Rattle.std.specs.List.{AllByRecursion}
@@ -12,11 +12,11 @@ use Rattle.rows.specs.declared.records.OrderLine.{OrderLine}
 use Rattle.rows.specs.Keys.{order_cmp}
 use Rattle.schema.specs.OrderRows.{line_key}
 
--- the lines of an order as a table, by their numbers
+-- the lines of an order as a table, keyed by number
 abbrev pub numbered : List (ℕ × OrderLine) → table.FinMap nat_cmp OrderLine
 numbered lines = table.from_entries lines
 
--- lines with their numbers, from that number on
+-- the lines, numbered from that number on
 abbrev pub numbered_from : ℕ → List OrderLine → List (ℕ × OrderLine)
 numbered_from number [] = []
 numbered_from number (row ∷ rows) = (number, row) ∷ numbered_from (number + 1) rows
@@ -31,19 +31,19 @@ abbrev pub all_lines : List (OrderKey × List (ℕ × OrderLine)) → List (Orde
 all_lines [] = []
 all_lines (order ∷ orders) = with_keys order.0 order.1 ++ all_lines orders
 
--- the lines of each order stand in the order of their numbers
+-- the lines of each order are in ascending order of number
 abbrev pub AreNumbered : List (OrderKey × List (ℕ × OrderLine)) → Type 0
 AreNumbered orders = AllByRecursion (λ order. IsStrictlySortedBy nat_cmp (keys_of order.1)) orders
 
--- this order is the last of these; one whose lines were all taken back is still one of them
+-- this order is the last of these; an order whose lines were all taken back is still one of these
 abbrev pub IsLast : OrderKey → BTreeMap OrderKey (List (ℕ × OrderLine)) → Type 0
 IsLast order orders = slice_get (keys_of orders.entries) (length orders.entries - 1) ≡ Some order
 
--- this order is none of these
+-- this order is not one of these
 abbrev pub HasNone : OrderKey → BTreeMap OrderKey (List (ℕ × OrderLine)) → Type 0
 HasNone order orders = get order_cmp orders order ≡ None
 
--- so many lines, under orders that ascend
+-- the orders ascend, and they have count lines, fewer than 2^63
 pub record AreKept (orders : List (OrderKey × List (ℕ × OrderLine))) (count : ℕ) : Type 0 where
   pub ordered : IsStrictlySortedBy order_cmp (keys_of orders)
   pub numbered : AreNumbered orders

@@ -1,4 +1,4 @@
--- Which tables rows make, and which rules of the scale they break.
+-- The tables that rows form, and the rules of the scale that rows break.
 use Rattle.std.specs.Prelude.{[], ◌≡◌, ◌≢◌, ◌*◌, length}
 use Rattle.std.specs.List.{zip}
 use Rattle.std.specs.FinMap as map
@@ -9,7 +9,7 @@ use Rattle.schema.specs.declared.scale_fault.ScaleFault.TheVariants.{ItemCount, 
 use Rattle.schema.specs.Scale.{item_ids, warehouse_ids, district_keys, stock_keys, customer_keys}
 use Rattle.schema.specs.Database.{Database, IsWithinScale, PayersKnown, OrdersNumbered, OrdersHaveCustomers, NewOrdersHaveOrders, LinesHaveOrders, LinesNumbered, LinesHaveItems, LinesHaveSuppliers}
 
--- the tables of these rows: those of six tables belong to the scale's keys in order
+-- the tables that these rows form; in six tables, the rows are paired with the scale's keys in order
 abbrev pub database : Scale → TableRows → Database
 database scale rows = record {
   scale = scale;
@@ -24,7 +24,7 @@ database scale rows = record {
   lines = map.from_entries rows.lines;
 }
 
--- none of these rows is missing, and there is none too many
+-- each of the six tables has exactly as many rows as the scale has keys for it
 pub record HasCounts (scale : Scale) (rows : TableRows) : Type 0 where
   pub items : length rows.items.items ≡ scale.items
   pub warehouses : length rows.warehouses.items ≡ scale.warehouses
@@ -33,12 +33,12 @@ pub record HasCounts (scale : Scale) (rows : TableRows) : Type 0 where
   pub customers : length rows.customers.items ≡ scale.warehouses * 10 * scale.customers
   pub histories : length rows.histories.items ≡ scale.warehouses * 10
 
--- the rows make tables within the scale
+-- the rows form tables within the scale
 pub record FitsScale (scale : Scale) (rows : TableRows) : Type 0 where
   pub counts : HasCounts scale rows
   pub within : IsWithinScale (database scale rows)
 
--- no row in any table
+-- all tables are empty
 pub record AreNoRows (rows : TableRows) : Type 0 where
   pub items : rows.items.items ≡ []
   pub warehouses : rows.warehouses.items ≡ []
@@ -62,7 +62,7 @@ pub record AreSameRows (old new : TableRows) : Type 0 where
   pub new_orders : new.new_orders.entries ≡ old.new_orders.entries
   pub lines : new.lines ≡ old.lines
 
--- the rule of the fault is broken
+-- the rows break the rule that the fault stands for
 abbrev pub Breaks : ScaleFault → Scale → TableRows → Type 0
 Breaks ItemCount scale rows = length rows.items.items ≢ scale.items
 Breaks WarehouseCount scale rows = length rows.warehouses.items ≢ scale.warehouses

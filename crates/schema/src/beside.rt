@@ -1,4 +1,4 @@
-//! Rows beside keys that ascend as theirs do.
+//! Look-ups of rows by ascending keys.
 ghost use Rattle.std.specs.Prelude.{◌≡◌};
 ghost use Rattle.std.specs.Option.{option_copied};
 ghost use Rattle.std.specs.FinMap as map;
@@ -12,11 +12,11 @@ use rows::OrderKey;
 use std::cmp::Ordering;
 use std::marker::Model;
 
-/// Rows of orders, for whoever asks for them by keys that ascend: seen as the rows that are left, with their
-/// keys. So a whole table is looked up in the time of one walk.
+/// Rows of orders, looked up by ascending keys. The model is the list of the rows that are left, with
+/// their keys. So all keys of a table are looked up in one pass.
 #[derive(Drop)]
 pub struct Beside<'a, R> {
-    // The first that is left, and those behind it.
+    // The first row that is left, and the rows after it.
     first: Option<(OrderKey, &'a R)>,
     others: Entries<'a, OrderKey, R>,
 }
@@ -37,7 +37,7 @@ impl<'a, R> Model for Beside<'a, R> {
 }
 
 impl<'a, R> Beside<'a, R> {
-    /// All these rows, in the order of their keys.
+    /// All these rows, in key order.
     pub fn new(rows: Entries<'a, OrderKey, R>) -> Self
         requires { IsStrictlySortedBy order_cmp (keys_of rows) }
         ensures { result ≡ rows.entry }
@@ -47,7 +47,8 @@ impl<'a, R> Beside<'a, R> {
         Beside { first, others }
     }
 
-    /// The row at the key, `None` where it is not left. Rows of lower keys are left no more.
+    /// The row at the key, or `None` if it is not left. Rows with lower keys are no longer left
+    /// afterwards.
     pub fn of(&mut self, key: OrderKey) -> Option<&'a R>
         ensures found { option_copied result ≡ map.find order_cmp key self.old }
         ensures left { SameFrom key self.old self.new }

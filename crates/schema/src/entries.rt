@@ -10,8 +10,9 @@ pub type Orders<'a> = Entries<'a, OrderKey, Order>;
 /// Rows of NEW-ORDER with their keys.
 pub type NewOrders<'a> = Entries<'a, OrderKey, NewOrder>;
 
-/// Rows with their keys, in the order of the keys: seen as the list of those that are still to come. The rows
-/// are lent and the keys given, so that no reader knows how a table keeps them.
+/// Rows with their keys, in key order. The model is the list of the rows that are still to come. A key
+/// is returned by value and a row by reference, so that a reader does not depend on how a table stores
+/// them.
 #[derive(Drop)]
 pub struct Entries<'a, K, R> {
     kept: Range<'a, K, R>,
@@ -26,7 +27,7 @@ impl<'a, K, R> Model for Entries<'a, K, R> {
 }
 
 impl<'a, K, R> Entries<'a, K, R> {
-    /// These entries of a map, for whoever keeps rows in one.
+    /// The entries of a map, for code that stores rows in a map.
     pub fn of_map(kept: Range<'a, K, R>) -> Entries<'a, K, R>
         ensures { result ≡ kept.entry }
     {

@@ -6,7 +6,7 @@ use rows::History;
 use std::alloc::Global;
 use std::marker::Model;
 
-/// The rows of HISTORY of one district, the oldest first.
+/// The rows of HISTORY of one district, oldest first.
 #[derive(Clone, Drop)]
 pub struct HistoryList {
     rows: Vec<History>,
@@ -22,7 +22,7 @@ impl Model for HistoryList {
 }
 
 impl HistoryList {
-    /// A list without rows.
+    /// An empty list.
     pub fn new(alloc: Global) -> Self
         ensures { result ≡ [] }
     {
@@ -31,14 +31,14 @@ impl HistoryList {
         }
     }
 
-    /// The list of these rows, which takes no memory.
+    /// The list of these rows. Does not allocate.
     pub fn from_rows(rows: Vec<History>) -> Self
         ensures { result ≡ rows.items }
     {
         HistoryList { rows }
     }
 
-    /// The rows of the list, which takes no memory.
+    /// The rows of the list. Does not allocate.
     pub fn into_rows(self) -> Vec<History>
         ensures { result.items ≡ self }
     {
@@ -51,7 +51,7 @@ impl HistoryList {
         self.rows.as_slice()
     }
 
-    /// Adds a row at the end; an error changes nothing.
+    /// Appends a row. Returns `NoMemory` if an allocation fails; the list is unchanged then.
     pub fn push(&mut self, row: History) -> Result<(), NoMemory>
         ensures ok { OnOk result (self.new ≡ self.old ++ row ∷ []) }
         ensures err { OnErr result (self.new ≡ self.old) }
@@ -60,21 +60,21 @@ impl HistoryList {
         Ok(())
     }
 
-    /// Takes the last row away, if there is one.
+    /// Removes the last row, if there is one.
     pub fn pop(&mut self)
         ensures { self.new ≡ without_last self.old }
     {
         self.rows.pop();
     }
 
-    /// An equal list.
+    /// Returns an equal list, or `NoMemory` if an allocation fails.
     pub fn try_clone(&self) -> Result<HistoryList, NoMemory>
         ensures { IfOk result (λ copy. copy ≡ self.now) }
     {
         self.clone()
     }
 
-    /// Whether every payment names a customer of the scale.
+    /// Whether every payment refers to a customer of the scale.
     pub fn are_payers_known(&self, scale: Scale) -> bool
         ensures { result ≡ are_payers_known scale self.now }
     {

@@ -1,4 +1,4 @@
-//! The rows of ORDER-LINE of one order, packed.
+//! The rows of ORDER-LINE of one order, packed in a vector.
 ghost use Rattle.std.specs.Prelude.{◌≡◌, ℕ, ◌+◌, ◌≤◌, [], length, map, is_some, nat_eq, if◌then◌else◌, IsTrue, IfOk, IfErr, OnOk, OnErr};
 ghost use Rattle.std.specs.FinMap as table;
 ghost use Rattle.std.specs.List.Sorted.{IsStrictlySortedBy};
@@ -16,12 +16,12 @@ use std::alloc::Global;
 use std::marker::Model;
 use std::mem;
 
-// An order has so many lines at least (clause 2.4.1.3).
+// An order has at least this many lines (clause 2.4.1.3).
 const FEWEST: usize = 5;
 
-/// The lines of one order with their numbers, which ascend; packed. Those that come together have no room
-/// for more; of those that come one by one the first makes room for the fewest that an order has, and each
-/// that finds none makes it for itself.
+/// The lines of one order with their numbers, in ascending order, in one vector. `from_rows` reserves
+/// room for exactly the lines that it takes. `put` reserves room for the fewest lines of an order at
+/// the first line, and for one more line whenever the vector is full.
 #[derive(Clone, Drop)]
 pub(crate) struct Numbered {
     rows: Vec<(u32, OrderLine)>,
@@ -42,7 +42,7 @@ impl Model for Numbered {
 }
 
 impl Numbered {
-    /// No lines. It takes no memory.
+    /// No lines. Does not allocate.
     pub(crate) fn new(alloc: Global) -> Numbered
         ensures { result ≡ [] }
     {
@@ -51,7 +51,7 @@ impl Numbered {
         }
     }
 
-    /// These lines, numbered from 1.
+    /// These lines, numbered from 1. Returns `NoMemory` if an allocation fails.
     pub(crate) fn from_rows(rows: Vec<OrderLine>) -> Result<Numbered, NoMemory>
         requires { length rows.items ≤ 15 }
         ensures { IfOk result (λ lines. lines ≡ numbered_from 1 rows.items) }
@@ -72,7 +72,7 @@ impl Numbered {
         self.rows.as_slice()
     }
 
-    /// The lines with their numbers, which takes no memory.
+    /// The lines with their numbers, in ascending order. Does not allocate.
     pub(crate) fn into_rows(self) -> Vec<(u32, OrderLine)>
         ensures rows { result.items ≡ self }
         ensures ordered { IsStrictlySortedBy nat_cmp (keys_of self) }
@@ -80,14 +80,15 @@ impl Numbered {
         self.rows
     }
 
-    /// The line of that number, `None` where it is not there.
+    /// The line with that number, or `None` if there is none.
     pub(crate) fn get(&self, number: u32) -> Option<&OrderLine>
         ensures { option_copied result ≡ table.get (numbered self.now) number }
     {
         get(self.rows.as_slice(), number)
     }
 
-    /// Puts a line at the number, and gives the one that it replaces. An error changes nothing.
+    /// Stores a line at the number and returns the line that it replaces. Returns `NoMemory` if an
+    /// allocation fails; nothing has changed then.
     pub(crate) fn put(&mut self, number: u32, row: OrderLine) -> Result<Option<OrderLine>, NoMemory>
         ensures was { IfOk result (λ was. was ≡ table.get (numbered self.old) number) }
         ensures ok { OnOk result (numbered self.new ≡ table.insert (numbered self.old) number row) }
@@ -98,7 +99,8 @@ impl Numbered {
         put(&mut self.rows, number, row)
     }
 
-    /// Puts back what stood at the number, in place of the line that is there. It takes no memory.
+    /// Restores `was` at the number, in place of the line stored there. If `was` is `None`, the line is
+    /// removed. Does not allocate.
     pub(crate) fn put_back(&mut self, number: u32, was: Option<OrderLine>)
         requires { IsTrue (table.contains_key (numbered self.old) number) }
         ensures rows { numbered self.new ≡ put_row (numbered self.old) number was }
@@ -108,7 +110,8 @@ impl Numbered {
         put_back(&mut self.rows, number, was);
     }
 
-    /// The line's row, if it is there, gets this moment of its delivery, or none. It takes no memory.
+    /// Sets the delivery moment of the line, if there is one, to `moment`, which may be `None`. Does
+    /// not allocate.
     pub(crate) fn set_delivery(&mut self, number: u32, moment: Option<Moment>)
         ensures rows { (n : ℕ) → table.get (numbered self.new) n ≡ option_map (λ row. if nat_eq n number then record row { delivery_d = moment } else row) (table.get (numbered self.old) n) }
         ensures many { length self.new ≡ length self.old }
@@ -117,7 +120,7 @@ impl Numbered {
         set_delivery(&mut self.rows, number, moment);
     }
 
-    /// Every line gets this moment of its delivery. It takes no memory.
+    /// Sets the delivery moment of every line. Does not allocate.
     pub(crate) fn deliver(&mut self, moment: Moment)
         ensures rows { self.new ≡ map (λ line. (line.0, delivered_at moment line.1)) self.old }
         ensures ordered { IsStrictlySortedBy nat_cmp (keys_of self.new) }
@@ -126,7 +129,7 @@ impl Numbered {
     }
 }
 
-// Where the line of that number stands, or, as an error, where it would have to be put.
+// `Ok` with the index of the line with that number, or `Err` with the index at which to insert it.
 fn find(rows: &[(u32, OrderLine)], number: u32) -> Result<usize, usize>
     ensures found { IfOk result (λ place. StandsAt number rows.now place) }
     ensures missing { IfErr result (λ place. BelongsAt number rows.now place) }
@@ -143,7 +146,7 @@ fn find(rows: &[(u32, OrderLine)], number: u32) -> Result<usize, usize>
     Err(rows.len())
 }
 
-// The line of that number, `None` where it is not there.
+// The line with that number, or `None` if there is none.
 fn get(rows: &[(u32, OrderLine)], number: u32) -> Option<&OrderLine>
     requires { IsStrictlySortedBy nat_cmp (keys_of rows.now) }
     ensures { option_copied result ≡ table.get (numbered rows.now) number }
@@ -155,7 +158,8 @@ fn get(rows: &[(u32, OrderLine)], number: u32) -> Option<&OrderLine>
     Some(&row.1)
 }
 
-// Puts a line at the number, and gives the one that it replaces. An error changes nothing.
+// Stores a line at the number and returns the line that it replaces. Returns `NoMemory` if an
+// allocation fails; nothing has changed then.
 fn put(
     rows: &mut Vec<(u32, OrderLine)>,
     number: u32,
@@ -179,7 +183,8 @@ fn put(
     }
 }
 
-// Puts back what stood at the number, in place of the line that is there. It takes no memory.
+// Restores `was` at the number, in place of the line stored there. If `was` is `None`, the line is
+// removed. Does not allocate.
 fn put_back(rows: &mut Vec<(u32, OrderLine)>, number: u32, was: Option<OrderLine>)
     requires ordered { IsStrictlySortedBy nat_cmp (keys_of rows.old.items) }
     requires there { IsTrue (table.contains_key (numbered rows.old.items) number) }
@@ -187,7 +192,7 @@ fn put_back(rows: &mut Vec<(u32, OrderLine)>, number: u32, was: Option<OrderLine
     ensures many { length rows.new.items + 1 ≡ length rows.old.items + (if is_some was then 1 else 0) }
     ensures ordered { IsStrictlySortedBy nat_cmp (keys_of rows.new.items) }
 {
-    // The line is there.
+    // The precondition `there` excludes the other case.
     if let Ok(place) = find(rows.as_slice(), number) {
         match was {
             Some(row) => rows[place].1 = row,
@@ -198,7 +203,7 @@ fn put_back(rows: &mut Vec<(u32, OrderLine)>, number: u32, was: Option<OrderLine
     }
 }
 
-// The line's row, if it is there, gets the moment, or none.
+// Sets the delivery moment of the line, if there is one, to `moment`, which may be `None`.
 fn set_delivery(rows: &mut Vec<(u32, OrderLine)>, number: u32, moment: Option<Moment>)
     requires { IsStrictlySortedBy nat_cmp (keys_of rows.old.items) }
     ensures rows { (n : ℕ) → table.get (numbered rows.new.items) n ≡ option_map (λ row. if nat_eq n number then record row { delivery_d = moment } else row) (table.get (numbered rows.old.items) n) }
@@ -210,7 +215,7 @@ fn set_delivery(rows: &mut Vec<(u32, OrderLine)>, number: u32, moment: Option<Mo
     }
 }
 
-// Every line gets the moment of its delivery.
+// Sets the delivery moment of every line.
 fn deliver(rows: &mut Vec<(u32, OrderLine)>, moment: Moment)
     ensures { rows.new.items ≡ map (λ line. (line.0, delivered_at moment line.1)) rows.old.items }
 {

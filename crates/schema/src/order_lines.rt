@@ -1,4 +1,5 @@
-//! The rows of ORDER-LINE, of all warehouses or of one. Only here is it known how they are kept.
+//! The rows of ORDER-LINE, of all warehouses or of one. Only this module depends on how they are
+//! stored.
 ghost use Rattle.std.specs.Prelude.{◌≡◌, ◌+◌, ◌<◌, ◌≤◌, ◌^◌, ℕ, Some, None, [], ◌++◌, ◌&&◌, map, replicate, length, nat_le, nat_lt, IsTrue, is_some, IfOk, OnOk, OnErr, if◌then◌else◌};
 ghost use Rattle.std.specs.BTreeMap.{IsOrdered, get, insert_entry};
 ghost use Rattle.std.specs.FinMap as table;
@@ -25,15 +26,15 @@ use std::collections::BTreeMap;
 use std::collections::btree_map::Range;
 use std::marker::Model;
 
-// No more lines are kept.
+// The greatest number of lines that can be stored.
 const MOST: usize = 9_223_372_036_854_775_807;
 
-/// Rows of ORDER-LINE with their keys, in the order of the keys. The lines of an order stand together.
+/// Rows of ORDER-LINE with their keys, in key order. The lines of an order are stored together.
 #[derive(Drop)]
 pub struct OrderLines {
     alloc: Global,
     orders: BTreeMap<OrderKey, Numbered>,
-    // How many lines there are.
+    // The number of lines.
     count: usize,
 }
 
@@ -50,11 +51,11 @@ impl Model for OrderLines {
     ghost invariant = { λ l. AreKept l.orders.entries l.count };
 }
 
-/// Rows of ORDER-LINE with their keys, in the order of the keys: seen as the list of those that are still to come. The
-/// rows are lent and the keys given.
+/// Rows of ORDER-LINE with their keys, in key order. The model is the list of the rows that are still
+/// to come. A key is returned by value and a row by reference.
 #[derive(Drop)]
 pub struct Lines<'a> {
-    // The lines to come of the order in flight, and the orders behind it.
+    // The lines of the current order that are still to come, and the orders after it.
     order: OrderKey,
     lines: &'a [(u32, OrderLine)],
     orders: Range<'a, OrderKey, Numbered>,
@@ -115,7 +116,7 @@ impl<'a> Iterator for Lines<'a> {
 }
 
 impl OrderLines {
-    /// No lines. It takes no memory.
+    /// No lines. Does not allocate.
     pub fn new(alloc: Global) -> OrderLines
         ensures { result ≡ [] }
     {
@@ -126,7 +127,7 @@ impl OrderLines {
         }
     }
 
-    /// How many lines there are.
+    /// The number of lines.
     pub fn len(&self) -> usize
         ensures len { result ≡ length self.now }
         ensures ordered { IsStrictlySortedBy line_cmp (keys_of self.now) }
@@ -134,7 +135,7 @@ impl OrderLines {
         self.count
     }
 
-    /// The same lines. Want of memory leaves nothing behind.
+    /// Returns equal lines, or `NoMemory` if an allocation fails; the partial copy is dropped then.
     pub fn try_clone(&self) -> Result<OrderLines, NoMemory>
         ensures { IfOk result (λ copy. copy ≡ self.now) }
     {
@@ -145,28 +146,30 @@ impl OrderLines {
         })
     }
 
-    /// The line, `None` where it is not there.
+    /// The line, or `None` if there is none.
     pub fn get(&self, key: OrderLineKey) -> Option<&OrderLine>
         ensures { option_copied result ≡ table.get (line_table self.now) key }
     {
         self.orders.get(&key.order())?.get(key.number)
     }
 
-    /// Puts a line at the key. An error changes nothing.
+    /// Stores a line at the key. Returns `NoMemory` if an allocation fails or 2^63 - 1 lines are
+    /// stored; nothing has changed then.
     #[inline]
     pub fn insert(&mut self, key: OrderLineKey, row: OrderLine) -> Result<(), NoMemory>
         ensures ok { OnOk result (self.new ≡ insert_entry line_cmp self.old key row) }
         ensures err { OnErr result (self.new ≡ self.old) }
         ensures ordered { IsStrictlySortedBy line_cmp (keys_of self.old) }
     {
-        // For its contract: the lines stand in order, before and after.
+        // Called for its postcondition: the lines are in key order, before and after.
         let _ = self.len();
         self.put(key, row)?;
         let _ = self.len();
         Ok(())
     }
 
-    // Puts a line at the key, and gives the one that it replaces. An error changes nothing.
+    // Stores a line at the key and returns the line that it replaces. Returns `NoMemory` if an
+    // allocation fails or 2^63 - 1 lines are stored; nothing has changed then.
     #[inline]
     fn put(&mut self, key: OrderLineKey, row: OrderLine) -> Result<Option<OrderLine>, NoMemory>
         ensures was { IfOk result (λ was. was ≡ table.get (line_table self.old) key) }
@@ -183,7 +186,8 @@ impl OrderLines {
         Ok(was)
     }
 
-    // Puts back what stood at the key, in place of the line that is there. It takes no memory.
+    // Restores `was` at the key, in place of the line stored there. If `was` is `None`, the line is
+    // removed. Does not allocate.
     fn put_back(&mut self, key: OrderLineKey, was: Option<OrderLine>)
         requires { IsTrue (table.contains_key (line_table self.old) key) }
         ensures { line_table self.new ≡ put_row (line_table self.old) key was }
@@ -197,7 +201,7 @@ impl OrderLines {
         }
     }
 
-    /// All lines, by their keys.
+    /// All lines, in key order.
     pub fn entries(&self) -> Lines<'_>
         ensures rows { result ≡ self.now }
         ensures fits { length result < 2 ^ 63 }
@@ -206,7 +210,7 @@ impl OrderLines {
         Lines::of(self.orders.range(..))
     }
 
-    /// The lines of the order, by OL_NUMBER.
+    /// The lines of the order, in the order of OL_NUMBER.
     pub fn of_order(&self, order: OrderKey) -> Lines<'_>
         ensures rows { result ≡ rows_where (is_of_order order) (line_table self.now) }
         ensures fits { length result < 2 ^ 63 }
@@ -214,7 +218,7 @@ impl OrderLines {
         Lines::of(self.orders.range(order..=order))
     }
 
-    /// How many lines the order has.
+    /// The number of lines of the order.
     pub fn count_of(&self, order: OrderKey) -> usize
         ensures { result ≡ length (rows_where (is_of_order order) (line_table self.now)) }
     {
@@ -224,7 +228,7 @@ impl OrderLines {
         }
     }
 
-    /// The lines of the district's orders, by O_ID and then by OL_NUMBER.
+    /// The lines of the district's orders, in the order of O_ID and then OL_NUMBER.
     pub fn of_district(&self, home: DistrictKey) -> Lines<'_>
         requires { EachRow (λ key _. is_order_id key.o_id) (line_table self.now) }
         ensures rows { result ≡ rows_where (λ key. is_of_district home (order_of_line key)) (line_table self.now) }
@@ -236,8 +240,8 @@ impl OrderLines {
         )
     }
 
-    /// The lines of the district's orders numbered from `from` up to, but without, `to`: by O_ID and then
-    /// by OL_NUMBER.
+    /// The lines of the district's orders with `from` <= O_ID < `to`, in the order of O_ID and then
+    /// OL_NUMBER.
     pub fn in_span(&self, home: DistrictKey, from: u32, to: u32) -> Lines<'_>
         ensures rows { result ≡ rows_where (is_in_span home from to) (line_table self.now) }
         ensures fits { length result < 2 ^ 63 }
@@ -263,7 +267,8 @@ impl OrderLines {
         true
     }
 
-    /// The line's row, if it is there, gets this moment of its delivery, or none. It takes no memory.
+    /// Sets the delivery moment of the line, if there is one, to `moment`, which may be `None`. Does
+    /// not allocate.
     pub fn set_delivery(&mut self, key: OrderLineKey, moment: Option<Moment>)
         ensures { (q : OrderLineKey) → table.get (line_table self.new) q
             ≡ option_map (λ row. if eq_by_cmp line_cmp q key then record row { delivery_d = moment } else row) (table.get (line_table self.old) q) }
@@ -271,7 +276,9 @@ impl OrderLines {
         set_delivery(&mut self.orders, key, moment);
     }
 
-    /// Moves the lines of others here. After an error some are left out.
+    /// Moves the lines of `others` here. At a key that both have, the line of `others` replaces the
+    /// line here. Returns `NoMemory` if an allocation fails or there would be more than 2^63 - 1 lines;
+    /// some lines of `others` are missing then.
     pub fn append(&mut self, others: OrderLines) -> Result<(), NoMemory>
         ensures { OnOk result ((key : OrderLineKey) → table.get (line_table self.new) key
             ≡ option_or (table.get (line_table others) key) (table.get (line_table self.old) key)) }
@@ -283,7 +290,7 @@ impl OrderLines {
         Ok(())
     }
 
-    // Moves the lines of an order here. After an error some are left out.
+    // Moves the lines of an order here. After an error, some of them are missing.
     fn take(&mut self, order: OrderKey, lines: Numbered) -> Result<(), NoMemory>
         ensures { OnOk result ((key : OrderLineKey) → table.get (line_table self.new) key
             ≡ option_or (table.get (line_table (with_keys order lines)) key) (table.get (line_table self.old) key)) }
@@ -294,7 +301,7 @@ impl OrderLines {
         put_order(&mut self.orders, &mut self.count, order, lines)
     }
 
-    // Puts lines of an order, one by one. After an error some are left out.
+    // Stores lines of an order, one by one. After an error, some of them are missing.
     fn put_all(&mut self, order: OrderKey, rows: Vec<(u32, OrderLine)>) -> Result<(), NoMemory>
         ensures { OnOk result ((key : OrderLineKey) → table.get (line_table self.new) key
             ≡ option_or (table.get (line_table (with_keys order rows.items)) key) (table.get (line_table self.old) key)) }
@@ -306,7 +313,8 @@ impl OrderLines {
         Ok(())
     }
 
-    /// Takes the lines of the warehouses from this one on away, and gives them. After an error some may be lost.
+    /// Removes the lines of the warehouses from `warehouse` on and returns them. Returns `NoMemory` if
+    /// an allocation fails; some lines may be lost then.
     pub fn split_off(&mut self, warehouse: u32) -> Result<OrderLines, NoMemory>
         ensures from { IfOk result (λ later. later ≡ filter (λ e. nat_le warehouse e.0.w_id) self.old) }
         ensures below { OnOk result (self.new ≡ filter (λ e. nat_lt e.0.w_id warehouse) self.old) }
@@ -326,7 +334,9 @@ impl OrderLines {
         })
     }
 
-    // Adds the order's lines at the numbers from 1, and gives what stood there. An error changes no line.
+    // Adds the order's lines, numbered from 1, and returns the lines that they replace. Returns
+    // `NoMemory` if an allocation fails or there would be more than 2^63 - 1 lines; no line has changed
+    // then.
     pub(crate) fn add(
         &mut self,
         order: OrderKey,
@@ -349,7 +359,7 @@ impl OrderLines {
         Ok(were)
     }
 
-    // The same one by one, the last first, with what stood there at the end of `were`.
+    // The same, one line at a time, the last one first. Appends the replaced lines to `were`.
     fn add_each(
         &mut self,
         order: OrderKey,
@@ -371,7 +381,7 @@ impl OrderLines {
         match self.add_each(order, rows, were) {
             Ok(()) => match were.push(was) {
                 Ok(()) => Ok(()),
-                // There is room for it.
+                // The precondition `room` excludes this case.
                 Err(_) => Err(NoMemory),
             },
             Err(_) => {
@@ -381,7 +391,8 @@ impl OrderLines {
         }
     }
 
-    // Puts back what stood at the order's lines, numbered from 1, the last first. It takes no memory.
+    // Restores the lines that were replaced at the order's numbers from 1, the last one first. Does not
+    // allocate.
     pub(crate) fn take_back(&mut self, order: OrderKey, were: Vec<Option<OrderLine>>)
         requires few { length were.items ≤ 15 }
         requires there { (n : ℕ) → n < length were.items → IsTrue (table.contains_key (line_table self.old) (line_key order (1 + n))) }
@@ -394,7 +405,7 @@ impl OrderLines {
         }
     }
 
-    // The order's lines get the moment of their delivery. It takes no memory.
+    // Sets the delivery moment of the order's lines. Does not allocate.
     pub(crate) fn deliver(&mut self, order: OrderKey, moment: Moment)
         ensures { line_table self.new ≡ map_rows (with_moment order moment) (line_table self.old) }
     {
@@ -402,7 +413,8 @@ impl OrderLines {
     }
 }
 
-// Puts a line under its order, and gives the one that it replaces. An error changes nothing.
+// Stores a line under its order and returns the line that it replaces. After an error, nothing has
+// changed.
 fn put(
     alloc: Global,
     orders: &mut BTreeMap<OrderKey, Numbered>,
@@ -418,7 +430,7 @@ fn put(
     ensures ordered { IsOrdered order_cmp orders.new }
 {
     let order = key.order();
-    // Lines come mostly in the order of their keys.
+    // Lines mostly arrive in key order, so the last order is compared first.
     match against_last(orders, order) {
         Ordering::Less => {
             if let Some(lines) = orders.get_mut(&order) {
@@ -431,7 +443,7 @@ fn put(
     }
 }
 
-// Where the order stands against the last of these; greater where there is none.
+// Compares the order with the last of these; `Greater` if there are none.
 fn against_last(orders: &BTreeMap<OrderKey, Numbered>, order: OrderKey) -> Ordering
     ensures last { result ≡ Ordering.Equal → IsLast order orders.now }
     ensures behind { result ≡ Ordering.Greater → HasNone order orders.now }
@@ -442,7 +454,7 @@ fn against_last(orders: &BTreeMap<OrderKey, Numbered>, order: OrderKey) -> Order
     }
 }
 
-// Puts a line under its order, which is the last of these, as `put` does.
+// As `put`, for a line whose order is the last of these.
 fn put_in_last(
     orders: &mut BTreeMap<OrderKey, Numbered>,
     key: OrderLineKey,
@@ -458,12 +470,12 @@ fn put_in_last(
 {
     match orders.last_entry() {
         Some(last) => last.into_mut().put(key.number, row),
-        // There is one.
+        // The precondition `last` excludes this case.
         None => Err(NoMemory),
     }
 }
 
-// Puts the first line of an order that is none of these, as `put` does.
+// As `put`, for the first line of an order that is not among these.
 fn put_first(
     alloc: Global,
     orders: &mut BTreeMap<OrderKey, Numbered>,
@@ -487,7 +499,7 @@ fn put_first(
     }
 }
 
-// So many places where no row stood.
+// A vector of `count` times `None`.
 fn no_rows(alloc: Global, count: usize) -> Result<Vec<Option<OrderLine>>, NoMemory>
     ensures { IfOk result (λ rows. rows.items ≡ replicate count None) }
 {
@@ -498,7 +510,7 @@ fn no_rows(alloc: Global, count: usize) -> Result<Vec<Option<OrderLine>>, NoMemo
     Ok(rows)
 }
 
-// Puts the lines of an order that has none, and counts them. An error changes no line.
+// Stores the lines of an order that has none, and counts them. After an error, no line has changed.
 fn put_order(
     orders: &mut BTreeMap<OrderKey, Numbered>,
     count: &mut usize,
@@ -521,7 +533,8 @@ fn put_order(
     Ok(())
 }
 
-// Puts back what stood at the key, in place of the line that is there. It takes no memory.
+// Restores `was` at the key, in place of the line stored there. If `was` is `None`, the line is
+// removed. Does not allocate.
 fn put_back(orders: &mut BTreeMap<OrderKey, Numbered>, key: OrderLineKey, was: Option<OrderLine>)
     requires there { IsTrue (table.contains_key (line_table (all_lines orders.old.entries)) key) }
     requires numbered { AreNumbered orders.old.entries }
@@ -534,7 +547,7 @@ fn put_back(orders: &mut BTreeMap<OrderKey, Numbered>, key: OrderLineKey, was: O
     }
 }
 
-// The line's row, if it is there, gets the moment, or none.
+// Sets the delivery moment of the line, if there is one, to `moment`, which may be `None`.
 fn set_delivery(
     orders: &mut BTreeMap<OrderKey, Numbered>,
     key: OrderLineKey,
@@ -552,7 +565,7 @@ fn set_delivery(
     }
 }
 
-// The order's lines get the moment of their delivery.
+// Sets the delivery moment of the order's lines.
 fn deliver(orders: &mut BTreeMap<OrderKey, Numbered>, order: OrderKey, moment: Moment)
     requires { AreNumbered orders.old.entries }
     ensures rows { line_table (all_lines orders.new.entries) ≡ map_rows (with_moment order moment) (line_table (all_lines orders.old.entries)) }
@@ -565,7 +578,7 @@ fn deliver(orders: &mut BTreeMap<OrderKey, Numbered>, order: OrderKey, moment: M
     }
 }
 
-// How many lines these orders have.
+// The number of lines of these orders.
 fn count_lines(orders: &BTreeMap<OrderKey, Numbered>) -> usize
     requires { length (all_lines orders.now.entries) < 2 ^ 63 }
     ensures { result ≡ length (all_lines orders.now.entries) }

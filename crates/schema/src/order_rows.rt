@@ -1,4 +1,4 @@
-//! What changes orders, over the rows of three tables: of all tables, or of one warehouse.
+//! Functions that change orders. They work on the rows of three tables, of all warehouses or of one.
 ghost use Rattle.std.specs.Prelude.{◌≡◌, ◌+◌, ◌<◌, ◌≤◌, ℕ, Some, map, length, IsTrue, IfOk, OnOk, OnErr, if◌then◌else◌};
 ghost use Rattle.std.specs.Option.{option_map};
 ghost use Rattle.std.specs.Ordering.{eq_by_cmp};
@@ -16,8 +16,8 @@ use crate::row_writes::{put, put_back, remove};
 use rows::{CarrierId, DistrictKey, Moment, NewOrder, Order, OrderKey, OrderLine};
 use std::collections::BTreeMap;
 
-/// What stood in the places of an order that was added, to be put back where it is taken back. In consistent tables
-/// nothing did.
+/// The rows that an added order replaced, to be restored when the order is taken back. In consistent
+/// tables there are none.
 #[derive(Drop)]
 pub struct Replaced {
     pub order: Option<Order>,
@@ -26,8 +26,8 @@ pub struct Replaced {
     pub lines: Vec<Option<OrderLine>>,
 }
 
-/// Adds an order, its row of NEW-ORDER and its lines, which are numbered from 1, and gives what stood in their places.
-/// Want of memory changes nothing.
+/// Adds an order, its row of NEW-ORDER and its lines, numbered from 1, and returns the rows that they
+/// replace. Returns `NoMemory` if an allocation fails; the tables are unchanged then.
 pub fn add_order_rows(
     orders: &mut BTreeMap<OrderKey, Order>,
     new_orders: &mut BTreeMap<OrderKey, NewOrder>,
@@ -69,8 +69,8 @@ pub fn add_order_rows(
     }
 }
 
-/// Takes an order back that was added: what stood in the places of its rows is put back, or nothing where nothing
-/// stood. It takes no memory.
+/// Takes back an order that was added: restores the rows that it replaced, and removes its rows where
+/// it replaced none. Does not allocate.
 pub fn take_back_order_rows(
     orders: &mut BTreeMap<OrderKey, Order>,
     new_orders: &mut BTreeMap<OrderKey, NewOrder>,
@@ -90,7 +90,7 @@ pub fn take_back_order_rows(
     take_back_order_and_lines(orders, lines, key, replaced);
 }
 
-/// As `take_back_order_rows`, but for the row of NEW-ORDER.
+/// As `take_back_order_rows`, but leaves NEW-ORDER unchanged.
 pub fn take_back_order_and_lines(
     orders: &mut BTreeMap<OrderKey, Order>,
     lines: &mut OrderLines,
@@ -107,12 +107,14 @@ pub fn take_back_order_and_lines(
     lines.take_back(key, replaced.lines);
 }
 
-/// A law, proved and of no effect: an order that was added and is taken back leaves no trace.
+/// A law (proved, no effect at run time): adding an order and taking it back leaves the tables
+/// unchanged.
 pub fn taken_back_order_is_as_before()
     ensures { TakenBackOrderIsAsBefore }
 {}
 
-/// Delivers an order: it is new no more, it gets the carrier, and its lines get the moment. It takes no memory.
+/// Delivers an order: deletes its row of NEW-ORDER, sets its carrier, and sets the delivery moment of
+/// its lines. Does not allocate.
 pub fn deliver_order_rows(
     orders: &mut BTreeMap<OrderKey, Order>,
     new_orders: &mut BTreeMap<OrderKey, NewOrder>,
@@ -131,7 +133,8 @@ pub fn deliver_order_rows(
     lines.deliver(key, moment);
 }
 
-/// The number of the district's oldest new order, where it has one: the first in the order of the keys.
+/// The number of the district's oldest new order, or `None` if it has none. It is the first of the
+/// district in key order.
 pub fn oldest_number(new_orders: &BTreeMap<OrderKey, NewOrder>, home: DistrictKey) -> Option<u32>
     requires { EachRow (λ key _. is_order_id key.o_id) (table_of order_cmp new_orders.now) }
     ensures { result ≡ smallest (numbers (rows_where (is_of_district home) (table_of order_cmp new_orders.now))) }
@@ -150,7 +153,7 @@ pub fn oldest_number(new_orders: &BTreeMap<OrderKey, NewOrder>, home: DistrictKe
     Some(key.o_id)
 }
 
-// The order's row, if it is there, gets the carrier.
+// Sets the carrier of the order, if there is one.
 fn set_carrier(orders: &mut BTreeMap<OrderKey, Order>, key: OrderKey, carrier: CarrierId)
     ensures { (q : OrderKey) → table.get (table_of order_cmp orders.new) q
         ≡ option_map (λ row. if eq_by_cmp order_cmp q key then carried_by carrier row else row) (table.get (table_of order_cmp orders.old) q) }

@@ -11,7 +11,7 @@ use crate::{HistoryList, OrderLines, Scale};
 use rows::{CustomerKey, NewOrder, Order, OrderKey};
 use std::collections::BTreeMap;
 
-/// Whether every payment names a customer of the scale.
+/// Whether every payment refers to a customer of the scale.
 pub fn name_payers_customers(histories: &[HistoryList], scale: Scale) -> bool
     ensures { result ≡ list_all (are_payers_known scale) histories.now }
 {
@@ -28,7 +28,7 @@ pub fn are_orders_numbered(orders: &BTreeMap<OrderKey, Order>) -> bool
         .all(|(key, _)| (1..=9_999_999).contains(&key.o_id))
 }
 
-/// Whether every order names a customer of the scale.
+/// Whether every order refers to a customer of the scale.
 pub fn have_orders_customers(orders: &BTreeMap<OrderKey, Order>, scale: Scale) -> bool
     ensures each { result ≡ list_all (λ e. has_customer scale (customer_of_order e.0 e.1)) orders.now.entries }
     ensures ordered { IsOrdered order_cmp orders.now }
@@ -42,7 +42,7 @@ pub fn have_orders_customers(orders: &BTreeMap<OrderKey, Order>, scale: Scale) -
     })
 }
 
-/// Whether every new order is an order.
+/// Whether every row of NEW-ORDER has its row of ORDER.
 pub fn have_new_orders_orders(
     new_orders: &BTreeMap<OrderKey, NewOrder>,
     orders: &BTreeMap<OrderKey, Order>,
@@ -53,7 +53,7 @@ pub fn have_new_orders_orders(
     new_orders.iter().all(|(key, _)| orders.contains_key(key))
 }
 
-/// Which rules all lines keep.
+/// Which rules hold for all lines.
 #[derive(Clone, Copy, Debug)]
 pub struct LineRules {
     /// Every OL_NUMBER is in its range.
@@ -64,7 +64,7 @@ pub struct LineRules {
     pub have_suppliers: bool,
 }
 
-/// Reads the lines once, for all rules but that on their orders.
+/// Checks the rules on lines in one pass, except the rule that every line has its order.
 pub fn line_rules(lines: &OrderLines, scale: Scale) -> LineRules
     ensures numbered { result.are_numbered ≡ list_all (λ e. is_line_number e.0.number) lines.now }
     ensures items { result.have_items ≡ list_all (λ e. has_item scale e.1.i_id) lines.now }

@@ -1,4 +1,4 @@
-//! Writes of one row into an ordered map, said of the finite map that it is.
+//! Writes of one row into an ordered map. The contracts are about the finite map that it represents.
 ghost use Rattle.std.specs.Prelude.{◌≡◌, IsTrue, IfOk, OnOk, OnErr};
 ghost use Rattle.std.specs.FinMap as table;
 ghost use Rattle.std.specs.FinMap.{IsAntisymmetric};
@@ -7,7 +7,8 @@ ghost use Rattle.schema.specs.MapRows.{table_of, put_row};
 use crate::NoMemory;
 use std::collections::BTreeMap;
 
-/// Puts a row at the key, and gives the one that it replaces. An error changes nothing.
+/// Stores a row at the key and returns the row that it replaces. Returns `NoMemory` if an allocation
+/// fails; nothing has changed then.
 pub fn put<K: Ord + Drop, X: Drop>(
     rows: &mut BTreeMap<K, X>,
     key: K,
@@ -24,7 +25,8 @@ pub fn put<K: Ord + Drop, X: Drop>(
     }
 }
 
-/// Puts back what stood at the key, in place of the row that is there. It takes no memory.
+/// Restores `was` at the key, in place of the row stored there. If `was` is `None`, the row is removed.
+/// Does not allocate.
 pub(crate) fn put_back<K: Ord + Drop, X: Drop>(rows: &mut BTreeMap<K, X>, key: K, was: Option<X>)
     requires exact { IsAntisymmetric K.cmp }
     requires there { IsTrue (table.contains_key (table_of K.cmp rows.old) key) }
@@ -33,7 +35,7 @@ pub(crate) fn put_back<K: Ord + Drop, X: Drop>(rows: &mut BTreeMap<K, X>, key: K
     match was {
         Some(row) => match rows.insert(key, row) {
             Ok(_) => {}
-            // Only a new key can want memory.
+            // Only a new key needs an allocation.
             Err(_) => {}
         },
         None => {
@@ -42,7 +44,7 @@ pub(crate) fn put_back<K: Ord + Drop, X: Drop>(rows: &mut BTreeMap<K, X>, key: K
     }
 }
 
-/// Removes the row at the key, if there is one. It takes no memory.
+/// Removes the row at the key, if there is one. Does not allocate.
 pub fn remove<K: Ord + Drop, X: Drop>(rows: &mut BTreeMap<K, X>, key: K)
     requires { IsAntisymmetric K.cmp }
     ensures { table_of K.cmp rows.new ≡ table.remove (table_of K.cmp rows.old) key }

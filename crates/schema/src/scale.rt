@@ -3,15 +3,15 @@ ghost use Rattle.schema.specs.Limits.{IsScale};
 
 use rows::{CustomerKey, DistrictKey, StockKey};
 
-/// How many rows the tables of fixed size have (clause 1.2.1, with smaller scales allowed). Each
+/// The number of rows of the tables of fixed size (clause 1.2.1; smaller scales are allowed). Each
 /// warehouse has ten districts.
 #[derive(Clone, Copy, Debug, PartialEq, Eq)]
 pub struct Scale {
-    /// 1 to 64.
+    /// Number of warehouses, 1 to 64.
     pub warehouses: u32,
-    /// 1 to 100,000.
+    /// Number of items, 1 to 100,000.
     pub items: u32,
-    /// In each district, 1 to 3,000.
+    /// Number of customers in each district, 1 to 3,000.
     pub customers: u32,
     pub ghost limits: { IsScale warehouses items customers },
 }
@@ -21,7 +21,7 @@ impl Scale {
     ghost use Rattle.schema.specs.Limits.{IsScale};
     ghost use Rattle.schema.specs.Scale.{has_item, has_warehouse, has_district, has_stock, has_customer, item_slot, warehouse_slot, district_slot, stock_slot, customer_slot};
 
-    /// The scale of these numbers, or `None` where one is out of its limits.
+    /// A scale with these numbers, or `None` if one is out of its limits.
     pub fn checked_new(warehouses: u32, items: u32, customers: u32) -> Option<Scale>
         ensures fits { IsSome result ↔ IsScale warehouses items customers }
         ensures warehouses { IfSome result (λ scale. scale.warehouses ≡ warehouses) }
@@ -75,8 +75,9 @@ impl Scale {
         self.has_district(key.district()) && (1..=self.customers).contains(&key.c_id)
     }
 
-    /// The place of the item's row among the rows of ITEM in order, from 0; `None` where the scale
-    /// has no such item. So for the other tables whose keys are those of the scale.
+    /// The index of the item's row among the rows of ITEM in key order, from 0; `None` if the scale has
+    /// no such item. The other `_slot` functions do the same for the other tables whose keys are those
+    /// of the scale.
     pub fn item_slot(self, item: u32) -> Option<usize>
         ensures { result ≡ item_slot self item }
     {

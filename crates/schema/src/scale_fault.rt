@@ -1,6 +1,6 @@
 use thiserror::Error;
 
-/// Which rule of the scale rows break.
+/// The rule of the scale that rows break.
 #[derive(Clone, Copy, Debug, Drop, Error, PartialEq, Eq)]
 pub enum ScaleFault {
     #[error("ITEM has a row missing or too many")]

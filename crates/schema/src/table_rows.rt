@@ -10,8 +10,8 @@ use rows::{Customer, District, Item, NewOrder, Order, OrderKey, Stock, Warehouse
 use std::alloc::Global;
 use std::collections::BTreeMap;
 
-/// The rows of the nine tables, as they come and go. Those of six tables, whose keys are exactly the
-/// scale's, stand in ascending order of their keys, without them.
+/// The rows of the nine tables, not checked against a scale. The rows of the six tables whose keys are
+/// exactly the scale's are in ascending key order, without their keys.
 #[derive(Drop)]
 pub struct TableRows {
     /// By I_ID.
@@ -32,7 +32,7 @@ pub struct TableRows {
 }
 
 impl TableRows {
-    /// No rows. It takes no memory.
+    /// No rows. Does not allocate.
     pub fn new(alloc: Global) -> Self
         ensures { AreNoRows result }
     {
@@ -49,7 +49,7 @@ impl TableRows {
         }
     }
 
-    /// Equal rows.
+    /// Returns equal rows, or `NoMemory` if an allocation fails.
     pub fn try_clone(&self) -> Result<TableRows, NoMemory>
         ensures { IfOk result (AreSameRows self.now) }
     {
@@ -66,7 +66,7 @@ impl TableRows {
         })
     }
 
-    /// A rule of the scale that the rows break, `None` where they make tables within the scale.
+    /// A rule of the scale that the rows break, or `None` if they form tables within the scale.
     pub fn fault(&self, scale: Scale) -> Option<ScaleFault>
         ensures { MatchOption result (FitsScale scale self.now) (λ fault. Breaks fault scale self.now) }
     {
@@ -76,7 +76,7 @@ impl TableRows {
         }
     }
 
-    // Which of the six tables has a row missing or too many.
+    // Returns a fault if one of the six tables has too few or too many rows.
     fn count_fault(&self, scale: Scale) -> Option<ScaleFault>
         ensures { MatchOption result (HasCounts scale self.now) (λ fault. Breaks fault scale self.now) }
     {
@@ -104,7 +104,8 @@ impl TableRows {
         None
     }
 
-    // Which rows refer to one that isn't there, or have a number out of its range in their keys.
+    // Returns a fault if a row refers to a row that does not exist, or if a number in a key is out of
+    // its range.
     fn reference_fault(&self, scale: Scale) -> Option<ScaleFault>
         requires { HasCounts scale self.now }
         ensures { MatchOption result (FitsScale scale self.now) (λ fault. Breaks fault scale self.now) }

@@ -19,7 +19,7 @@ use rows::{
 use std::marker::Model;
 use std::mem;
 
-/// The nine tables, within their scale: seen as nine finite maps from keys to rows.
+/// The nine tables, within their scale. The model is the scale and nine finite maps from keys to rows.
 #[derive(Drop)]
 pub struct Tables {
     scale: Scale,
@@ -82,8 +82,8 @@ impl Model for Tables {
 }
 
 impl Tables {
-    /// The tables of these rows. `Err` is a rule of the scale that the rows break, and comes exactly
-    /// where they are no tables within the scale. It takes no memory.
+    /// Makes tables of these rows. Returns `Err` exactly if the rows do not fit the scale, with a rule
+    /// that they break. Does not allocate.
     pub fn checked(scale: Scale, rows: TableRows) -> Result<Tables, ScaleFault>
         ensures made { IfOk result (λ tables. tables ≡ database scale rows) }
         ensures fits { IsOk result ↔ FitsScale scale rows }
@@ -95,7 +95,8 @@ impl Tables {
         }
     }
 
-    /// The tables of rows that are known to fit the scale. It takes no memory and looks at no row.
+    /// Makes tables of these rows. The caller ensures that they fit the scale. Does not allocate and
+    /// reads no row.
     pub fn from_fitting(scale: Scale, rows: TableRows) -> Tables
         requires { FitsScale scale rows }
         ensures { result ≡ database scale rows }
@@ -103,7 +104,7 @@ impl Tables {
         Tables { scale, rows }
     }
 
-    /// The rows again, in the order in which `checked` takes them. It takes no memory.
+    /// The scale and the rows, in the order in which `checked` takes them. Does not allocate.
     pub fn into_rows(self) -> (Scale, TableRows)
         ensures same { database result.0 result.1 ≡ self }
         ensures fits { FitsScale result.0 result.1 }
@@ -119,7 +120,7 @@ impl Tables {
         &self.rows
     }
 
-    /// Equal tables.
+    /// Returns equal tables, or `NoMemory` if an allocation fails.
     pub fn try_clone(&self) -> Result<Tables, NoMemory>
         ensures { IfOk result (λ copy. copy ≡ self.now) }
     {
@@ -138,7 +139,8 @@ impl Tables {
         self.scale
     }
 
-    /// The row of the item, `None` where there is none. So for the other tables.
+    /// The row of the item, or `None` if there is none. The look-ups below do the same for their
+    /// tables.
     pub fn item(&self, item: u32) -> Option<&Item>
         ensures { option_copied result ≡ map.get self.now.items item }
     {
@@ -171,7 +173,7 @@ impl Tables {
         self.rows.customers.get(self.scale.customer_slot(key)?)
     }
 
-    /// The payments of the district, the oldest first.
+    /// The payments of the district, oldest first.
     pub fn history(&self, key: DistrictKey) -> Option<&[History]>
         ensures { option_copied result ≡ map.get self.now.histories key }
     {
@@ -201,7 +203,7 @@ impl Tables {
         self.rows.lines.get(key)
     }
 
-    /// All orders, by their keys.
+    /// All orders, in key order.
     pub fn orders(&self) -> Orders<'_>
         ensures rows { result ≡ map.entries self.now.orders }
         ensures fits { length result < 2 ^ 63 }
@@ -209,7 +211,7 @@ impl Tables {
         Entries::of_map(self.rows.orders.range(..))
     }
 
-    /// All new orders, by their keys.
+    /// All new orders, in key order.
     pub fn new_orders(&self) -> NewOrders<'_>
         ensures rows { result ≡ map.entries self.now.new_orders }
         ensures fits { length result < 2 ^ 63 }
@@ -217,7 +219,7 @@ impl Tables {
         Entries::of_map(self.rows.new_orders.range(..))
     }
 
-    /// All lines, by their keys.
+    /// All lines, in key order.
     pub fn lines(&self) -> Lines<'_>
         ensures rows { result ≡ map.entries self.now.lines }
         ensures fits { length result < 2 ^ 63 }
@@ -225,7 +227,7 @@ impl Tables {
         self.rows.lines.entries()
     }
 
-    /// The orders of the district, by O_ID.
+    /// The orders of the district, in the order of O_ID.
     pub fn orders_of(&self, home: DistrictKey) -> Orders<'_>
         ensures rows { result ≡ rows_where (is_of_district home) self.now.orders }
         ensures few { length result ≤ 9999999 }
@@ -233,7 +235,7 @@ impl Tables {
         Entries::of_map(self.rows.orders.range(first_order(home)..=last_order(home)))
     }
 
-    /// The new orders of the district, by NO_O_ID.
+    /// The new orders of the district, in the order of NO_O_ID.
     pub fn new_orders_of(&self, home: DistrictKey) -> NewOrders<'_>
         ensures rows { result ≡ rows_where (is_of_district home) self.now.new_orders }
         ensures fits { length result < 2 ^ 63 }
@@ -245,7 +247,7 @@ impl Tables {
         )
     }
 
-    /// The lines of the order, by OL_NUMBER.
+    /// The lines of the order, in the order of OL_NUMBER.
     pub fn lines_of(&self, order: OrderKey) -> Lines<'_>
         ensures rows { result ≡ rows_where (is_of_order order) self.now.lines }
         ensures fits { length result < 2 ^ 63 }
@@ -253,14 +255,14 @@ impl Tables {
         self.rows.lines.of_order(order)
     }
 
-    /// How many lines the order has.
+    /// The number of lines of the order.
     pub fn line_count(&self, order: OrderKey) -> usize
         ensures { result ≡ length (rows_where (is_of_order order) self.now.lines) }
     {
         self.rows.lines.count_of(order)
     }
 
-    /// The lines of the district's orders, by O_ID and then by OL_NUMBER.
+    /// The lines of the district's orders, in the order of O_ID and then OL_NUMBER.
     pub fn lines_of_district(&self, home: DistrictKey) -> Lines<'_>
         ensures rows { result ≡ rows_where (λ key. is_of_district home (order_of_line key)) self.now.lines }
         ensures fits { length result < 2 ^ 63 }
@@ -268,14 +270,15 @@ impl Tables {
         self.rows.lines.of_district(home)
     }
 
-    /// The number of the district's oldest new order, `None` where it has none (clause 2.7.4.2). It reads one row.
+    /// The number of the district's oldest new order, or `None` if it has none (clause 2.7.4.2). Reads
+    /// one row.
     pub fn oldest_new_order(&self, home: DistrictKey) -> Option<u32>
         ensures { result ≡ oldest_new_order self.now home }
     {
         oldest_number(&self.rows.new_orders, home)
     }
 
-    /// The lines of the district's orders numbered from `from` up to, but without, `to`, by O_ID and then by
+    /// The lines of the district's orders with `from` <= O_ID < `to`, in the order of O_ID and then
     /// OL_NUMBER.
     pub fn lines_of_span(&self, home: DistrictKey, from: u32, to: u32) -> Lines<'_>
         ensures rows { result ≡ rows_where (is_in_span home from to) self.now.lines }
@@ -284,7 +287,8 @@ impl Tables {
         self.rows.lines.in_span(home, from, to)
     }
 
-    /// The customers of the district, by C_ID from 1; `None` where the scale has no such district.
+    /// The customers of the district, in the order of C_ID, from 1; `None` if the scale has no such
+    /// district.
     pub fn customers_of(&self, home: DistrictKey) -> Option<&[Customer]>
         ensures district { is_some result ≡ has_district self.now.scale home }
         ensures rows { IfSome result (λ rows. (c : ℕ) → slice_get rows.now c ≡ map.get self.now.customers (customer_key home (c + 1))) }
@@ -296,7 +300,8 @@ impl Tables {
             .get(slot * customers..(slot + 1) * customers)
     }
 
-    /// Puts a row in place of the warehouse's, and gives that. So for the next three tables.
+    /// Replaces the warehouse's row and returns the row that it replaces. The next three functions do
+    /// the same for their tables.
     pub fn replace_warehouse(&mut self, warehouse: u32, row: Warehouse) -> Option<Warehouse>
         requires { IsTrue (map.contains_key self.old.warehouses warehouse) }
         ensures tables { self.new ≡ record self.old { warehouses = map.insert self.old.warehouses warehouse row } }
@@ -333,7 +338,8 @@ impl Tables {
         Some(mem::replace(&mut self.rows.customers[slot], row))
     }
 
-    /// Adds a payment at the end of the district's list; an error changes nothing.
+    /// Appends a payment to the district's list. Returns `NoMemory` if an allocation fails; nothing has
+    /// changed then.
     pub fn push_history(&mut self, key: DistrictKey, row: History) -> Result<(), NoMemory>
         requires district { IsTrue (map.contains_key self.old.districts key) }
         requires payer { IsTrue (map.contains_key self.old.customers row.customer) }
@@ -346,7 +352,7 @@ impl Tables {
         }
     }
 
-    /// Takes the last payment of the district's list away, if there is one. It takes no memory.
+    /// Removes the last payment of the district's list, if there is one. Does not allocate.
     pub fn pop_history(&mut self, key: DistrictKey)
         requires { IsTrue (map.contains_key self.old.districts key) }
         ensures { self.new ≡ record self.old { histories = without_payment self.old.histories key } }
@@ -356,8 +362,9 @@ impl Tables {
         }
     }
 
-    /// Adds an order, its row of NEW-ORDER and its lines, which are numbered from 1 (clause 2.4.2.2), and gives what
-    /// stood in their places. Want of memory changes nothing.
+    /// Adds an order, its row of NEW-ORDER and its lines, numbered from 1 (clause 2.4.2.2), and returns
+    /// the rows that they replace. Returns `NoMemory` if an allocation fails; the tables are unchanged
+    /// then.
     pub fn add_order(
         &mut self,
         key: OrderKey,
@@ -382,8 +389,8 @@ impl Tables {
         )
     }
 
-    /// Takes an order back that was added: puts back what stood in the places of its rows, or nothing where nothing
-    /// stood. It takes no memory.
+    /// Takes back an order that was added: restores the rows that it replaced, and removes its rows
+    /// where it replaced none. Does not allocate.
     pub fn take_back_order(&mut self, key: OrderKey, replaced: Replaced)
         requires few { length replaced.lines.items ≤ 15 }
         requires order { IsTrue (map.contains_key self.old.orders key) }
@@ -401,8 +408,8 @@ impl Tables {
         );
     }
 
-    /// Delivers an order: it is new no more, it gets the carrier, and its lines get the moment (clause 2.7.4.2). It
-    /// takes no memory.
+    /// Delivers an order (clause 2.7.4.2): deletes its row of NEW-ORDER, sets its carrier, and sets the
+    /// delivery moment of its lines. Does not allocate.
     pub fn deliver_order(&mut self, key: OrderKey, carrier: CarrierId, moment: Moment)
         ensures { self.new ≡ with_delivery self.old key carrier moment }
     {

@@ -46,7 +46,7 @@ returns-then-left-ne5-clause-exact c = λ free.
           (λ e. no_difference w.word-else-ne.result.now (codes "1") w.ne-else-ne.result w.ne-else-ne.ensures e w.if-ne-2.true))
     ]
 
--- the record begins as a header does, and its fault is told
+-- the record begins like a header, and its fault is reported
 reported : (c : After-finish) → fault_of c.args.fields.now ≡ None → reported_header (fields_left c.args.fields.now) ≡ c.finish.result
 reported c free =
     let name = same_word c.word.result.now (codes "TPCC") c.ne.result c.ne.ensures c.if-ne.false in

@@ -44,7 +44,7 @@ returns-clause-first g c = λ text rows known csv few.
     (IfErr-weaker c.finish.result _ _ (λ error reported.
     reports_end error c.read_rows.new.loader rows end.before end.more end.end number end.loaded are end.number fault (reported end.more end.left small)) c.finish.ensures.first)
 
--- what is told of all texts says that there is a fault only where no tables have the records
+-- by what is reported of every text, there is a fault only if no tables have the records
 pub returns-in_err-scale-clause-fault : goal.returns-in_err-scale-clause-fault
 returns-in_err-scale-clause-fault g c =
     let p = err_from_is_err_and c.from_residual.result c.from_residual.ensures.1 in

@@ -14,7 +14,7 @@ use Rattle.schema.proofs.beside.Beside.of.Goals as goal
 use Rattle.schema.proofs.beside.Beside.of.Goals.{In-Some}
 use Rattle.schema.proofs.beside.Beside.of.Given.{Over}
 
--- the row that is looked at stands before the others
+-- the current row is before the others
 stands : (g : Over) (c : In-Some g) → rows_left c.loop-self.self-inside.first c.loop-self.self-inside.others ≡ (c.in-Some.at, c.in-Some.row.now) ∷ c.loop-self.self-inside.others
 stands g c = ap (λ first. rows_left first c.loop-self.self-inside.others) c.in-Some.is
 

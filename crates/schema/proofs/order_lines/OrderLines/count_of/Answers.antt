@@ -8,7 +8,7 @@ use Rattle.schema.proofs.OrderSpans.{one_order}
 use Rattle.schema.proofs.order_lines.OrderLines.count_of.Goals as goal
 use Rattle.schema.proofs.order_lines.OrderLines.count_of.Goals.{After-get}
 
--- as many as stand under the order
+-- the number of lines under the order
 many : (c : After-get) → length (own c.self.inside.orders.entries c.args.order) ≡ length (rows_where (is_of_order c.args.order) (line_table c.args.self.now))
 many c =
     let orders = c.self.inside.orders.entries in
