@@ -88,8 +88,8 @@ impl<'r> Search<'r> {
         }
     }
 
-    // Records the field at that place if it is the first that has the fault. No lesser fault comes before, since this
-    // one is the record's.
+    // Records the field at that place if it is the first that has the fault. A lesser fault can't occur, since the
+    // record's fault is its least.
     fn look(&mut self, place: usize, name: &'static str, spelling: Spelling) {
         if self.found.is_none() && self.fields.fault() == Some(self.fault) {
             self.found = Some(Found {
