@@ -28,7 +28,7 @@ AreAllAnswers log session [] rows = rows ≡ []
 AreAllAnswers log session (reported ∷ others) rows =
     (these : List (List (List ℕ))) × (rest : List (List (List ℕ))) × AreAnswers log session reported these × AreAllAnswers log (session + 1) others rest × (rows ≡ these ++ rest)
 
--- the records of some first answers: all of some first sessions, and some first ones of the next session
+-- the records of a prefix of the answers: all answers of a prefix of the sessions, and a prefix of those of the next session
 abbrev pub BeginAllAnswers : List Entry → ℕ → List (List (Result ℕ Refusal)) → List (List (List ℕ)) → Type 0
 BeginAllAnswers log session [] rows = rows ≡ []
 BeginAllAnswers log session (reported ∷ others) rows =

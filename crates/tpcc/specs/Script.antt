@@ -56,7 +56,7 @@ module _ {F : Type 0} (contents : F → Option (List ℕ)) where
   NamesScripts workload session (file ∷ files) named named' =
       (between : Option (List (Option (List ℕ)))) × NamesFile contents (Some file) named between (AreDrawn workload session) × NamesScripts workload (session + 1) files between named'
 
-  -- some first files have got their names with their scripts, and those behind them have not
+  -- a prefix of the files have got their names, each with its script, and the others have not
   abbrev pub NamesFirstScripts : Workload → List F → Option (List (Option (List ℕ))) → Option (List (Option (List ℕ))) → Type 0
   NamesFirstScripts workload files named named' =
       (first : List F) × (others : List F) × (files ≡ first ++ others) × NamesScripts workload 0 first named named'
@@ -68,7 +68,7 @@ module _ {F : Type 0} (contents : F → Option (List ℕ)) where
         (scale : Scale) × GivesScale «data» scale × (workload : Workload) × IsWorkload settings scale workload
         × NamesScripts workload 0 files named named'
 
-    -- no file has got a name; or some first files have, with their scripts
+    -- no file has got a name; or a prefix of the files have, each with its script
     abbrev pub MakesSome : Type 0
     MakesSome =
         (named' ≡ named)
@@ -76,8 +76,8 @@ module _ {F : Type 0} (contents : F → Option (List ℕ)) where
         × NamesFirstScripts workload files named named')
 
   module _ (settings : ScriptSettings) («data» : Option (List ℕ)) (lasts : Type 0) (files : List F) (named named' : Option (List (Option (List ℕ)))) where
-    -- By the exit status. Success: all files have their names, and no fault was reported. Otherwise at most some first files have, and a fault
-    -- was reported.
+    -- By the exit status. Success: all files have their names, and no fault was reported. Otherwise at most a prefix of the files have, and a
+    -- fault was reported.
     abbrev pub ScriptEnds : Option (List CommandFault) → Option (List CommandFault) → Status → Type 0
     ScriptEnds reported told' status.Success = MakesAll settings «data» files named named' × (told' ≡ reported)
     ScriptEnds reported told' ended = MakesSome settings «data» files named named' × EndsEarly (IsOfMaking settings «data» lasts) reported told' ended

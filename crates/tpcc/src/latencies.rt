@@ -41,7 +41,7 @@ impl Latencies {
         }
     }
 
-    /// Records the moment when a request ended, in nanoseconds. It took 1 nanosecond at least.
+    /// Records the moment when a request ended, in nanoseconds. The recorded time is at least 1 nanosecond.
     pub fn end(&self, session: u32, number: u32, moment: u64) {
         if let Some(time) = self.time(session, number) {
             let began = time.load(Ordering::SeqCst);

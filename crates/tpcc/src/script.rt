@@ -18,7 +18,7 @@ use workload::{Workload, draw_script};
 
 /// Draws a script for each session, at the scale in the header of `data`, writes them one after the other to `files`,
 /// each of which then gets its name on `output_files`, and returns the exit status. A fault is reported to `errors`: of
-/// a file, a home warehouse that is not in the scale, or out of memory. Some first files may have their names then.
+/// a file, a home warehouse that is not in the scale, or out of memory. A prefix of the files may have their names then.
 pub fn script_over<D: Input + Drop, T: Write + Drop, N: OutputFiles<T>, E: Report>(
     alloc: Global,
     settings: &ScriptSettings,

@@ -30,7 +30,7 @@ use world::{GatherFault, OpenFault, Simulation, simulate};
 ///
 /// Input: `data` is read first, then the schedule. The first fault ends the command, and nothing is run.
 ///
-/// Output: the log is written to `log` and brought to the disk; the records of all events are printed to `reported`;
+/// Output: the log is written to `log` and brought to the disk; the records of all outputs are printed to `reported`;
 /// the log gets its name on `output_files`; the picture of the schedule and its outputs is written to `picture` and
 /// gets its name; the tables are written to `tables` and get theirs. There are no tables if a transaction is active or
 /// a move outstanding at the end, or if an allocation for them fails; that is a fault only if tables are asked for.

@@ -186,7 +186,7 @@ fn named<'a, F: Write + Drop, N: OutputFiles<F>>(
     }
 }
 
-/// Gives the log its name, if there is one, if everything was printed (`printed` is `Ok`). Otherwise leaves the log
+/// If everything was printed (`printed` is `Ok`), gives the log, if there is one, its name. Otherwise leaves the log
 /// under its other name, since some of its answers may have been seen, and returns the fault of printing.
 pub fn name_printed<'a, L: Write + Drop, N: OutputFiles<L>>(
     printed: Result<(), CommandFault<'a>>,

@@ -8,7 +8,7 @@ use std::io::{Stderr, Write};
 use std::rt::Clock;
 use std::sync::atomic::{AtomicU64, Ordering};
 
-// The least nanoseconds between two reports of the serving.
+// The least time between two reports of the serving, in nanoseconds.
 const STRIDE: u64 = 1_000_000_000;
 
 /// Observes the serving of scripts: how many requests were answered, and how long each took from when it was asked for
@@ -76,7 +76,7 @@ impl<'a, R: Clock> Watch<'a, R> {
         }
     }
 
-    // The moment, if the clock is read and can be. It is not 0.
+    // The moment, if a clock is wanted and can be read. It is not 0.
     fn now(&self) -> Option<u64> {
         let Some(stopwatch) = &self.stopwatch else {
             return None;
@@ -84,7 +84,7 @@ impl<'a, R: Clock> Watch<'a, R> {
         Some(stopwatch.nanoseconds()?.max(1))
     }
 
-    // Reports the serving once in a second, on any thread.
+    // Reports the serving at most once a second, from whichever thread calls it.
     fn report_in_time(&self, now: u64) {
         let reported = self.reported.load(Ordering::SeqCst);
         if now.saturating_sub(reported) < STRIDE {
