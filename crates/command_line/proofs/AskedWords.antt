@@ -1,4 +1,4 @@
--- From what clap tells to what the words ask for.
+-- From clap's results to what the words ask for.
 use Rattle.std.proofs.Common.{◌≡◌, ◌⊎◌, ℕ, List, Option, None, Some, inl, inr, sym, subst}
 use Rattle.std.specs.Prelude.{MatchOption}
 use Rattle.clap.specs.Words.{HasKind, IsAmong, fault_of, first_value, kind_of}
@@ -51,7 +51,7 @@ module _ (words : List (List ℕ)) where
         | inr is ↦ let Fails : UsageFault → Type 0 = λ f. MistakesCommand words f in subst Fails (sym is) has
       ]
 
--- what clap tells is no number's fault, and no moment's
+-- an error of clap is no number's fault, and no moment's
 no_number : (option : List ℕ) (low high : ℕ) (word : Option (List ℕ)) (error : Error) → IsNumberFault option low high word (usage.Words error) → ⊥
 no_number option low high None error h = h
 no_number option low high (Some word) error h = h
@@ -137,7 +137,7 @@ pub of_script : (name : List ℕ) (found : Found) (fault : UsageFault) → name 
 of_script name found usage.NoCommand is h = absurd (no_command found h)
 of_script name found fault is h = inr (inr (inr (is, h)))
 
--- where clap tells it of a command, it is lack of memory
+-- an error of clap for a command is out of memory
 no_words : (name : List ℕ) (found : Found) (error : Error) → IsFaultOf name found (usage.Words error) → kind_of error ≡ OutOfMemory
 no_words name found error h = elim h [
   | inl run ↦ run.1

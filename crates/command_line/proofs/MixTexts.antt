@@ -1,4 +1,4 @@
--- What the parts of a mix's text tell, one part more at a time.
+-- The cards that the parts of a mix's text give, by induction on the parts.
 use Rattle.std.proofs.Common.{◌≡◌, ◌≢◌, ◌≤◌, ◌<◌, ◌+◌, ℕ, zero, suc, Bool, true, false, cond, eqb, List, [], ◌∷◌, ◌++◌, length, map, take, drop, get_or, Option, None, Some, inl, inr, refl, sym, ap, ap₂, subst, ◌∙◌, codes, append-nil, arith}
 use Rattle.std.specs.Prelude.{slice_index, slice_index_or, slice_set, unwrap_or, is_some, IfSome}
 use Rattle.std.specs.Fmt.{decimal}
@@ -13,7 +13,7 @@ use Rattle.command_line.specs.MixText.{AreCards, IsMixText, cards_text, reported
 
 -- ---- one kind more
 
--- the kind's own number, where it was not told before
+-- the kind's own number, if it was not given before
 reported-new : (letter count : ℕ) (cards : List (ℕ × ℕ)) → reported_of cards letter ≡ None → reported_of (cards ++ (letter, count) ∷ []) letter ≡ Some count
 reported-new letter count [] none = ap (λ (b : Bool). cond b (Some count) None) (eq-eqb letter letter refl)
 reported-new letter count (one ∷ cards) none =
@@ -30,7 +30,7 @@ reported-other : (letter count other : ℕ) → other ≢ letter → (cards : Li
 reported-other letter count other apart [] = ap (λ (b : Bool). cond b (Some count) None) (ne_eqb letter other (λ e. apart (sym e)))
 reported-other letter count other apart (one ∷ cards) = ap (λ (rest : Option ℕ). cond (eqb one.0 other) (Some one.1) rest) (reported-other letter count other apart cards)
 
--- a kind that is told is told
+-- a kind that is given stays given
 reported-there : (letter count : ℕ) (more cards : List (ℕ × ℕ)) → reported_of (cards ++ (letter, count) ∷ more) letter ≡ None → ⊥
 reported-there letter count more [] none =
     let is : cond (eqb letter letter) (Some count) (reported_of more letter) ≡ Some count = ap (λ (b : Bool). cond b (Some count) (reported_of more letter)) (eq-eqb letter letter refl) in
@@ -54,7 +54,7 @@ are_cards-push letter count known few (one ∷ cards) are none =
           (are.0, are.1, reported-other letter count one.0 h.1 cards ∙ are.2, are_cards-push letter count known few cards are.3 (sym (ap If h.0) ∙ none))
     ]
 
--- each kind was told once at most
+-- each kind was given once at most
 apart : (letter count : ℕ) (more cards : List (ℕ × ℕ)) → AreCards (cards ++ (letter, count) ∷ more)
     → Contains (codes "NPODL") letter × (count ≤ 1000) × (reported_of cards letter ≡ None)
 apart letter count more [] are = (are.0, are.1, refl)
@@ -72,7 +72,7 @@ same_cards a b few few' e =
     let counts : a.1 ≡ b.1 = decimal_injective a.1 b.1 (omega arith) (omega arith) texts in
     ap₂ (λ (x y : ℕ). (x, y)) letters counts
 
--- what is told by more texts begins with what is told by the first of them
+-- the cards of more texts begin with those of the first texts
 begins : (cards all : List (ℕ × ℕ)) (rest : List (List ℕ)) → AreCards cards → AreCards all → map cards_text all ≡ map cards_text cards ++ rest
     → (more : List (ℕ × ℕ)) × (all ≡ cards ++ more) × (rest ≡ map cards_text more)
 begins [] all rest are are' e = (all, refl, sym e)
@@ -126,7 +126,7 @@ counts-push cards (suc (suc (suc (suc (suc k))))) count here none = absurd (omeg
 
 -- ---- the text, one part after the other
 
--- so many parts were read, and these numbers are told so far
+-- so many parts were read, and these numbers were given so far
 pub record Reads (word : List ℕ) (counts : List (Option ℕ)) (n : ℕ) : Type 0 where
   pub cards : List (ℕ × ℕ)
   pub texts : take n (slice_split (λ byte. eqb byte 44) word) ≡ map cards_text cards
@@ -160,13 +160,13 @@ module _ (word : List ℕ) (counts : List (Option ℕ)) (n : ℕ) (reads : Reads
         let first : part ≡ cards_text one = cc in
         (one.0, one.1, first, known.0, known.1, known.2)
 
-    -- where the word is a mix's text, it tells a kind that was not told so far
+    -- if the word is a mix's text, the part gives a kind that was not given so far
     next : (mix : Mix) → IsMixText word mix → (letter : ℕ) × (count : ℕ) × (part ≡ cards_text (letter, count)) × Contains (codes "NPODL") letter × (count ≤ 1000) × (reported_of reads.cards letter ≡ None)
     next mix text =
         let more = begins reads.cards text.cards (part ∷ drop (n + 1) (parts_of word)) reads.are_cards text.are_cards (sym text.text ∙ parted) in
         of_more more.0 (subst AreCards more.1 text.are_cards) more.2
 
-    -- it is no mix's text where the part tells no kind
+    -- it is no mix's text if the part gives no kind
     pub fails_by_part : ((letter count : ℕ) → Contains (codes "NPODL") letter → count ≤ 1000 → part ≢ cards_text (letter, count)) → (mix : Mix) → IsMixText word mix → ⊥
     fails_by_part none mix text = let one = next mix text in none one.0 one.1 one.3 one.4 one.2
 
@@ -176,7 +176,7 @@ module _ (word : List ℕ) (counts : List (Option ℕ)) (n : ℕ) (reads : Reads
           ap (λ (l : List (Option ℕ)). slice_index_or l place None) reads.counts_are
           ∙ get_or-map (reported_of reads.cards) (codes "NPODL") place 0 None low
 
-      -- nor where the part tells a kind once more
+      -- nor if the part gives a kind again
       pub fails_by_kind : is_some (slice_index_or counts place None) ≡ true → (mix : Mix) → IsMixText word mix → ⊥
       fails_by_kind there mix text =
           let one = next mix text in

@@ -13,7 +13,7 @@ use Rattle.clap.specs.declared.parser.matches.SubCommand.{SubCommand}
 use Rattle.clap.proofs.OnLiterals.{clap_on_literals}
 use Rattle.command_line.specs.CommandLine.{IsCommand, program}
 
--- the command line is one of which clap tells exactly what it makes of words
+-- the command line is one for which clap specifies exactly what it returns for any words
 program_is_simple : is_simple program ≡ true
 unfolding program clap_on_literals
 program_is_simple = refl
@@ -29,7 +29,7 @@ fails_by c words result is kinds =
     let Fails : App → Type 0 = λ a. FailsBy (fault_of a words) result in
     subst Fails is.app (kinds (ap is_simple_and_free is.app ∙ program_is_free))
 
--- a kind that is not lack of memory is among those that are told
+-- a kind that is not out of memory is among those that are reported
 pub among : (kinds : List ErrorKind) (e : Error) (kind : ErrorKind) → HasKind kinds e → kind_of e ≡ kind → (kind ≡ OutOfMemory → ⊥) → IsAmong kind kinds
 among kinds e kind has is other =
     elim has [

@@ -1,4 +1,4 @@
--- What `read_words` makes of the words of the command line.
+-- The settings and mistakes that `read_words` returns for the words of the command line.
 use Rattle.std.specs.Prelude.{◌≡◌, ◌⊎◌, ℕ, List, [], ◌∷◌, Option, None, Some, MatchOption, if◌then◌else◌, codes}
 use Rattle.std.specs.Str.{bytes_eq}
 use Rattle.clap.specs.Words.{HasKind, IsAmong, fault_of, rows_of, subcommand_of}
@@ -12,9 +12,9 @@ use Rattle.command_line.specs.CommandLine.{program}
 use Rattle.command_line.specs.Mistakes.{IsPopulateFault, IsRunFault, IsScriptFault, IsSimFault}
 use Rattle.command_line.specs.Words.{AsksForScripts, AsksToCheck, AsksToPopulate, AsksToReplay, AsksToRun, AsksToSimulate}
 
--- ---- of a command that is named
+-- ---- a command that is named
 
--- the settings are those of the command of this name, and each is what was found for it, or its default
+-- the settings are those of the command of this name; each is what clap found for it, or its default
 abbrev pub AsksFor : List ℕ → Found → Settings → Type 0
 AsksFor name found (Run s) = (name ≡ codes "run") × AsksToRun found s
 AsksFor name found (Sim s) = (name ≡ codes "sim") × AsksToSimulate found s
@@ -24,7 +24,7 @@ AsksFor name found (Check s) = (name ≡ codes "check") × AsksToCheck found s
 AsksFor name found (Replay s) = (name ≡ codes "replay") × AsksToReplay found s
 AsksFor name found (Text text) = ⊥
 
--- the fault is one of what was found for the command of this name, or there is no such command
+-- the fault is a mistake in what clap found for the command of this name, or there is no such command
 abbrev pub IsFaultOf : List ℕ → Found → UsageFault → Type 0
 IsFaultOf name found usage.NoCommand =
     (name ≡ codes "run" → ⊥) × (name ≡ codes "sim" → ⊥) × (name ≡ codes "populate" → ⊥) × (name ≡ codes "script" → ⊥)
@@ -35,51 +35,51 @@ IsFaultOf name found fault =
     ⊎ (((name ≡ codes "populate") × IsPopulateFault found fault)
     ⊎ ((name ≡ codes "script") × IsScriptFault found fault)))
 
--- ---- of all words, of which the first is the program's name
+-- ---- all words, of which the first is the program's name
 
--- of what `tpcc help COMMAND` asks for help, and `tpcc help` of `--help`
+-- the command of `tpcc help COMMAND`, and `--help` for `tpcc help`
 abbrev pub help_asked : List (List ℕ) → Option (List ℕ)
 help_asked (name ∷ word ∷ []) = if bytes_eq word (codes "help") then Some (codes "--help") else None
 help_asked (name ∷ word ∷ command ∷ []) = if bytes_eq word (codes "help") then Some command else None
 help_asked _ = None
 
--- the words that ask clap for it
+-- the words that ask clap for help of this command
 abbrev pub help_words : List ℕ → List (List ℕ)
 help_words command = codes "tpcc" ∷ command ∷ codes "--help" ∷ []
 
--- the words are understood, and name a command; of its name and of what was found for it this is said
+-- clap understands the words, they name a command, and `Is` holds of its name and of what clap found for it
 abbrev pub NamesCommand : List (List ℕ) → (List ℕ → Found → Type 0) → Type 0
 NamesCommand words Is =
     (fault_of program words ≡ []) × ((name : List ℕ) × (found : Found) × (subcommand_of program words ≡ Some (name, rows_of found)) × Is name found)
 
--- the settings are a text, that of the version
+-- the settings are a text
 abbrev pub IsVersion : Settings → Type 0
 IsVersion (Text text) = Unit {0}
 IsVersion settings = ⊥
 
--- The version is asked for, or the settings are those of the command that is named.
+-- The words ask for the version, and the settings are a text; or the settings are those of the command that they name.
 abbrev pub MeansCommand : List (List ℕ) → Settings → Type 0
 MeansCommand words (Text text) = IsAmong DisplayVersion (fault_of program words)
 MeansCommand words settings = NamesCommand words (λ name found. AsksFor name found settings)
 
--- It is help that is asked for.
+-- The settings are a text, and the words ask for help of this command.
 abbrev pub MeansHelp : List ℕ → Settings → Type 0
 MeansHelp command (Text text) = IsAmong DisplayHelp (fault_of program (help_words command))
 MeansHelp command settings = ⊥
 
--- what the words ask for
+-- the settings are what the words ask for
 abbrev pub IsAsked : List (List ℕ) → Settings → Type 0
 IsAsked words settings = MatchOption (help_asked words) (MeansCommand words settings) (λ command. MeansHelp command settings)
 
--- The words are not understood, by what clap finds first, or there is no memory; or they are, and the command that is named has a
--- mistake; or they name none.
+-- The mistakes of words other than `tpcc help` and `tpcc help COMMAND`. Words: what clap finds first, or out of memory. Otherwise clap
+-- understands the words, and the fault is one of the command that they name, or NoCommand: they name none.
 abbrev pub MistakesCommand : List (List ℕ) → UsageFault → Type 0
 MistakesCommand words (usage.Words error) = HasKind (fault_of program words) error
 MistakesCommand words fault =
     NamesCommand words (λ name found. IsFaultOf name found fault)
     ⊎ ((fault ≡ usage.NoCommand) × (fault_of program words ≡ []) × (subcommand_of program words ≡ None))
 
--- so it is of words that are to ask for help
+-- the mistakes of words that are to ask for help
 abbrev pub IsTextFault : List (List ℕ) → UsageFault → Type 0
 IsTextFault words (usage.Words error) = HasKind (fault_of program words) error
 IsTextFault words fault = (fault ≡ usage.NoCommand) × (fault_of program words ≡ [])
@@ -87,6 +87,6 @@ IsTextFault words fault = (fault ≡ usage.NoCommand) × (fault_of program words
 abbrev pub MistakesHelp : List ℕ → UsageFault → Type 0
 MistakesHelp command fault = IsTextFault (help_words command) fault
 
--- what is wrong with the words
+-- the fault is what is wrong with the words
 abbrev pub IsMistake : List (List ℕ) → UsageFault → Type 0
 IsMistake words fault = MatchOption (help_asked words) (MistakesCommand words fault) (λ command. MistakesHelp command fault)

@@ -1,4 +1,4 @@
--- The command line: its commands, and the arguments and options of each, in the words of clap.
+-- The command line: its commands, and the arguments and options of each, in terms of clap.
 use Rattle.std.specs.Prelude.{◌≡◌, ℕ, List, [], ◌∷◌, Some, true, false, codes}
 use Rattle.clap.specs.Lexer.{usize_max}
 use Rattle.clap.specs.Simple.{App, Shape, app_of, new_rule, new_shape}
@@ -8,13 +8,13 @@ use Rattle.clap.specs.declared.builder.action.ArgAction.TheVariants.{Append, Set
 use Rattle.clap.specs.declared.builder.arg.Arg.{Arg}
 use Rattle.clap.specs.declared.builder.command.Command.{Command}
 
--- ---- what an argument can be
+-- ---- the kinds of arguments
 
--- one word that has to be there, known by its place
+-- one required word, recognized by its place
 abbrev pub argument : List ℕ → Rule
 argument id = record (new_rule id) { required = true }
 
--- one word or more, known by their place
+-- one word or more, recognized by their place
 abbrev pub arguments : List ℕ → Rule
 arguments id = record (new_rule id) {
   required = true;
@@ -63,7 +63,7 @@ sim_command = command (codes "sim") (
     argument (codes "DATA") ∷ argument (codes "SCHEDULE") ∷ option (codes "executors") ∷ option (codes "log")
     ∷ option (codes "picture") ∷ option (codes "tables") ∷ flag (codes "quiet") ∷ [])
 
--- the program's own words: one of its commands has to be named, and it knows `--help` and `--version`
+-- the program without its commands: a command has to be named, and there are `--help` and `--version`
 abbrev pub program_alone : Shape
 program_alone = record (new_shape (codes "tpcc")) {
   has_version = true;
@@ -81,16 +81,16 @@ program = record {
 
 -- ---- what is built
 
--- clap reads the argument as this one, at its own command alone
+-- clap reads the argument by this rule, at its own command only
 pub record IsArgument (as_rule : Rule) (a : Arg) : Type 0 where
   pub rule : rule_of a ≡ as_rule
   pub local : a.global ≡ false
 
--- clap reads the command as this one
+-- clap reads the command as this one, and no argument is global
 pub record IsCommand (as_app : App) (c : Command) : Type 0 where
   pub app : app_of c ≡ as_app
   pub local : (out-Command c).has_globals ≡ false
 
--- a command that has no commands of its own
+-- a command without commands of its own
 abbrev pub alone : Shape → App
 alone shape = record { top = shape; subs = [] }

@@ -1,4 +1,4 @@
--- The mistakes in words that clap has understood.
+-- The mistakes in words that clap understands.
 use Rattle.std.specs.Prelude.{◌≡◌, ◌⊎◌, ◌<◌, ◌≤◌, ℕ, List, length, Option, None, Some, codes, true}
 use Rattle.std.specs.Fmt.{decimal}
 use Rattle.std.specs.List.{slice_get}
@@ -15,9 +15,9 @@ use Rattle.command_line.specs.MixText.{IsMixText}
 use Rattle.command_line.specs.Settings.{IsSessionCount}
 use Rattle.command_line.specs.Words.{all_words}
 
--- ---- of one option
+-- ---- mistakes of one option
 
--- no memory, which is told as clap tells it
+-- out of memory, which is an error of clap
 abbrev pub IsNoMemory : UsageFault → Type 0
 IsNoMemory (usage.Words error) = kind_of error ≡ OutOfMemory
 IsNoMemory _ = ⊥
@@ -27,7 +27,7 @@ abbrev pub IsNumberWord : ℕ → ℕ → Option (List ℕ) → Type 0
 IsNumberWord low high None = Unit {0}
 IsNumberWord low high (Some word) = (number : ℕ) × (decimal number ≡ word) × (low ≤ number) × (number ≤ high)
 
--- there is a word, and it spells no number from low to high; the fault names the option and these limits
+-- there is a word, and it spells no number from low to high; the fault contains the option and these limits
 abbrev pub IsNumberFault : List ℕ → ℕ → ℕ → Option (List ℕ) → UsageFault → Type 0
 IsNumberFault option low high (Some word) (usage.Number named from to) =
     (named.now ≡ option) × (from ≡ low) × (to ≡ high) × ((number : ℕ) → decimal number ≡ word → low ≤ number → number ≤ high → ⊥)
@@ -38,21 +38,21 @@ abbrev pub IsMomentFault : Option (List ℕ) → UsageFault → Type 0
 IsMomentFault (Some word) usage.Moment = (seconds : ℕ) → IsMomentText word seconds → seconds ≤ 253402300799 → ⊥
 IsMomentFault word fault = ⊥
 
--- both are there, and are one path
+-- both paths are there and are equal
 abbrev pub AreOnePath : Option (List ℕ) → Option (List ℕ) → Type 0
 AreOnePath (Some one) (Some other) = is_eq (path_cmp one other) ≡ true
 AreOnePath one other = ⊥
 
--- two of the paths are one
+-- two of the paths are equal
 abbrev pub HasPathTwice : List (List ℕ) → Type 0
 HasPathTwice paths = (i : ℕ) × (j : ℕ) × (i < j) × AreOnePath (slice_get paths i) (slice_get paths j)
 
--- there is a word, and it is another one
+-- there is a word, and it is neither `on` nor `off`
 abbrev pub IsRemoteFault : Option (List ℕ) → Type 0
 IsRemoteFault None = ⊥
 IsRemoteFault (Some word) = (word ≡ codes "on" → ⊥) × (word ≡ codes "off" → ⊥)
 
--- there is no word, or it is one of the two
+-- there is no word, or it is `on` or `off`
 abbrev pub IsRemoteWord : Option (List ℕ) → Type 0
 IsRemoteWord None = Unit {0}
 IsRemoteWord (Some word) = (word ≡ codes "on") ⊎ (word ≡ codes "off")
@@ -77,10 +77,10 @@ IsFilesFault files fault =
     ((fault ≡ usage.FileCount) × (IsSessionCount (length files) → ⊥))
     ⊎ (IsSessionCount (length files) × (fault ≡ usage.SameFile) × HasPathTwice files)
 
--- ---- of each command
+-- ---- mistakes of each command
 
 module _ (found : Found) where
-  -- there are not 1 to 64 scripts, the files that are written have one path, or there are not 1 to 16 executors, or else not 1 to 10000 tries
+  -- out of memory; not 1 to 64 scripts; one path for log and tables; executors that are not 1 to 16; or else tries that are not 1 to 10,000
   abbrev pub IsRunFault : UsageFault → Type 0
   IsRunFault (usage.Words error) = kind_of error ≡ OutOfMemory
   IsRunFault usage.ScriptCount = IsSessionCount (length (all_words found (codes "SCRIPT"))) → ⊥
@@ -89,7 +89,7 @@ module _ (found : Found) where
       IsNumberFault (codes "--executors") 1 16 (first_value found (codes "executors")) fault
       ⊎ (IsNumberWord 1 16 (first_value found (codes "executors")) × IsNumberFault (codes "--tries") 1 10000 (first_value found (codes "tries")) fault)
 
-  -- two of the files that are written have one path, or there are not 1 to 16 executors
+  -- one path for two of log, picture and tables; or executors that are not 1 to 16
   abbrev pub IsSimFault : UsageFault → Type 0
   IsSimFault usage.SameOutput =
       AreOnePath (first_value found (codes "log")) (first_value found (codes "picture"))
@@ -97,7 +97,7 @@ module _ (found : Found) where
       ⊎ AreOnePath (first_value found (codes "picture")) (first_value found (codes "tables")))
   IsSimFault fault = IsNumberFault (codes "--executors") 1 16 (first_value found (codes "executors")) fault
 
-  -- the first of the numbers, or else the moment, is out of its limits
+  -- the fault is that of the first number that is out of its limits, or else that of the moment
   abbrev pub IsPopulateFault : UsageFault → Type 0
   IsPopulateFault fault =
       IsNumberFault (codes "--warehouses") 1 64 (first_value found (codes "warehouses")) fault
@@ -109,7 +109,7 @@ module _ (found : Found) where
       IsNumberFault (codes "--seed") 0 4294967295 (first_value found (codes "seed")) fault
       ⊎ (IsNumberWord 0 4294967295 (first_value found (codes "seed")) × IsMomentFault (first_value found (codes "now")) fault)))))))
 
-  -- the first of the options that is out of its limits
+  -- the fault is that of the first option that is out of its limits
   abbrev pub IsOptionFault : UsageFault → Type 0
   IsOptionFault fault =
       IsNumberFault (codes "--requests") 0 16777216 (first_value found (codes "requests")) fault
@@ -123,6 +123,6 @@ module _ (found : Found) where
       ((fault ≡ usage.Remote) × IsRemoteFault (first_value found (codes "remote")))
       ⊎ (IsRemoteWord (first_value found (codes "remote")) × IsMomentFault (first_value found (codes "now")) fault)))))))))
 
-  -- The files are wrong; or else there is no memory, or an option is out of its limits.
+  -- The fault is that of the files; or else out of memory, or that of an option.
   abbrev pub IsScriptFault : UsageFault → Type 0
   IsScriptFault fault = IsFilesFault (all_words found (codes "FILE")) fault ⊎ (AreFiles (all_words found (codes "FILE")) × (IsNoMemory fault ⊎ IsOptionFault fault))

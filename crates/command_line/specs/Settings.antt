@@ -26,8 +26,7 @@ HasExecutors sim = (1 ≤ sim.executors) × (sim.executors ≤ 16)
 abbrev pub HasFiles : ScriptSettings → Type 0
 HasFiles script = IsSessionCount (length script.files.items)
 
--- a run has its sessions, executors and tries, a simulation its executors, and scripts that are made their files; of the others
--- nothing is asked here
+-- the settings of `tpcc run`, `tpcc sim` and `tpcc script` are within the limits above; nothing is asked of the others
 abbrev pub IsWithinLimits : Settings → Type 0
 IsWithinLimits (Run run) = IsRunnable run
 IsWithinLimits (Sim sim) = HasExecutors sim

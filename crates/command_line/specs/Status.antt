@@ -1,4 +1,4 @@
--- The exit statuses of the program, and those after a mistake in its words.
+-- The exit statuses of the program, and the status after each mistake in its words.
 use Rattle.std.specs.Prelude.{ℕ}
 use Rattle.clap.specs.Words.{kind_of}
 use Rattle.clap.specs.declared.error.ErrorKind.{ErrorKind}
@@ -16,7 +16,7 @@ exit_status status.Usage = 2
 exit_status status.NotConsistent = 3
 exit_status status.NoMemory = 4
 
--- the status where clap did not understand the words, or had no memory
+-- the status after an error of clap: the words are not understood, or out of memory
 abbrev pub status_of_words : ErrorKind → Status
 status_of_words OutOfMemory = status.NoMemory
 status_of_words _ = status.Usage

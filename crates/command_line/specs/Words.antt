@@ -1,4 +1,4 @@
--- What the words of the command line ask for.
+-- The settings that the words of the command line ask for.
 use Rattle.std.specs.Prelude.{◌≡◌, ℕ, if◌then◌else◌, Bool, true, false, List, [], map, Option, None, Some, codes, option_map, unwrap_or}
 use Rattle.std.specs.Fmt.{decimal}
 use Rattle.clap.specs.Words.{first_value, matched_of, one_text, raw_values}
@@ -15,37 +15,37 @@ use Rattle.command_line.specs.declared.settings.sim.SimSettings.{SimSettings}
 
 -- ---- an argument or an option
 
--- the number that the option's word spells, and this one where there is no word
+-- the number that the option's word spells, or the default if there is no word
 abbrev pub IsNumber : Option (List ℕ) → ℕ → ℕ → Type 0
 IsNumber None default number = number ≡ default
 IsNumber (Some word) default number = decimal number ≡ word
 
--- the moment that the option's word spells, and the beginning of 2024 where there is no word
+-- the moment that the option's word spells, or the beginning of 2024 if there is no word
 abbrev pub IsMoment : Option (List ℕ) → ℕ → Type 0
 IsMoment None seconds = seconds ≡ 1704067200
 IsMoment (Some word) seconds = IsMomentText word seconds
 
--- the home warehouse that the option's word spells, and none where there is no word
+-- the home warehouse that the option's word spells, or none if there is no word
 abbrev pub IsHome : Option (List ℕ) → Option ℕ → Type 0
 IsHome None home = home ≡ None
 IsHome (Some word) home = (warehouse : ℕ) × (home ≡ Some warehouse) × (decimal warehouse ≡ word)
 
--- the mix of which the option's word is a text, and the benchmark's where there is no word
+-- the mix of which the option's word is a text, or the benchmark's if there is no word
 abbrev pub IsMixOf : Option (List ℕ) → Mix → Type 0
 IsMixOf None mix = (mix.new_orders ≡ 45) × (mix.payments ≡ 43) × (mix.order_statuses ≡ 4) × (mix.deliveries ≡ 4) × (mix.stock_levels ≡ 4)
 IsMixOf (Some word) mix = IsMixText word mix
 
--- whether other warehouses take part, as the option's word says; they do where there is no word
+-- whether other warehouses take part: as the option's word says, and they do if there is no word
 abbrev pub IsRemote : Option (List ℕ) → Bool → Type 0
 IsRemote None remote = remote ≡ true
 IsRemote (Some word) remote = word ≡ (if remote then codes "on" else codes "off")
 
 module _ (found : Found) where
-  -- the words that stand for an argument
+  -- the words of an argument
   abbrev pub all_words : List ℕ → List (List ℕ)
   all_words id = unwrap_or (option_map raw_values (matched_of found id)) []
 
-  -- the word that stands for an argument, the empty one if none does
+  -- the word of an argument, or the empty word if it has none
   abbrev pub word_of : List ℕ → List ℕ
   word_of id = unwrap_or (first_value found id) []
 

@@ -1,7 +1,7 @@
-// The date of the newest changes, and the toolchain. No build can know the commit that it is of.
+// The date of the newest changes, and the toolchain. A build does not contain its commit.
 pub const VERSION: &str = "2026-11-29, made by rattle-kit-13f logic dac8208d650f15bf";
 
-// What is told after the list of commands by `tpcc --help`.
+// The text of `tpcc --help` after the list of commands.
 pub const PROGRAM: &str = "\
 `tpcc COMMAND --help` tells what a command reads, prints and writes, and its limits. `tpcc help` and
 `tpcc help COMMAND` print such a text on the standard output, with status 0.

@@ -1,5 +1,5 @@
-//! The command line of `tpcc`: its words, the settings that they ask for, what is told of words that ask for none, and with
-//! which status the program ends.
+//! The command line of `tpcc`: its words, the settings that they ask for, the messages for words that ask for none, and
+//! the exit statuses of the program.
 #![tactic(auto)]
 
 mod help;

@@ -4,8 +4,8 @@ ghost use Rattle.std.specs.Path.{path_cmp};
 
 use std::path::Path;
 
-/// Whether the two paths are one, whatever they lead to: `a/./log.csv` and `a//log.csv` are, and
-/// `./log.csv` and `log.csv` are not, as to `std::path`.
+/// Whether the two paths are equal to `std::path`, which looks at no file: `a/./log.csv` and `a//log.csv` are equal,
+/// `./log.csv` and `log.csv` are not.
 pub fn are_one(one: &str, other: &str) -> bool
     ensures { result ≡ is_eq (path_cmp one.now other.now) }
 {

@@ -27,10 +27,10 @@ pub use run::RunSettings;
 pub use script::ScriptSettings;
 pub use sim::SimSettings;
 
-// The most scripts of a run, and the most files for scripts: one for each session.
+// The most scripts of a run, and the most files of `tpcc script`: one for each session.
 const MOST_SCRIPTS: usize = 64;
 
-/// What the program was asked to do.
+/// What the command line asks the program to do.
 #[derive(Debug, Drop)]
 pub enum Settings<'a> {
     Run(RunSettings<'a>),
@@ -39,12 +39,12 @@ pub enum Settings<'a> {
     Script(ScriptSettings<'a>),
     Check(CheckSettings<'a>),
     Replay(ReplaySettings<'a>),
-    /// A text that was asked for, of help or the version. It ends with a line feed.
+    /// The text of help or the version. It ends with a line feed.
     Text(String),
 }
 
-/// The settings that the words of the command line ask for, of which the first is the program's name.
-/// They are within their limits.
+/// Reads the words of the command line, of which the first is the program's name, and returns the settings that they
+/// ask for. The settings are within their limits. An error is a mistake in the words, or out of memory.
 pub fn read_words<'a>(alloc: Global, words: &'a [String]) -> Result<Settings<'a>, UsageFault>
     ensures limits { IfOk result IsWithinLimits }
     ensures asked { IfOk result (IsAsked (map string_bytes words.now)) }
@@ -63,7 +63,7 @@ pub fn read_words<'a>(alloc: Global, words: &'a [String]) -> Result<Settings<'a>
     }
 }
 
-// The text of the version, if that is what clap was asked for, or else the mistake that it found.
+// The text of the version, if clap was asked for it, or else the mistake that clap found.
 fn text_or_fault<'a>(alloc: Global, error: Error) -> Result<Settings<'a>, UsageFault>
     ensures limits { IfOk result IsWithinLimits }
     ensures text { IfOk result (λ settings. IsVersion settings × (kind_of error ≡ ErrorKind.DisplayVersion)) }
@@ -75,7 +75,7 @@ fn text_or_fault<'a>(alloc: Global, error: Error) -> Result<Settings<'a>, UsageF
     }
 }
 
-// The settings of the command of that name, of which this was found.
+// The settings of the command of that name, from the words that clap found for it.
 fn settings_of<'a>(
     alloc: Global,
     name: &str,
@@ -96,7 +96,7 @@ fn settings_of<'a>(
     }
 }
 
-// Of what `tpcc help COMMAND` asks for help, and `tpcc help` of `--help`.
+// The command of `tpcc help COMMAND`, and `--help` for `tpcc help`.
 fn help_asked<'a>(words: &'a [String]) -> Option<&'a str>
     ensures { option_map (λ command. command.now) result ≡ help_asked (map string_bytes words.now) }
 {
@@ -107,7 +107,7 @@ fn help_asked<'a>(words: &'a [String]) -> Option<&'a str>
     }
 }
 
-// The text of help of that command.
+// The help text of that command.
 fn help_text(alloc: Global, command: &str) -> Result<String, UsageFault>
     ensures text { IfOk result (λ text. IsAmong ErrorKind.DisplayHelp (fault_of program (help_words command.now))) }
     ensures mistake { IfErr result (MistakesHelp command.now) }
@@ -116,7 +116,7 @@ fn help_text(alloc: Global, command: &str) -> Result<String, UsageFault>
     text_of(alloc, words.as_slice())
 }
 
-// The text of help that the words ask for.
+// The help text that the words ask for.
 fn text_of<'a>(alloc: Global, words: &'a [String]) -> Result<String, UsageFault>
     ensures text { IfOk result (λ text. IsAmong ErrorKind.DisplayHelp (fault_of program (map string_bytes words.now))) }
     ensures mistake { IfErr result (IsTextFault (map string_bytes words.now)) }
@@ -141,7 +141,7 @@ fn help_words(alloc: Global, command: &str) -> Result<Vec<String>, AllocError>
     Ok(words)
 }
 
-// The program's own words, with no commands yet.
+// The program's own command line, without its commands.
 fn program_alone<'a>(alloc: Global) -> Command<'a>
     ensures { IsCommand (alone program_alone) result }
 {
@@ -154,7 +154,7 @@ fn program_alone<'a>(alloc: Global) -> Command<'a>
         .after_help(help::PROGRAM)
 }
 
-// The command line.
+// The program's command line with its commands.
 fn program<'a>(alloc: Global) -> Result<Command<'a>, AllocError>
     ensures { IfOk result (IsCommand program) }
 {

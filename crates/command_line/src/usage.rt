@@ -4,41 +4,40 @@ use clap::error::ErrorKind;
 use std::alloc::AllocError;
 use std::fmt;
 
-/// Why the words of the command line give no settings. Its `Display` is the text for the user, which
-/// ends with a line feed.
+/// A mistake in the words of the command line. Its `Display` is the text for the user, which ends with a line feed.
 #[derive(Debug, Drop)]
 pub enum UsageFault {
-    /// The words are not understood, or ask for help.
+    /// Clap's error: the words are not understood or ask for help, or an allocation failed.
     Words(Error),
-    /// The word at this place is no text in UTF-8: place 0 is that of the program's name, and the words after
-    /// it are counted from 1. It is shown with its other bytes as numbers.
+    /// The word at this place is not UTF-8. The program's name is at place 0, and the words after it count from 1.
+    /// `shown` is the word, with bytes that are not printable ASCII as numbers.
     NotText {
         place: usize,
         shown: String,
     },
-    /// A word of more than 4,096 bytes is no text in UTF-8, and all shorter ones are texts.
+    /// A word of more than 4,096 bytes is not UTF-8, and all shorter ones are.
     LongNotText,
     /// The words name no command.
     NoCommand,
-    /// There are not 1 to 64 scripts.
+    /// The number of scripts of `tpcc run` is not 1 to 64.
     ScriptCount,
-    /// Two files that are to be written have one path.
+    /// Two output files have one path.
     SameOutput,
-    /// There are not 1 to 64 files for scripts.
+    /// The number of files of `tpcc script` is not 1 to 64.
     FileCount,
-    /// Two files for scripts have one path.
+    /// Two files of `tpcc script` have one path.
     SameFile,
-    /// What stands for a mix is none.
+    /// The word of `--mix` is not a mix.
     Mix,
-    /// Whether other warehouses take part is told by another word.
+    /// The word of `--remote` is neither `on` nor `off`.
     Remote,
-    /// What stands for this option is no number, or none in its limits.
+    /// The word of this option is not a number from `low` to `high`.
     Number {
         option: &'static str,
         low: u32,
         high: u32,
     },
-    /// What stands for the moment is none.
+    /// The word of `--now` is not a moment.
     Moment,
 }
 
@@ -46,7 +45,7 @@ impl UsageFault {
     ghost use Rattle.std.specs.Prelude.{◌≡◌};
     ghost use Rattle.command_line.specs.Status.{status_of_usage};
 
-    /// How the program ends after it.
+    /// How the program ends after this mistake.
     pub fn status(&self) -> Status
         ensures { result ≡ status_of_usage self.now }
     {

@@ -4,10 +4,11 @@ use std::env;
 use std::env::{Env, FillError};
 use std::io::ErrorKind;
 
-// The longest argument that is shown where it is no text.
+// The most bytes of a word that is shown because it is not UTF-8.
 const MOST_SHOWN: usize = 4096;
 
-/// The words of the command line, of which the first is the program's name.
+/// Returns the words of the command line, of which the first is the program's name. An error is a word that is not UTF-8
+/// (`NotText` or `LongNotText`), or out of memory.
 pub fn words_of<R: Env + AllocGlobal>(rt: &R) -> Result<Vec<String>, UsageFault> {
     match env::args(rt) {
         Ok(words) => Ok(words.collect::<Vec<String>>(rt.alloc())?),
@@ -16,8 +17,7 @@ pub fn words_of<R: Env + AllocGlobal>(rt: &R) -> Result<Vec<String>, UsageFault>
     }
 }
 
-// The fault of the first word that is no text and not too long to be shown; or else that only longer ones
-// are none.
+// The mistake of the first word that is not UTF-8 and short enough to be shown, or else `LongNotText`.
 fn first_that_is_no_text<R: Env + AllocGlobal>(rt: &R) -> Result<UsageFault, AllocError> {
     let mut room = [0u8; MOST_SHOWN];
     for place in 0..usize::MAX {
@@ -36,7 +36,7 @@ fn first_that_is_no_text<R: Env + AllocGlobal>(rt: &R) -> Result<UsageFault, All
     Ok(UsageFault::LongNotText)
 }
 
-// The bytes as they can be shown: each that is no printable ASCII by its number, as `\xff`.
+// The bytes as a text: a byte that is not printable ASCII is shown by its number, as `\xff`.
 fn shown(alloc: Global, bytes: &[u8]) -> Result<String, AllocError> {
     let mut text = String::new(alloc);
     for byte in bytes {

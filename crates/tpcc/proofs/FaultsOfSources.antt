@@ -1,4 +1,4 @@
--- Errors of who reads and writes files, as faults that a command tells of them.
+-- Errors in reading and writing files, as faults that a command reports.
 use Rattle.std.proofs.Common.{◌≡◌, ◌⊎◌, inl, inr, List, ℕ, Option, Some, Result, Ok, Err, IfErr, OnErr, refl, sym, subst}
 use Rattle.std.specs.Borrow.{Bor}
 use Rattle.files.specs.declared.fault.FileError.{FileError}

@@ -1,4 +1,4 @@
--- What is told of a schedule names entries of the log, where its events do.
+-- The outputs of a schedule name entries of the log if its events do.
 use Rattle.std.proofs.Common.{ℕ, ◌+◌, List, [], ◌∷◌, ◌++◌, length, sym, subst}
 use Rattle.std.specs.List.{All, flat_map}
 use Rattle.std.proofs.lemmas.List.Elements.{All-nil, All-cons, All-head, All-tail, All-append}
@@ -91,7 +91,7 @@ module _ (n : ℕ) where
       All-append (IsReportedBelow n) first rest (reported_of_item executors item first begun all.1.1.0 both.0) (reported_of_all executors schedule rest later all.1.1.1 both.1)
       )
 
--- so does what is told of a simulation
+-- so do the outputs of a simulation
 pub outputs_named : (opening : Database) (executors : ℕ) (schedule : List Scheduled) (s : Simulation) → Simulates Brand opening executors schedule s → NameEntries s.log.items s.outputs.items
 outputs_named opening executors schedule s simulates =
     reported_of_all (length s.log.items) executors schedule s.outputs.items simulates.steps simulates.plays

@@ -1,10 +1,10 @@
--- What is told of conditions, one more at a time.
+-- The verdicts on conditions, by induction on the conditions.
 use Rattle.std.proofs.Common.{◌≡◌, ℕ, suc, ◌+◌, ◌<◌, ◌≤◌, Bool, List, [], ◌∷◌, ◌++◌, length, take, get_or, ap, ◌∙◌, arith}
 use Rattle.std.proofs.lemmas.List.{take_more, length-take-le}
 use Rattle.tpcc.specs.declared.verdicts.Verdict.{Verdict}
 use Rattle.tpcc.specs.Verdicts.{found_of, verdicts_of}
 
--- what is told of a condition
+-- the verdict on a condition
 abbrev pub verdict_of : Bool → ℕ → Bool → Verdict
 verdict_of fresh condition holds = record { condition = condition; found = found_of fresh condition holds }
 

@@ -15,23 +15,24 @@ use Rattle.command_line.specs.declared.settings.check.CheckSettings.{CheckSettin
 use Rattle.tpcc.specs.EarlyEnds.{IsOfChecking}
 use Rattle.tpcc.specs.Faults.{EndsEarly}
 
--- which conditions the tables that the source gives meet
+-- the source gives tables, and `answers` contains for each condition whether they meet it
 pub record IsChecked («data» : Option (List ℕ)) (answers : List Bool) : Type 0 where
   pub tables : Database
   pub is_dataset : Gives «data» (AreRecords tables)
   pub exact : AreExact tables answers
 
 module _ (fresh : Bool) where
-  -- what is told of the conditions, line by line
+  -- the lines of all verdicts
   abbrev pub verdicts_text : List Bool → List ℕ
   verdicts_text answers = lines_text (map verdict_text (verdicts_of fresh 1 answers))
 
-  -- nothing was told; or each condition was looked at, and a beginning of the lines was told
+  -- nothing was printed; or each condition was checked, and a beginning of the lines was printed
   abbrev pub ChecksSome : Option (List ℕ) → Option (List ℕ) → Option (List ℕ) → Type 0
   ChecksSome «data» before after = (after ≡ before) ⊎ ((answers : List Bool) × IsChecked «data» answers × Begins before after (verdicts_text answers))
 
 module _ (fresh : Bool) («data» before after : Option (List ℕ)) (reported told' : Option (List CommandFault)) where
-  -- of the tables that the source gives each condition was told, line by line; one of them is broken, or none
+  -- the verdict on each condition of the source's tables was printed, line by line, and no fault was reported; `broken` says whether a
+  -- condition is broken
   pub record Checks (broken : Bool) : Type 0 where
     pub answers : List Bool
     pub is_checked : IsChecked «data» answers
@@ -40,8 +41,8 @@ module _ (fresh : Bool) («data» before after : Option (List ℕ)) (reported to
     pub no_fault : told' ≡ reported
 
 module _ (s : CheckSettings) («data» : Option (List ℕ)) (lasts : Type 0) (before after : Option (List ℕ)) (reported told' : Option (List CommandFault)) where
-  -- by the exit status: none is broken; one is; or a fault was told, that of the dataset, or that printing failed, and of the lines a beginning
-  -- at most
+  -- By the exit status. Success: no condition is broken. NotConsistent: one is. Otherwise a fault was reported, of the dataset or of
+  -- printing, and at most a beginning of the lines was printed.
   abbrev pub CheckEnds : Status → Type 0
   CheckEnds status.Success = Checks s.fresh «data» before after reported told' false
   CheckEnds status.NotConsistent = Checks s.fresh «data» before after reported told' true

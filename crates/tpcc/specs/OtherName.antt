@@ -2,6 +2,6 @@
 use Rattle.std.specs.Prelude.{ℕ, List, ◌++◌, codes}
 use Rattle.std.specs.Fmt.{decimal}
 
--- the path, and a number of which no other file beside it has the same
+-- the path, `.tpcc-` and a number
 abbrev pub other_name_of : List ℕ → ℕ → List ℕ
 other_name_of path number = path ++ (codes ".tpcc-" ++ decimal number)

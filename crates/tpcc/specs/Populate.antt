@@ -14,7 +14,8 @@ use Rattle.tpcc.specs.Faults.{IsOfWriting, EndsEarly}
 
 module _ {F : Type 0} (contents : F → Option (List ℕ)) (scale : Scale) (seed now : ℕ) (file : F)
     (named named' : Option (List (Option (List ℕ)))) (reported told' : Option (List CommandFault)) where
-  -- the file has got its name, with the records of the tables that the benchmark begins with, of that scale, seed and moment
+  -- the file has got its name and contains the records of the benchmark's initial tables of that scale, seed and moment, and no fault was
+  -- reported
   pub record Populates : Type 0 where
     pub tables : Database
     pub is_opening : IsOpening scale seed now tables
@@ -24,7 +25,7 @@ module _ {F : Type 0} (contents : F → Option (List ℕ)) (scale : Scale) (seed
     pub no_fault : told' ≡ reported
 
 module _ {F : Type 0} (contents : F → Option (List ℕ)) (s : PopulateSettings) (file : F) (named named' : Option (List (Option (List ℕ)))) (reported told' : Option (List CommandFault)) where
-  -- by the exit status: the file is there; or it has not got its name, and a fault was told
+  -- By the exit status. Success: the file has its name. Otherwise it has not, and a fault of the file was reported.
   abbrev pub PopulateEnds : Status → Type 0
   PopulateEnds status.Success = Populates contents s.scale s.seed s.now file named named' reported told'
   PopulateEnds ended = (named' ≡ named) × EndsEarly (IsOfWriting s.file.now) reported told' ended

@@ -1,4 +1,4 @@
--- What `tpcc replay` tells, and how it ends.
+-- What `tpcc replay` prints, and how it ends.
 use Rattle.std.specs.Prelude.{◌≡◌, ◌⊎◌, ℕ, List, [], ◌∷◌, ◌++◌, length, Option, codes}
 use Rattle.std.specs.Fmt.{decimal}
 use Rattle.std.specs.Io.KnownBytes.{Appends}
@@ -20,26 +20,26 @@ use Rattle.command_line.specs.declared.settings.replay.ReplaySettings.{ReplaySet
 use Rattle.tpcc.specs.EarlyEnds.{IsOfReplaying}
 use Rattle.tpcc.specs.Faults.{EndsEarly}
 
--- the line that tells what a replay came to
+-- the line of a replay's result
 abbrev pub found_text : Found → List ℕ
 found_text (found.Equal entries) = codes "equal " ++ decimal entries
 found_text (found.Differs place) = codes "differs " ++ decimal place
 
--- what is told of a replay of these entries: how many are equal, or the first place that differs
+-- the printed result of a replay of these entries: how many are equal, or the first place that differs
 abbrev pub found_of : List Entry → Replay → Found
 found_of entries (Equal last) = found.Equal (length entries)
 found_of entries (Differs place) = found.Differs place
 
 module _ {F : Type 0} (contents : F → Option (List ℕ)) (file : Option F) (before after : Option (List ℕ)) (named named' : Option (List (Option (List ℕ)))) where
-  -- what a replay of the entries came to was told, with this exit status; where all are equal, the file, if there is one, has got its
-  -- name with the records of the last tables, and else no file has got a name
+  -- the result of a replay of the entries was printed, with this exit status; if all are equal, the file, if there is one, has got its name
+  -- with the records of the last tables; otherwise no file has got a name
   abbrev pub ReportsReplay : List Entry → Replay → Status → Type 0
   ReportsReplay entries (Equal last) ended =
       (ended ≡ status.Success) × Appends before after (lines_text (found_text (found.Equal (length entries)) ∷ [])) × NamesFile contents file named named' (AreRecords last)
   ReportsReplay entries (Differs place) ended =
       (ended ≡ status.NotConsistent) × Appends before after (lines_text (found_text (found.Differs place) ∷ [])) × (named' ≡ named)
 
--- the log's requests, which are those of these entries, were carried out from the tables on that the source gives, with this result
+-- the log contains these entries, and their replay on the tables that `data` gives has this result
 pub record IsReplayed («data» log : Option (List ℕ)) (entries : List Entry) (replay : Replay) : Type 0 where
   pub opening : Database
   pub is_dataset : Gives «data» (AreRecords opening)
@@ -47,14 +47,14 @@ pub record IsReplayed («data» log : Option (List ℕ)) (entries : List Entry) 
   pub is_replay : IsReplayOf opening entries replay
 
 module _ («data» log before after : Option (List ℕ)) where
-  -- they were, and that was told
+  -- the log was replayed, the result was printed, and no fault was reported
   pub record Replays (reported told' : Option (List CommandFault)) (replay : Replay) : Type 0 where
     pub entries : List Entry
     pub is_replayed : IsReplayed «data» log entries replay
     pub printed : Appends before after (lines_text (found_text (found_of entries replay) ∷ []))
     pub no_fault : told' ≡ reported
 
-  -- nothing was told; or they were carried out, and of the line that tells it a beginning was told
+  -- nothing was printed; or the log was replayed, and a beginning of the line of its result was printed
   abbrev pub ReplaysSome : Type 0
   ReplaysSome =
       (after ≡ before)
@@ -62,9 +62,9 @@ module _ («data» log before after : Option (List ℕ)) where
 
 module _ {F : Type 0} (contents : F → Option (List ℕ)) (file : Option F) (s : ReplaySettings) («data» : Option (List ℕ)) (data_lasts : Type 0) (log : Option (List ℕ)) (log_lasts : Type 0)
     (before after : Option (List ℕ)) (named named' : Option (List (Option (List ℕ)))) (reported told' : Option (List CommandFault)) where
-  -- By the exit status: every entry is equal, and the file, if there is one, has got its name with the records of the machine's
-  -- last tables; an entry differs, and no file has got a name; or so it is, and a fault was told, that of
-  -- the dataset, of the log, or of what is written, and of the line a beginning at most.
+  -- By the exit status. Success: every entry is equal, and the file, if there is one, has got its name with the records of the machine's last
+  -- tables. NotConsistent: an entry differs, and no file has got a name. Otherwise no file has got a name, a fault of the dataset, the log or
+  -- an output was reported, and at most a beginning of the line was printed.
   abbrev pub ReplayEnds : Status → Type 0
   ReplayEnds status.Success = (last : Database) × Replays «data» log before after reported told' (Equal last) × NamesFile contents file named named' (AreRecords last)
   ReplayEnds status.NotConsistent = (place : ℕ) × Replays «data» log before after reported told' (Differs place) × (named' ≡ named)

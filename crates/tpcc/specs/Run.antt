@@ -1,4 +1,4 @@
--- How `tpcc run` ends well, and what has its name where it ends early.
+-- How `tpcc run` ends, and which files have their names if it ends early.
 use Rattle.std.specs.Prelude.{◌≡◌, ◌⊎◌, ℕ, ◌+◌, true, List, [], ◌∷◌, ◌++◌, Option, None, Some, is_some, Result}
 use Rattle.std.specs.List.{AllZip, slice_get}
 use Rattle.schema.specs.Database.{Database}
@@ -18,30 +18,30 @@ use Rattle.tpcc.specs.declared.command_fault.CommandFault.{CommandFault}
 use Rattle.files.specs.Sending.{BeginsToWrite, OfFirst, Writes}
 use Rattle.tpcc.specs.Edges.{Gives, NamesFile}
 
--- wherever a place answers a request, the log has an entry there
+-- each place in the answers of a session is that of an entry of the log
 abbrev pub AreAllInLog : List Entry → List (List (Result ℕ Refusal)) → Type 0
 AreAllInLog log answers = (session : ℕ) (reported : List (Result ℕ Refusal)) → slice_get answers session ≡ Some reported → AreInLog log reported
 
--- the records of the answers to each session from this one on, with the replies of this log: by sessions, and those of a session by number
+-- the records of the answers to each session from this one on, with the replies of this log, by session and number
 abbrev pub AreAllAnswers : List Entry → ℕ → List (List (Result ℕ Refusal)) → List (List (List ℕ)) → Type 0
 AreAllAnswers log session [] rows = rows ≡ []
 AreAllAnswers log session (reported ∷ others) rows =
     (these : List (List (List ℕ))) × (rest : List (List (List ℕ))) × AreAnswers log session reported these × AreAllAnswers log (session + 1) others rest × (rows ≡ these ++ rest)
 
--- the records of the first of these answers: those of some sessions, and some number of the first of the next
+-- the records of a prefix of the answers: all answers of a prefix of the sessions, and a prefix of those of the next session
 abbrev pub BeginAllAnswers : List Entry → ℕ → List (List (Result ℕ Refusal)) → List (List (List ℕ)) → Type 0
 BeginAllAnswers log session [] rows = rows ≡ []
 BeginAllAnswers log session (reported ∷ others) rows =
     OfFirst (AreAnswers log session) reported rows
     ⊎ ((these : List (List (List ℕ))) × (rest : List (List (List ℕ))) × AreAnswers log session reported these × BeginAllAnswers log (session + 1) others rest × (rows ≡ these ++ rest))
 
--- these are the moves that the source gives; if there is none, there are none
+-- the source gives these moves; if there is no source, there are no moves
 abbrev pub GivesMoves : Option (Option (List ℕ)) → List MoveOrder → Type 0
 GivesMoves None moves = moves ≡ []
 GivesMoves (Some source) moves = Gives source (AreMoves moves)
 
--- The scripts that the sources give were served by so many executors from the tables that `data` gives, with this log, these last tables and
--- these answers; and there can be each of the moves.
+-- The scripts that the sources give were served by that many executors on the tables that `data` gives, which are consistent, with this log,
+-- these last tables and these answers. All moves are possible.
 pub record AreServed («data» : Option (List ℕ)) (sources : List (Option (List ℕ))) (executors : ℕ) (moving : Option (Option (List ℕ))) (log : List Entry) (last : Database) (answers : List (List (Result ℕ Refusal))) : Type 0 where
   pub opening : Database
   pub is_dataset : Gives «data» (AreRecords opening)
@@ -54,16 +54,16 @@ pub record AreServed («data» : Option (List ℕ)) (sources : List (Option (Lis
   pub outcome : IsOutcome opening scripts log last answers
 
 module _ {F : Type 0} (contents : F → Option (List ℕ)) (file tables : Option F) (before after : Option (List ℕ)) (named named' : Option (List (Option (List ℕ)))) where
-  -- The records of all answers were printed; and the files, of these two those that there are, have got their names, in turn: the log with
-  -- its records, and the tables with the records of the last tables.
+  -- The records of all answers were printed. Then the files, if there are such, got their names: first the log with its records, then the tables
+  -- with the records of the last tables.
   pub record HandsOut (log : List Entry) (last : Database) (answers : List (List (Result ℕ Refusal))) : Type 0 where
     pub printed : Writes before after (AreAllAnswers log 0 answers)
     pub with_log : Option (List (Option (List ℕ)))
     pub logged : NamesFile contents file named with_log (IsLog log)
     pub left : NamesFile contents tables with_log named' (AreRecords last)
 
-  -- A beginning of these records was printed, and no file has got its name; or all were, and, as tables are asked for, the log has got its
-  -- name, if there is one.
+  -- A beginning of these records was printed, and no file has got its name; or tables are asked for, all records were printed, and the log, if
+  -- there is one, has got its name.
   abbrev pub HandsOutSome : List Entry → List (List (Result ℕ Refusal)) → Type 0
   HandsOutSome log answers =
       (BeginsToWrite before after (BeginAllAnswers log 0 answers) × (named' ≡ named))
@@ -71,14 +71,14 @@ module _ {F : Type 0} (contents : F → Option (List ℕ)) (file tables : Option
 
 module _ {F : Type 0} (contents : F → Option (List ℕ)) («data» : Option (List ℕ)) (sources : List (Option (List ℕ))) (executors : ℕ) (moving : Option (Option (List ℕ))) (file tables : Option F)
     (before after : Option (List ℕ)) (named named' : Option (List (Option (List ℕ)))) where
-  -- nothing was printed, and no file has got its name; or the scripts were served, and some of what came of it was handed out
+  -- nothing was printed, and no file has got its name; or the scripts were served, and a part of the output was made (`HandsOutSome`)
   abbrev pub ServesSome : Type 0
   ServesSome =
       ((after ≡ before) × (named' ≡ named))
       ⊎ ((log : List Entry) × (last : Database) × (answers : List (List (Result ℕ Refusal))) × AreServed «data» sources executors moving log last answers
       × HandsOutSome contents file tables before after named named' log answers)
 
-  -- The scripts that the sources give were served from the tables that `data` gives, and all that came of it was handed out.
+  -- The scripts that the sources give were served on the tables that `data` gives, all output was made (`HandsOut`), and no fault was reported.
   pub record Serves (reported told' : Option (List CommandFault)) : Type 0 where
     pub log : List Entry
     pub last : Database

@@ -18,11 +18,11 @@ use Rattle.command_line.specs.declared.status.Status.TheVariants as status
 use Rattle.tpcc.specs.Edges.{NamesFile}
 use Rattle.tpcc.specs.Faults.{IsFirst, IsOfReading, IsOfWritingOneOf, EndsEarly}
 
--- where it is known what a source gives, that begins with the header of a dataset of this scale
+-- if it is known what the source gives, it begins with the header of a dataset of this scale
 abbrev pub GivesScale : Option (List ℕ) → Scale → Type 0
 GivesScale source scale = (text : List ℕ) → source ≡ Some text → (header : List (List ℕ)) × AreSpelt (header_fields scale) header × BeginsWith text header
 
--- what the settings ask for, at this scale
+-- the workload that the settings ask for, at this scale
 pub record IsWorkload (s : ScriptSettings) (at_scale : Scale) (w : Workload) : Type 0 where
   pub scale : w.scale ≡ at_scale
   pub home : w.home ≡ s.home
@@ -32,16 +32,17 @@ pub record IsWorkload (s : ScriptSettings) (at_scale : Scale) (w : Workload) : T
   pub seed : w.seed ≡ s.seed
   pub requests : w.requests ≡ s.requests
 
--- the records of the script that is drawn for a session, none of whose requests the check refuses
+-- the records of the script that is drawn for the session; the check accepts each of its requests
 abbrev pub AreDrawn : Workload → ℕ → List (List (List ℕ)) → Type 0
 AreDrawn workload session rows = IsScript (script_drawn workload session) rows × All (IsAccepted workload.scale) (script_drawn workload session)
 
--- the settings name a home warehouse that the scale has not
+-- the settings contain a home warehouse that is not in the scale
 abbrev pub IsNoWarehouse : Option ℕ → Scale → CommandFault → Type 0
 IsNoWarehouse home scale (fault.NoWarehouse warehouse) = (home ≡ Some warehouse) × (has_warehouse scale warehouse ≡ false)
 IsNoWarehouse home scale _ = ⊥
 
--- the dataset's header; or, as that tells a scale, that the scale has not the home warehouse; or one of the files that are made
+-- a fault of the dataset's header; or NoWarehouse: the header gives a scale without the home warehouse; or a fault of one of the files that
+-- are made
 abbrev pub IsOfMaking : ScriptSettings → Option (List ℕ) → Type 0 → CommandFault → Type 0
 IsOfMaking s source lasts of =
     IsOfReading s.«data».now source lasts (IsFirst first_fault) of
@@ -49,25 +50,25 @@ IsOfMaking s source lasts of =
     ⊎ IsOfWritingOneOf s.files.items of
 
 module _ {F : Type 0} (contents : F → Option (List ℕ)) where
-  -- these files have got their names in turn, each with the script of a session, the first of them with that of this session
+  -- these files have got their names in order, each with the script of its session; the first is the file of this session
   abbrev pub NamesScripts : Workload → ℕ → List F → Option (List (Option (List ℕ))) → Option (List (Option (List ℕ))) → Type 0
   NamesScripts workload session [] named named' = named' ≡ named
   NamesScripts workload session (file ∷ files) named named' =
       (between : Option (List (Option (List ℕ)))) × NamesFile contents (Some file) named between (AreDrawn workload session) × NamesScripts workload (session + 1) files between named'
 
-  -- the first of these files have got their names so, and those behind them have not
+  -- a prefix of the files have got their names, each with its script, and the others have not
   abbrev pub NamesFirstScripts : Workload → List F → Option (List (Option (List ℕ))) → Option (List (Option (List ℕ))) → Type 0
   NamesFirstScripts workload files named named' =
       (first : List F) × (others : List F) × (files ≡ first ++ others) × NamesScripts workload 0 first named named'
 
   module _ (settings : ScriptSettings) («data» : Option (List ℕ)) (files : List F) (named named' : Option (List (Option (List ℕ)))) where
-    -- each file has got its name, with the script of its session, drawn at the scale that the source begins with
+    -- each file has got its name with the script of its session, drawn at the scale in the source's header
     abbrev pub MakesAll : Type 0
     MakesAll =
         (scale : Scale) × GivesScale «data» scale × (workload : Workload) × IsWorkload settings scale workload
         × NamesScripts workload 0 files named named'
 
-    -- no file has got a name; or the first of them have, so
+    -- no file has got a name; or a prefix of the files have, each with its script
     abbrev pub MakesSome : Type 0
     MakesSome =
         (named' ≡ named)
@@ -75,7 +76,8 @@ module _ {F : Type 0} (contents : F → Option (List ℕ)) where
         × NamesFirstScripts workload files named named')
 
   module _ (settings : ScriptSettings) («data» : Option (List ℕ)) (lasts : Type 0) (files : List F) (named named' : Option (List (Option (List ℕ)))) where
-    -- by the exit status: all files are there; or the first of them are at most, and a fault was told
+    -- By the exit status. Success: all files have their names, and no fault was reported. Otherwise at most a prefix of the files have, and a
+    -- fault was reported.
     abbrev pub ScriptEnds : Option (List CommandFault) → Option (List CommandFault) → Status → Type 0
     ScriptEnds reported told' status.Success = MakesAll settings «data» files named named' × (told' ≡ reported)
     ScriptEnds reported told' ended = MakesSome settings «data» files named named' × EndsEarly (IsOfMaking settings «data» lasts) reported told' ended

@@ -1,30 +1,30 @@
--- What is told of the twelve conditions.
+-- The verdicts on the twelve conditions.
 use Rattle.std.specs.Prelude.{ℕ, ◌+◌, ◌==◌, Bool, true, false, ◌&&◌, not, if◌then◌else◌, List, [], ◌∷◌, ◌++◌, codes}
 use Rattle.std.specs.Fmt.{decimal}
 use Rattle.tpcc.specs.declared.verdicts.Found.{Found}
 use Rattle.tpcc.specs.declared.verdicts.Found.TheVariants.{Met, Broken, Skipped}
 use Rattle.tpcc.specs.declared.verdicts.Verdict.{Verdict}
 
--- what is told of the condition of this number, that holds or not; condition 11 is asked of fresh datasets alone
+-- the verdict on the condition of this number, which holds or not; condition 11 is checked on fresh datasets only
 abbrev pub found_of : Bool → ℕ → Bool → Found
 found_of fresh condition holds = if (condition == 11) && not fresh then Skipped else (if holds then Met else Broken)
 
--- what is told of the conditions from this number on
+-- the verdicts on the conditions from this number on
 abbrev pub verdicts_of : Bool → ℕ → List Bool → List Verdict
 verdicts_of fresh condition [] = []
 verdicts_of fresh condition (holds ∷ others) = record { condition = condition; found = found_of fresh condition holds } ∷ verdicts_of fresh (condition + 1) others
 
--- the word for it
+-- the word of a verdict
 abbrev pub found_word : Found → List ℕ
 found_word Met = codes "ok"
 found_word Broken = codes "broken"
 found_word Skipped = codes "skipped"
 
--- the line that tells it: the number, and the word
+-- the line of a verdict: the condition's number and the word
 abbrev pub verdict_text : Verdict → List ℕ
 verdict_text verdict = decimal verdict.condition ++ (codes " " ++ found_word verdict.found)
 
--- whether it tells that the condition is broken
+-- whether the verdict is that the condition is broken
 abbrev pub is_broken : Found → Bool
 is_broken Met = false
 is_broken Broken = true

@@ -13,12 +13,13 @@ use std::alloc::Global;
 use std::io::Write;
 use std::mem;
 
-/// Tells of each of the twelve conditions of consistency (TPC-C 5.11, clause 3.3.2) whether the dataset
-/// meets it, and gives the exit status.
+/// Checks the twelve conditions of consistency (TPC-C 5.11, clause 3.3.2) on the dataset and returns the exit status.
 ///
-/// On `found` comes `1 ok` or `1 broken`, and so on to 12, where 11 is `11 skipped` unless the dataset is
-/// said to be fresh; a beginning of these lines at most where a check ends early. Why it does is told to
-/// `errors`: a fault of the file, that not all could be printed, or no memory.
+/// A line for each condition is printed to `found`: `1 ok` or `1 broken`, and so on to 12. Condition 11 is
+/// `11 skipped`, unless the settings say that the dataset is fresh.
+///
+/// A fault is reported to `errors`: of the file, of printing, or out of memory. A beginning of the lines may have been
+/// printed then.
 pub fn check_over<D: Input + Drop, A: Write, E: Report>(
     alloc: Global,
     settings: &CheckSettings,
@@ -35,7 +36,7 @@ pub fn check_over<D: Input + Drop, A: Write, E: Report>(
     }
 }
 
-// Whether a condition that was asked is broken.
+// Whether a condition that was checked is broken.
 fn check<'a, D: Input + Drop, A: Write>(
     alloc: Global,
     settings: &CheckSettings<'a>,
@@ -50,7 +51,7 @@ fn check<'a, D: Input + Drop, A: Write>(
     let answers = consistency::check(alloc, &tables)?;
     let verdicts = verdicts(alloc, settings.fresh, &answers)?;
     print_lines(alloc, found, verdicts.as_slice())?;
-    // The end of the process gives all rows back at once.
+    // The end of the process frees all rows at once.
     mem::forget(tables);
     Ok(any_broken(verdicts.as_slice()))
 }

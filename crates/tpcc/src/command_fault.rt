@@ -8,7 +8,7 @@ use files::{FileError, FileFault};
 use std::alloc::{AllocError, AllocFailed};
 use std::fmt;
 
-/// The number by which it is told that reading or writing failed; texts have the faults 1 to 9.
+/// The fault number of a failure to read or write. The faults of texts are 1 to 9.
 const FAILED: u8 = 10;
 
 /// Why a command ended early.
@@ -17,19 +17,19 @@ pub enum CommandFault<'a> {
     NoMemory,
     /// The text of the file of that path has a fault.
     File { path: &'a str, fault: FileFault },
-    /// Reading or writing the file of that path failed, at this record, from 1; 0 where it can't be opened or
-    /// made, is not brought to the disk or does not get its name, or help or the version can't be printed.
+    /// Reading or writing the file of that path failed at this record, counted from 1. Record 0: the file can't be
+    /// opened, made, brought to the disk or given its name, or help or the version can't be printed.
     Failed { path: &'a str, record: u64 },
-    /// The tables of the dataset break this condition of consistency, the least of those that they break.
+    /// The tables of the dataset break this condition of consistency; it is the least that they break.
     NotConsistent(u8),
-    /// There can't be the move of this place, from 0, and it is the first: its range ends before it begins, or a
-    /// number of it is out of range.
+    /// The move at this place, from 0, is impossible, and it is the first: its range ends before it begins, or one of
+    /// its numbers is out of range.
     BadMove(usize),
     /// The dataset has no warehouse of this number.
     NoWarehouse(u32),
     /// A thread could not be started.
     NoThread,
-    /// A session, a slice or a claim was not back when all executors had ended.
+    /// A session, a slice or a claim had not come back when all executors had ended.
     Unsettled,
     /// The tables were asked for while a transaction was active, or a move outstanding.
     NotIdle,
@@ -39,15 +39,15 @@ impl<'a> CommandFault<'a> {
     ghost use Rattle.std.specs.Prelude.{◌≡◌};
     ghost use Rattle.tpcc.specs.Faults.{status_of, fault_of_file, fault_of_serving};
 
-    /// A file that can't be opened or made, is not brought to the disk or does not get its name, or the standard
-    /// output where help or the version can't be printed.
+    /// The fault of a file that can't be opened, made, brought to the disk or given its name, or of the standard output
+    /// if help or the version can't be printed.
     pub fn not_opened(path: &'a str) -> CommandFault<'a>
         ensures { result ≡ CommandFault.Failed path.entry 0 }
     {
         CommandFault::Failed { path, record: 0 }
     }
 
-    /// What was wrong with the file of that path.
+    /// The fault of this error in the file of that path.
     pub fn of_file(path: &'a str, error: FileError) -> CommandFault<'a>
         ensures { result ≡ fault_of_file path.entry error }
     {
@@ -58,7 +58,7 @@ impl<'a> CommandFault<'a> {
         }
     }
 
-    /// Why the scripts were not served.
+    /// The fault of a run whose scripts were not served.
     pub fn of_serving(fault: ServeFault) -> CommandFault<'a>
         ensures { result ≡ fault_of_serving fault }
     {
@@ -71,7 +71,7 @@ impl<'a> CommandFault<'a> {
         }
     }
 
-    /// How the program ends after it.
+    /// The exit status of the program after this fault.
     pub fn status(self) -> Status
         ensures { result ≡ status_of self.entry }
     {

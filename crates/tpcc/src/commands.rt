@@ -20,9 +20,9 @@ mod run;
 mod script;
 mod sim;
 
-/// Carries out on files what the settings ask for, and gives the exit status. Files that are read are
-/// opened first, in the order of their reading, and then those that are written are made: what can't be
-/// opened or made is found before anything is read.
+/// Carries out the command of the settings on files and returns the exit status. The input files are opened
+/// first, in the order in which they are read; then the output files are made. So a file that can't be opened
+/// or made is found before anything is read.
 pub fn carry_out<R: Files + AllocGlobal + Clock + Threads + Wait + Sync>(
     rt: &R,
     stdout: Stdout,

@@ -4,8 +4,8 @@ ghost use Rattle.tpcc.specs.Escaped.{shown_char};
 use std::fmt;
 use std::fmt::Write;
 
-/// A text as it is shown on a terminal: a control character, as a line feed or an escape, stands there by
-/// its number, as `\x1b`, and does nothing.
+/// A text as it is shown on a terminal. A control character, such as a line feed or an escape, is shown by its number,
+/// as `\x1b`, so it has no effect.
 #[derive(Clone, Copy, Debug)]
 pub struct Escaped<'a>(pub &'a str);
 

@@ -6,14 +6,14 @@ use std::sync::atomic::{AtomicU64, Ordering};
 /// How long each request of a run took, in nanoseconds.
 #[derive(Drop)]
 pub struct Latencies {
-    // Where the times of each session begin.
+    // The index in `times` of each session's first request.
     firsts: Vec<usize>,
-    // Of each request the moment when it began, and once it has ended how long it took; 0 before.
+    // For each request 0 before it begins, then the moment when it began, and once it has ended how long it took.
     times: Vec<AtomicU64>,
 }
 
 impl Latencies {
-    /// Of no requests.
+    /// The latencies of no requests.
     pub fn new(alloc: Global) -> Latencies {
         Latencies {
             firsts: Vec::new(alloc),
@@ -21,7 +21,8 @@ impl Latencies {
         }
     }
 
-    /// Of the requests of these scripts, of which none has begun.
+    /// The latencies of the requests of these scripts, none of which has begun. Returns NoMemory if an allocation
+    /// fails.
     pub fn of_scripts(alloc: Global, scripts: &[Script]) -> Result<Latencies, NoMemory> {
         let mut latencies = Latencies::new(alloc);
         for script in scripts {
@@ -33,14 +34,14 @@ impl Latencies {
         Ok(latencies)
     }
 
-    /// Notes when a request began; the moment is not 0.
+    /// Records the moment when a request began, in nanoseconds; it is not 0.
     pub fn begin(&self, session: u32, number: u32, moment: u64) {
         if let Some(time) = self.time(session, number) {
             time.store(moment, Ordering::SeqCst);
         }
     }
 
-    /// Notes when it ended.
+    /// Records the moment when a request ended, in nanoseconds. The recorded time is at least 1 nanosecond.
     pub fn end(&self, session: u32, number: u32, moment: u64) {
         if let Some(time) = self.time(session, number) {
             let began = time.load(Ordering::SeqCst);
@@ -48,7 +49,7 @@ impl Latencies {
         }
     }
 
-    /// How long those took that have ended, from the least on.
+    /// The times of the requests that have ended, ascending.
     pub fn sorted(&self, alloc: Global) -> Result<Vec<u64>, NoMemory> {
         let mut sorted = Vec::with_capacity(alloc, self.times.len())?;
         for time in &self.times {
@@ -67,7 +68,7 @@ impl Latencies {
     }
 }
 
-/// The time within which so many in 100 of the times are, which ascend: 0 where there are none.
+/// The time that `share` in 100 of the `times` don't exceed; 0 if there are none. The times ascend.
 pub fn within(times: &[u64], share: u8) -> u64 {
     let count = times.len() as u128 * u128::from(share);
     let place = count.div_ceil(100).saturating_sub(1);

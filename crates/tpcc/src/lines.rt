@@ -1,7 +1,7 @@
-//! Where the records of a text begin, line by line, as its bytes pass.
+//! Counts the lines and records of a text, byte by byte.
 
-/// The lines and records of a text up to a byte. Blank lines, and a byte order mark at the front, are no
-/// records; a line end between quotation marks ends none.
+/// The lines and records of a text up to a byte. Blank lines, and a byte order mark at the front, are not
+/// records. A line end between quotation marks doesn't end a record.
 #[derive(Clone, Copy, Debug)]
 pub struct Lines {
     /// The line of the next byte, from 1, as an editor counts.
@@ -9,26 +9,26 @@ pub struct Lines {
     /// How many records have begun.
     pub records: u64,
     within: Within,
-    // How many bytes of a byte order mark came so far, if nothing else did.
+    // How many bytes of a byte order mark came so far, if no other byte did.
     mark: usize,
 }
 
 // The bytes of a byte order mark.
 const MARK: [u8; 3] = [0xef, 0xbb, 0xbf];
 
-// What the next byte is within.
+// Where in a record the next byte is.
 #[derive(Clone, Copy, Debug, PartialEq, Eq)]
 enum Within {
     Nothing,
     FieldStart,
     Field,
     Quotes,
-    // A quotation mark came in quotes: it ends them, unless another one follows.
+    // Behind a quotation mark in quotes, which ends them unless another one follows.
     QuoteInQuotes,
 }
 
 impl Lines {
-    /// Before the first byte.
+    /// The state before the first byte.
     pub fn new() -> Lines {
         Lines {
             line: 1,
@@ -38,7 +38,7 @@ impl Lines {
         }
     }
 
-    /// Passes the next byte.
+    /// Takes the next byte.
     pub fn pass(&mut self, byte: u8) {
         if self.is_of_mark(byte) {
             return;
@@ -65,7 +65,7 @@ impl Lines {
     }
 }
 
-// What comes after that byte.
+// Where the byte after this one is.
 fn after(within: Within, byte: u8) -> Within {
     match (within, byte) {
         (Within::Quotes, b'"') => Within::QuoteInQuotes,

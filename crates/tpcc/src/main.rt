@@ -41,7 +41,7 @@ fn main(rt: HostRuntime) -> ExitCode {
     ExitCode::from(status.code())
 }
 
-// Tells of a mistake in the words, and gives the exit status.
+// Prints a mistake in the command line and returns the exit status.
 fn reported(rt: &impl Eprint, fault: UsageFault) -> Status {
     let _ = rt.eprint(&fault);
     fault.status()

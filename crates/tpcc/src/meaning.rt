@@ -1,5 +1,5 @@
-//! What a fault means, for those who see it on a terminal: where it stands in the file as an editor
-//! counts, what was found there, what would be right.
+//! The explanation of a fault on a terminal: the line of the file as an editor counts, what was found there, and what
+//! would be right.
 
 use crate::command_fault::CommandFault;
 use crate::escaped::Escaped;
@@ -21,12 +21,12 @@ mod tables;
 
 pub use formats::{Format, Inputs};
 
-// How many fields are told of a record, and how many bytes of a field.
+// How many fields of a record are shown, and how many bytes of a field.
 const MOST_FIELDS: usize = 12;
 
 const MOST_BYTES: usize = 24;
 
-/// Tells what the fault means. That it can't be told changes nothing.
+/// Prints what the fault means. An error in printing is ignored.
 pub fn report_meaning<R: Files + AllocGlobal, W: Write>(
     rt: &R,
     sink: &mut W,
@@ -78,7 +78,7 @@ fn print<W: Write>(sink: &mut W, words: &str) {
     let _ = writeln!(sink, "  {words}");
 }
 
-// Tells the system's words, and where a log was left.
+// Prints the system's message, and the name under which a log was left.
 fn report_trouble<W: Write>(sink: &mut W, path: &str, trouble: &Trouble) {
     if let Some(code) = trouble.code() {
         let error = io::Error::from_raw_os_error(code);
@@ -93,8 +93,8 @@ fn report_trouble<W: Write>(sink: &mut W, path: &str, trouble: &Trouble) {
     }
 }
 
-// Tells the line where the record begins, as an editor counts, what stands there, and which field has the
-// fault. Of the file no more is in memory than a record that can be read.
+// Prints the line where the record begins, as an editor counts, the fields of the record, and which field has the
+// fault. At most one readable record of the file is in memory.
 fn report_place<R: Files + AllocGlobal, W: Write>(
     rt: &R,
     sink: &mut W,
@@ -141,7 +141,7 @@ fn report_place<R: Files + AllocGlobal, W: Write>(
     }
 }
 
-// The line where the record of that number begins.
+// The line where the record of that number, from 1, begins.
 fn line_of<R: Files>(rt: &R, path: &str, record: u64) -> io::Result<u64> {
     let mut file = fs::open(rt, path)?;
     let mut lines = Lines::new();
@@ -161,7 +161,7 @@ fn line_of<R: Files>(rt: &R, path: &str, record: u64) -> io::Result<u64> {
     Ok(lines.line)
 }
 
-// Tells the first fields of a record.
+// Prints the first fields of a record.
 fn report_fields<W: Write>(sink: &mut W, mut fields: Fields<'_>) -> io::Result<()> {
     let count = fields.count();
     for place in 0..count.min(MOST_FIELDS) {
@@ -176,7 +176,7 @@ fn report_fields<W: Write>(sink: &mut W, mut fields: Fields<'_>) -> io::Result<(
     writeln!(sink)
 }
 
-// Tells which field of the record has the fault, what is there, and what would be right.
+// Prints which field of the record has the fault, what is there, and what would be right.
 fn report_found<W: Write>(sink: &mut W, mut fields: Fields<'_>, found: Found) -> io::Result<()> {
     let Found {
         place,
@@ -197,7 +197,7 @@ fn report_found<W: Write>(sink: &mut W, mut fields: Fields<'_>, found: Found) ->
     writeln!(sink, ": it should be {spelling}")
 }
 
-// Tells the first bytes of a field.
+// Prints the first bytes of a field.
 fn report_field<W: Write>(sink: &mut W, field: &[u8]) -> io::Result<()> {
     match str::from_utf8(&field[..field.len().min(MOST_BYTES)]) {
         Ok(text) => {
@@ -212,7 +212,7 @@ fn report_field<W: Write>(sink: &mut W, field: &[u8]) -> io::Result<()> {
     Ok(())
 }
 
-// What a fault of that kind is, and what would be right.
+// The explanation of a fault of that kind.
 fn meaning(fault: FileFault) -> &'static str {
     match fault.kind {
         FaultKind::NoHeader => {

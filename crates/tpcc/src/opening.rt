@@ -1,4 +1,4 @@
-//! Files that commands read and write.
+//! The files that commands read and write.
 ghost use Rattle.std.specs.Prelude.{◌≡◌, is_some, IfOk};
 
 use crate::command_fault::CommandFault;
@@ -10,20 +10,20 @@ use std::fs;
 use std::io::{IsTerminal, Stderr};
 use std::rt::Files;
 
-/// Opens and makes files, of whose reading and writing it is told on a terminal.
+/// Opens and makes files whose reading and writing is shown on a terminal.
 #[derive(Drop)]
 pub struct Opener<'a, R> {
     pub rt: &'a R,
-    /// None where there is no terminal, or nothing is to be told.
+    /// None if there is no terminal, or progress is not to be shown.
     pub terminal: Option<Stderr>,
     pub trouble: &'a Trouble,
 }
 
-/// A file that is read, of which it is told on a terminal.
+/// A file that is read, with its progress on a terminal.
 pub type Watched<'a, F> = ProgressReader<'a, Reader<F>, Stderr>;
 
 impl<'a, R: Files + AllocGlobal> Opener<'a, R> {
-    /// Files of `rt`, of which is told on the standard error where that is a terminal, unless `quiet`.
+    /// An opener of the files of `rt`. Progress is shown on the standard error if that is a terminal, unless `quiet`.
     pub fn new(rt: &'a R, stderr: Stderr, quiet: bool, trouble: &'a Trouble) -> Self {
         let terminal = if !quiet && stderr.is_terminal() {
             Some(stderr)
@@ -37,14 +37,14 @@ impl<'a, R: Files + AllocGlobal> Opener<'a, R> {
         }
     }
 
-    /// Opens a file that is read.
+    /// Opens an input file.
     pub fn open(&self, path: &'a str) -> Result<Watched<'a, R::File>, CommandFault<'a>> {
         let source = self.trouble.opened(path, fs::open(self.rt, path))?;
         let meter = Meter::new(path, "read", self.terminal);
         Ok(ProgressReader::new(Reader { source }, meter, self.trouble))
     }
 
-    /// Opens the file that is read, if there is to be one.
+    /// Opens an input file, if there is a path.
     pub fn open_some(
         &self,
         path: Option<&'a str>,
@@ -57,7 +57,7 @@ impl<'a, R: Files + AllocGlobal> Opener<'a, R> {
         }
     }
 
-    /// Makes the file that is written, if there is to be one.
+    /// Makes an output file, if there is a path.
     pub fn make(&self, path: Option<&'a str>) -> Result<Option<NewFile<'a, R>>, CommandFault<'a>>
         ensures { IfOk result (λ file. is_some file ≡ is_some path.entry) }
     {

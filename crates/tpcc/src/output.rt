@@ -1,5 +1,5 @@
-//! A file that is written has another name, beside its own, until it is whole. So what stood there stays
-//! as it was, whatever ends the program before.
+//! An output file is written beside its path under another name, and gets its own name once it is whole. So what
+//! had the name before stays as it was if the program ends earlier.
 ghost use Rattle.std.specs.Prelude.{None};
 
 use crate::command_fault::CommandFault;
@@ -12,20 +12,20 @@ use std::io::{ErrorKind, Stderr, Write};
 use std::rt::Files;
 use std::{fs, io};
 
-// How many other names are tried, of which some may be left of runs that were ended.
+// How many other names are tried. Some may be left from runs that were interrupted.
 const MOST_NAMES: u32 = 10_000;
 
-/// A file that is being written. Dropped before it has its name it is gone.
+/// A file that is being written. It is removed if it is dropped before it has its name or is left.
 pub struct NewFile<'a, R: Files> {
     rt: &'a R,
     file: R::File,
-    // None where it is written in place, or is to stay under the name that it has.
+    // None if it is written in place, or stays under the name that it has.
     names: Option<Names>,
     meter: Meter<'a, Stderr>,
     trouble: &'a Trouble,
 }
 
-// The other name, under which a file is written, its number, and its own.
+// The other name, under which the file is written, that name's number, and the file's own name.
 #[derive(Debug, Drop)]
 struct Names {
     other: String,
@@ -67,7 +67,7 @@ impl<R: Files> Write for NewFile<'_, R> {
     }
 }
 
-/// The folders in which files were made.
+/// Names files in the folders where they were made.
 #[derive(Clone, Copy, Debug)]
 pub struct Folders;
 
@@ -112,9 +112,9 @@ impl<'a, R: Files> OutputFiles<NewFile<'a, R>> for Folders {
     }
 }
 
-/// Makes the file of that path, beside it and under another name; what is there has to be one that may be
-/// written, and stays as it is. A link is followed. What is there and no plain file, as a device or a
-/// pipe, is opened and written in place.
+/// Makes an output file for that path, beside it and under another name. A file that has the path already has to
+/// be writable, and stays as it is. A link is followed. A device, a pipe or anything else that is not a plain file
+/// is opened and written in place.
 pub fn make<'a, R: Files + AllocGlobal>(
     rt: &'a R,
     path: &'a str,
@@ -147,7 +147,8 @@ pub fn make<'a, R: Files + AllocGlobal>(
     })
 }
 
-// Makes a file beside the one of the name `own`, which may be there and has these permissions then.
+// Makes a file beside the name `own`. `permissions` are those of the file that has this name, if there is one; the
+// new file gets them.
 fn make_beside<'a, R: Files + AllocGlobal>(
     rt: &R,
     path: &'a str,
@@ -162,7 +163,7 @@ fn make_beside<'a, R: Files + AllocGlobal>(
         let other = other_name(rt.alloc(), own.as_str(), number)?;
         match options.open(rt, other.as_str()) {
             Ok(file) => {
-                // Where the file can't have them it has those of any new file.
+                // If they can't be set, the file keeps those of a new file.
                 if let Some(permissions) = permissions {
                     let _ = file.set_permissions(permissions);
                 }

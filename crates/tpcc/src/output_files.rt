@@ -6,16 +6,16 @@ use std::io::Write;
 
 /// Gives files their names once they are whole.
 pub trait OutputFiles<F: Write> {
-    // What the files hold that have got their names here, in turn, where that is known.
+    // The contents of the files that were named here, in order, where that is known.
     ghost named: { Self → Option (List (Option (List ℕ))) };
 
-    /// Has all of the file on the disk.
+    /// Brings all of the file to the disk.
     fn settle(&mut self, file: &mut F) -> io::Result<()>
         ensures same { named self.new ≡ named self.old }
         ensures text { F.contents file.new ≡ F.contents file.old };
 
-    /// Gives the file its own name; what had it before is gone then. After an error the file is gone, and
-    /// what had the name stays.
+    /// Gives the file its own name and replaces what had that name. After an error the file is removed, and the
+    /// name is as it was.
     fn give_name(&mut self, file: F) -> io::Result<()>
         ensures ok { OnOk result (Shelves (named self.old) (named self.new) (F.contents file)) }
         ensures err { OnErr result (named self.new ≡ named self.old) };

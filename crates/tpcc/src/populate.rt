@@ -12,8 +12,8 @@ use std::alloc::Global;
 use std::io::Write;
 use std::mem;
 
-/// Makes the dataset that the benchmark begins with, writes it to `file`, which gets its name on `output_files`,
-/// and gives the exit status. Why it ended early is told to `errors`: a fault of the file, or no memory.
+/// Makes the initial dataset of the benchmark, writes it to `file`, which gets its name on `output_files`, and returns
+/// the exit status. A fault is reported to `errors`: of the file, or out of memory; the file has not got its name then.
 pub fn populate_over<T: Write + Drop, N: OutputFiles<T>, E: Report>(
     alloc: Global,
     settings: &PopulateSettings,
@@ -29,7 +29,7 @@ pub fn populate_over<T: Write + Drop, N: OutputFiles<T>, E: Report>(
     }
 }
 
-// Where it ends early the tables have not got their name.
+// Makes the dataset and writes it. After an error its file has not got its name.
 fn make<'a, T: Write + Drop, N: OutputFiles<T>, E: Report>(
     alloc: Global,
     settings: &PopulateSettings<'a>,
@@ -47,7 +47,7 @@ fn make<'a, T: Write + Drop, N: OutputFiles<T>, E: Report>(
     errors.begin("making", customers, "customers, and what belongs to them");
     let tables = populate(alloc, settings.scale, settings.seed, settings.now)?;
     name_tables(alloc, settings.file, file, &tables, output_files)?;
-    // The end of the process gives all rows back at once.
+    // The end of the process frees all rows at once.
     mem::forget(tables);
     Ok(())
 }

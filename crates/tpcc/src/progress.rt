@@ -4,24 +4,24 @@ use files::Input;
 use std::io;
 use std::io::Write;
 
-// It is told of each so many bytes.
+// The bytes between two reports.
 const STRIDE: u64 = 16_000_000;
 
-/// Tells on a terminal how much of a large file was read or written.
+/// Shows on a terminal how much of a large file was read or written.
 #[derive(Drop)]
 pub struct Meter<'a, W> {
     path: &'a str,
     // What is done with the file: `read` or `written`.
     done: &'static str,
-    // Where it is told, if anywhere.
+    // Where it is shown, if anywhere.
     terminal: Option<W>,
     bytes: u64,
-    // How many bytes there were when it was told last.
+    // How many bytes there were at the last report.
     reported: u64,
 }
 
 impl<'a, W: Write + Drop> Meter<'a, W> {
-    /// Of the file of that path, of which is told on `terminal` how much was `done`.
+    /// A meter of the file of that path. It shows on `terminal` how much was `done`, which is `read` or `written`.
     pub fn new(path: &'a str, done: &'static str, terminal: Option<W>) -> Self {
         Meter {
             path,
@@ -32,7 +32,7 @@ impl<'a, W: Write + Drop> Meter<'a, W> {
         }
     }
 
-    /// Counts bytes, and tells of them where it is time. That it can't be told is no fault.
+    /// Counts bytes, and reports after each 16,000,000 or more. An error in printing is ignored.
     pub fn count(&mut self, bytes: u64) {
         self.bytes = self.bytes.saturating_add(bytes);
         if self.bytes.saturating_sub(self.reported) >= STRIDE {
@@ -41,7 +41,7 @@ impl<'a, W: Write + Drop> Meter<'a, W> {
         }
     }
 
-    /// Ends the line, if there is one.
+    /// Ends the line of the reports, if one was printed.
     pub fn end(&mut self) {
         if self.reported > 0 {
             self.print("\n");
@@ -61,7 +61,7 @@ impl<'a, W: Write + Drop> Meter<'a, W> {
     }
 }
 
-/// A reader of whose reading it is told on a terminal, and what the system says of it noted.
+/// A reader that shows its progress on a terminal and notes the system's errors.
 #[derive(Drop)]
 pub struct ProgressReader<'a, R, W> {
     source: R,
@@ -102,7 +102,7 @@ impl<R: Input + Drop, W: Write + Drop> Input for ProgressReader<'_, R, W> {
     }
 }
 
-/// A writer that is kept, of which what the system says is noted.
+/// A writer that notes the system's errors.
 #[derive(Drop)]
 pub struct NotingWriter<'a, W> {
     sink: W,

@@ -25,14 +25,16 @@ use std::rt::Clock;
 use std::{fmt, mem};
 use terminals::read_log;
 
-/// Carries out the requests of a log one at a time, in log order, from the dataset, compares the replies,
-/// and gives the exit status.
+/// Runs the requests of a log one at a time, in log order, on the dataset, compares the replies and returns the exit
+/// status.
 ///
-/// `data` is read first, and then the log; the first fault decides, and then nothing was carried out. On
-/// `found` comes `equal N` where every entry is what the engine does, of which there are N, and then the
-/// tables are written to `tables` and get their name on `output_files`; else `differs P`, with the first place
-/// whose request is refused or whose reply is another; a beginning of this line at most where a replay ends
-/// early. Why it does is told to `errors`: a fault of a file, or no memory.
+/// `data` is read first, then the log. The first fault ends the command, and nothing is run. If each of the N entries
+/// is the machine's, `equal N` is printed to `found`, and the last tables are written to `tables` and get their name on
+/// `output_files`. Otherwise `differs P` is printed, with the first place whose request is refused or whose reply
+/// differs.
+///
+/// A fault is reported to `errors`: of a file, or out of memory. A beginning of the line may have been printed then,
+/// and the tables have not got their name.
 pub fn replay_over<
     R: Clock,
     D: Input + Drop,
@@ -71,7 +73,7 @@ pub fn replay_over<
     }
 }
 
-// The exit status of a replay; where it ends early the tables have not got their name.
+// The exit status of a replay. After an error the tables have not got their name.
 fn replay_log<
     'a,
     R: Clock,
@@ -119,7 +121,7 @@ fn replay_log<
     Ok(status)
 }
 
-// Those of the entries that are what the engine does, up to the first that is not.
+// The entries before the first one that differs from the machine's.
 fn equal_entries<'a>(came_to: &Replay, entries: &'a [Entry]) -> &'a [Entry]
     requires { (opening : Database) × IsReplayOf opening entries.now came_to.now }
 {
@@ -129,7 +131,7 @@ fn equal_entries<'a>(came_to: &Replay, entries: &'a [Entry]) -> &'a [Entry]
     }
 }
 
-// Tells what the replay of the entries came to, writes the last tables, and gives the exit status.
+// Prints the result of the replay, writes the last tables if all entries are equal, and returns the exit status.
 fn print<'a, A: Write, T: Write + Drop, N: OutputFiles<T>>(
     alloc: Global,
     settings: &ReplaySettings<'a>,
@@ -149,7 +151,7 @@ fn print<'a, A: Write, T: Write + Drop, N: OutputFiles<T>>(
         Replay::Equal(last) => {
             print_lines(alloc, found, &[Found::Equal(entries.len())])?;
             write_tables(alloc, settings.tables, tables, &last, output_files)?;
-            // The end of the process gives all rows back at once.
+            // The end of the process frees all rows at once.
             mem::forget(last);
             Ok(Status::Success)
         }
@@ -160,14 +162,14 @@ fn print<'a, A: Write, T: Write + Drop, N: OutputFiles<T>>(
     }
 }
 
-// Tells of these entries, if that sums up.
+// Reports how these entries ended, if a summary is wanted.
 fn sum_up<E: Report>(alloc: Global, entries: &[Entry], served_for: u64, errors: &mut E)
     ensures { E.reported errors.new ≡ E.reported errors.old }
 {
     if !errors.sums_up() {
         return;
     }
-    // Where there is no memory for it there is no summary.
+    // If an allocation fails there is no summary.
     if let Ok(tally) = Tally::of_entries(alloc, entries) {
         errors.sum_up(&Summary {
             tally: &tally,
@@ -177,7 +179,7 @@ fn sum_up<E: Report>(alloc: Global, entries: &[Entry], served_for: u64, errors: 
     }
 }
 
-// The entries of the log of that path.
+// Reads the entries of the log of that path.
 fn read_entries<'a, L: Input + Drop>(
     alloc: Global,
     path: &'a str,
@@ -192,7 +194,7 @@ fn read_entries<'a, L: Input + Drop>(
     }
 }
 
-// What a replay came to: how many entries are equal, or the place that differs.
+// The result of a replay: how many entries are equal, or the first place that differs.
 #[derive(Clone, Copy, Debug, PartialEq, Eq)]
 enum Found {
     Equal(usize),

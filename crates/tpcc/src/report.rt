@@ -12,37 +12,37 @@ use std::io;
 use std::io::{IsTerminal, Stderr, Write};
 use std::rt::Files;
 
-/// Who is told what a command does, what it came to, or why it ended early.
+/// Receives the reports of a command: what it works on, the summary of its result, and why it ended early.
 pub trait Report {
-    // The faults that were told here, in turn, where that is known.
+    // The faults reported so far, in order, where that is known.
     ghost reported: { Self → Option (List command_fault.CommandFault) };
 
-    /// Tells of the fault, and gives the exit status. That it can't be told changes nothing.
+    /// Reports the fault and returns the exit status. An error in printing it is ignored.
     fn report(&mut self, fault: CommandFault<'_>) -> Status
         ensures status { result ≡ status_of fault.entry }
         ensures reports { Reports (reported self.old) (reported self.new) fault.entry };
 
-    /// Tells that work begins on so many of these, where that may take a while.
+    /// Reports that work on so many items begins, if it may take a while: `doing` is the work, `of` the items.
     fn begin(&mut self, doing: &'static str, count: usize, of: &'static str)
         ensures { reported self.new ≡ reported self.old };
 
-    /// Whether it is to be summed up what was done.
+    /// Whether a summary is wanted.
     fn sums_up(&self) -> bool;
 
-    /// Tells what was done.
+    /// Reports the summary.
     fn sum_up(&mut self, summary: &Summary)
         ensures { reported self.new ≡ reported self.old };
 }
 
-// Of fewer it is not told that work on them begins.
+// Work on fewer items is not reported.
 const MANY: usize = 20_000;
 
-/// Tells on the standard error: a line that other programs can read and, on a terminal, what it means.
+/// Reports on the standard error: a fault as a line that other programs can read and, on a terminal, what it means.
 #[derive(Clone, Copy, Drop)]
 pub struct FaultReporter<'a, R> {
     rt: &'a R,
     stderr: Stderr,
-    // Where it is told that work begins, if anywhere.
+    // Where the beginning of work is reported, if anywhere.
     terminal: Option<Stderr>,
     sums_up: bool,
     inputs: Inputs<'a>,
@@ -50,8 +50,9 @@ pub struct FaultReporter<'a, R> {
 }
 
 impl<'a, R: Files + AllocGlobal> FaultReporter<'a, R> {
-    /// Tells on the standard error; of the work only where that is a terminal, and not if it is to be
-    /// `quiet`; and then also what it came to, as where `summary` asks for it. These files are read.
+    /// A reporter on the standard error. It reports the beginning of work only if that is a terminal, and never if
+    /// `quiet`; it reports the summary in the same cases, and if `summary` asks for it, unless `quiet`. `inputs` are
+    /// the files that are read.
     pub fn new(
         rt: &'a R,
         stderr: Stderr,
@@ -72,7 +73,7 @@ impl<'a, R: Files + AllocGlobal> FaultReporter<'a, R> {
     }
 }
 
-// Tells the fault in a line.
+// Prints the line of the fault.
 fn print<W: Write>(sink: &mut W, fault: CommandFault<'_>) -> io::Result<()>
     ensures { OnOk result (Appends (W.contents sink.old) (W.contents sink.new) (reported_line fault.entry)) }
 {

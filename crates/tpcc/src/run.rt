@@ -32,15 +32,18 @@ use std::sync::Wait;
 use std::thread::Threads;
 use terminals::{read_moves, read_script, write_answers};
 
-/// Serves the scripts from the dataset, by as many executors as are asked for. An error is the exit status.
+/// Serves the scripts on the dataset with as many executors as the settings ask for. An error is the exit status.
 ///
-/// `data` is read first, then the scripts in turn, and then the moves; the first fault decides, and then
-/// nothing was run.
-/// The log is written to `log` and is on the disk first; then the answers go to `answers`, by session and
-/// number, with the replies of the log; then the log gets its name on `output_files`, and then the tables as they are left are written to `tables`
-/// and get theirs. `watch` looks on while they are served, and what it all came to is summed up to `errors`,
-/// if that sums up. Why a run ended early is told to `errors`: a fault of a file, a move that there can't be,
-/// tables that are not consistent, no thread, something that was not back at the end, or no memory.
+/// Input: `data` is read first, then the scripts in order, then the moves. The first fault ends the command, and
+/// nothing is run.
+///
+/// Output: the log is written to `log` and brought to the disk; the answers are printed to `answers`, by session and
+/// number, with the replies of the log; the log gets its name on `output_files`; the last tables are written to
+/// `tables` and get their name. `watch` observes the serving, and a summary goes to `errors` if that wants one.
+///
+/// A fault is reported to `errors`: of a file, an impossible move, tables that are not consistent, no thread,
+/// something that was not back at the end, or out of memory. Then at most a beginning of the answers was printed, and
+/// no file has its name; or tables are asked for, all answers were printed, and the log, if there is one, has its name.
 pub fn run_over<
     R: Clock + Threads + Wait + Sync,
     D: Input + Drop,
@@ -152,13 +155,12 @@ fn run<
         output_files,
     )?;
     sum_up(alloc, &watch, scripts.as_slice(), &outcome, errors);
-    // The end of the process gives all rows, entries and answers back at once.
+    // The end of the process frees all rows, entries and answers at once.
     mem::forget(outcome);
     Ok(())
 }
 
-// Writes the log, prints the answers, gives the log its name, and then writes the tables and gives them
-// theirs.
+// Writes the log, prints the answers, gives the log its name, writes the tables and gives them theirs.
 fn hand_out<'a, A: Write, F: Write + Drop, N: OutputFiles<F>>(
     alloc: Global,
     settings: &RunSettings<'a>,
@@ -189,7 +191,7 @@ fn hand_out<'a, A: Write, F: Write + Drop, N: OutputFiles<F>>(
     )
 }
 
-// The scripts of these paths.
+// Reads the scripts of these paths.
 fn read_scripts<'a, S: Input + Drop>(
     alloc: Global,
     paths: &[&'a str],
@@ -210,7 +212,7 @@ fn read_scripts<'a, S: Input + Drop>(
     Ok(scripts)
 }
 
-// The moves of this path, if there is one.
+// Reads the moves of this path, if there is one.
 fn read_orders<'a, S: Input + Drop>(
     alloc: Global,
     path: Option<&'a str>,
@@ -268,7 +270,7 @@ fn print_session<A: Write>(
     }
 }
 
-// Tells how the requests ended, and how long they took, if that sums up.
+// Reports how the requests ended and how long they took, if a summary is wanted.
 fn sum_up<R: Clock, E: Report>(
     alloc: Global,
     watch: &Watch<'_, R>,
@@ -281,7 +283,7 @@ fn sum_up<R: Clock, E: Report>(
     if !errors.sums_up() {
         return;
     }
-    // Where there is no memory for it there is no summary.
+    // If an allocation fails there is no summary.
     let Ok(tally) = tally_of(alloc, scripts, outcome) else {
         return;
     };

@@ -16,9 +16,9 @@ use std::alloc::Global;
 use std::io::Write;
 use workload::{Workload, draw_script};
 
-/// Makes a script for each session, of the scale that `data` begins with, writes them to `files`, one after
-/// the other, each of which then gets its name on `output_files`, and gives the exit status. Why it ended early is
-/// told to `errors`: a fault of a file, a home warehouse that the scale has not, or no memory.
+/// Draws a script for each session, at the scale in the header of `data`, writes them one after the other to `files`,
+/// each of which then gets its name on `output_files`, and returns the exit status. A fault is reported to `errors`: of
+/// a file, a home warehouse that is not in the scale, or out of memory. A prefix of the files may have their names then.
 pub fn script_over<D: Input + Drop, T: Write + Drop, N: OutputFiles<T>, E: Report>(
     alloc: Global,
     settings: &ScriptSettings,
@@ -59,7 +59,7 @@ fn make<'a, D: Input + Drop, T: Write + Drop, N: OutputFiles<T>>(
     write_scripts(alloc, &settings.files, &workload, files, output_files)
 }
 
-// The scale of the dataset of that path.
+// Reads the scale of the dataset of that path.
 fn read_header<'a, D: Input + Drop>(
     alloc: Global,
     path: &'a str,
@@ -74,7 +74,7 @@ fn read_header<'a, D: Input + Drop>(
     }
 }
 
-// What the settings ask for, at this scale.
+// The workload that the settings ask for, at this scale.
 fn workload<'a>(settings: &ScriptSettings<'a>, scale: Scale) -> Result<Workload, CommandFault<'a>>
     ensures value { IfOk result (IsWorkload settings.entry.now scale) }
     ensures fault { IfErr result (IsNoWarehouse settings.entry.now.home scale) }
@@ -95,7 +95,7 @@ fn workload<'a>(settings: &ScriptSettings<'a>, scale: Scale) -> Result<Workload,
     })
 }
 
-// Draws the script of each session, and writes it to its file, which then gets its name.
+// Draws the script of each session and writes it to its file, which then gets its name.
 fn write_scripts<'a, T: Write + Drop, N: OutputFiles<T>>(
     alloc: Global,
     paths: &[&'a str],

@@ -28,13 +28,16 @@ use world::{GatherFault, OpenFault, Simulation, simulate};
 
 /// Simulates a schedule on the dataset, event by event. An error is the exit status.
 ///
-/// `data` is read first, and then the schedule; the first fault decides, and then nothing was run. The log
-/// is written to `log` and is on the disk first; then what is printed of the schedule goes to `reported`, one
-/// record for each event; then the log gets its name on `output_files`, then the picture of what was printed is
-/// written to `picture` and gets its name, and so do the tables. There are none while a transaction is
-/// active or a move outstanding, or where there is no memory for them, which is no fault where none are asked
-/// for. Why a simulation ended early is told to `errors`: a fault of a file, tables that
-/// are not consistent, a transaction that is active or a move that is outstanding, or no memory.
+/// Input: `data` is read first, then the schedule. The first fault ends the command, and nothing is run.
+///
+/// Output: the log is written to `log` and brought to the disk; the records of all outputs are printed to `reported`;
+/// the log gets its name on `output_files`; the picture of the schedule and its outputs is written to `picture` and
+/// gets its name; the tables are written to `tables` and get theirs. There are no tables if a transaction is active or
+/// a move outstanding at the end, or if an allocation for them fails; that is a fault only if tables are asked for.
+///
+/// A fault is reported to `errors`: of a file, tables that are not consistent, an active transaction or an outstanding
+/// move, or out of memory. Then at most a beginning of the records was printed, and no file has its name; or all were
+/// printed, the log, if there is one, has its name, and the picture may have.
 pub fn sim_over<
     D: Input + Drop,
     S: Input + Drop,
@@ -132,8 +135,8 @@ fn sim<
     )
 }
 
-// Writes the log, prints what came of the schedule, gives the log its name, and then draws the picture and
-// writes the tables and gives them theirs.
+// Writes the log, prints the outputs of the schedule, gives the log its name, draws the picture and writes the tables,
+// and gives each its name.
 fn show<'a, A: Write, F: Write + Drop, N: OutputFiles<F>>(
     alloc: Global,
     settings: &SimSettings<'a>,
@@ -179,7 +182,7 @@ fn show<'a, A: Write, F: Write + Drop, N: OutputFiles<F>>(
     )
 }
 
-// The items of the schedule of that path.
+// Reads the schedule of that path.
 fn read_items<'a, S: Input + Drop>(
     alloc: Global,
     path: &'a str,
@@ -194,7 +197,7 @@ fn read_items<'a, S: Input + Drop>(
     }
 }
 
-// Prints what came of the schedule. After an error a beginning of it was printed.
+// Prints the outputs of the schedule. After an error a beginning of them was printed.
 fn print_outputs<A: Write>(
     alloc: Global,
     sink: &mut A,
@@ -212,7 +215,7 @@ fn print_outputs<A: Write>(
     }
 }
 
-// Writes the tables that were gathered, if there is a file for them, and gives it its name.
+// Writes the gathered tables to their file, if there is one, and gives it its name.
 fn name_gathered<'a, F: Write + Drop, N: OutputFiles<F>>(
     alloc: Global,
     path: Option<&'a str>,
@@ -233,7 +236,7 @@ fn name_gathered<'a, F: Write + Drop, N: OutputFiles<F>>(
     }
 }
 
-// Draws the picture of the schedule, if there is a file for it, and gives it its name.
+// Writes the picture of the schedule to its file, if there is one, and gives it its name.
 fn draw<'a, F: Write + Drop, N: OutputFiles<F>>(
     alloc: Global,
     settings: &SimSettings<'a>,

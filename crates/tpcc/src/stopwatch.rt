@@ -1,16 +1,16 @@
 use std::rt::Clock;
 use std::time::Instant;
 
-/// How long something takes.
+/// Measures a time.
 #[derive(Clone, Copy, Drop)]
 pub struct Stopwatch<'a, R> {
     rt: &'a R,
-    // None where the clock can't be read.
+    // None if the clock can't be read.
     start: Option<Instant>,
 }
 
 impl<'a, R: Clock> Stopwatch<'a, R> {
-    /// It begins now.
+    /// A stopwatch that starts now.
     pub fn start(rt: &'a R) -> Self {
         Stopwatch {
             rt,
@@ -18,7 +18,7 @@ impl<'a, R: Clock> Stopwatch<'a, R> {
         }
     }
 
-    /// The nanoseconds since it began; `None` where the clock can't be read.
+    /// The nanoseconds since the start, `u64::MAX` at most; `None` if the clock can't be read.
     pub fn nanoseconds(&self) -> Option<u64> {
         let start = self.start?;
         let passed = start.elapsed(self.rt).ok()?;

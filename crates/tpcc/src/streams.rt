@@ -1,4 +1,4 @@
-//! What several commands read and write, with faults that name the files.
+//! Reads and writes the files of several commands. A fault contains the path of the file.
 ghost use Rattle.std.specs.Prelude.{◌≡◌, ◌⊎◌, ◌++◌, ◌∷◌, [], ℕ, List, Some, Ok, Err, option_map, is_some, true, map, IfOk, IfErr, IfSome, OnOk, OnErr, string_bytes};
 ghost use Rattle.std.specs.Io.KnownBytes.{Appends};
 ghost use Rattle.dataset.specs.FirstFault.{IsFaultOf};
@@ -21,10 +21,10 @@ use std::fmt::Display;
 use std::io::Write;
 use terminals::{write_log, write_script};
 
-/// How the standard output is named in a fault.
+/// The path of the standard output in a fault.
 pub const STANDARD_OUTPUT: &str = "standard output";
 
-/// The tables of the dataset of that path.
+/// Reads the tables of the dataset of that path.
 pub fn read_tables<'a, D: Input + Drop>(
     alloc: Global,
     path: &'a str,
@@ -39,7 +39,8 @@ pub fn read_tables<'a, D: Input + Drop>(
     }
 }
 
-/// The whole text of the log on the disk, if there is one, and its path; it has no name yet.
+/// Writes the entries to the log, if there is one, brings it to the disk and returns it with its path. It has not got
+/// its name yet, even after an error.
 pub fn write_entries<'a, L: Write + Drop, N: OutputFiles<L>>(
     alloc: Global,
     path: Option<&'a str>,
@@ -61,7 +62,7 @@ pub fn write_entries<'a, L: Write + Drop, N: OutputFiles<L>>(
     Ok(Some((path, whole)))
 }
 
-// The log, all of which is on the disk then.
+// Writes the entries to the log and brings it to the disk.
 fn whole_log<'a, L: Write + Drop, N: OutputFiles<L>>(
     alloc: Global,
     path: &'a str,
@@ -80,8 +81,7 @@ fn whole_log<'a, L: Write + Drop, N: OutputFiles<L>>(
     }
 }
 
-/// Writes the tables to their file, if there is one, and gives it its name. After an error it has not got
-/// it.
+/// Writes the tables to their file, if there is one, and gives it its name. After an error it has not got its name.
 pub fn write_tables<'a, T: Write + Drop, N: OutputFiles<T>>(
     alloc: Global,
     path: Option<&'a str>,
@@ -102,8 +102,7 @@ pub fn write_tables<'a, T: Write + Drop, N: OutputFiles<T>>(
     name_tables(alloc, path, sink, tables, output_files)
 }
 
-/// Writes the tables and gives the file its name, all of which is on the disk then. After an error it has
-/// not got it.
+/// Writes the tables, brings the file to the disk and gives it its name. After an error it has not got its name.
 pub fn name_tables<'a, T: Write + Drop, N: OutputFiles<T>>(
     alloc: Global,
     path: &'a str,
@@ -122,8 +121,7 @@ pub fn name_tables<'a, T: Write + Drop, N: OutputFiles<T>>(
     }
 }
 
-/// Writes the script and gives the file its name, all of which is on the disk then. After an error it has
-/// not got it.
+/// Writes the script, brings the file to the disk and gives it its name. After an error it has not got its name.
 pub fn write_requests<'a, T: Write + Drop, N: OutputFiles<T>>(
     alloc: Global,
     path: &'a str,
@@ -142,7 +140,7 @@ pub fn write_requests<'a, T: Write + Drop, N: OutputFiles<T>>(
     }
 }
 
-// The file, all of which is on the disk then.
+// Brings the file to the disk.
 fn settled<'a, F: Write + Drop, N: OutputFiles<F>>(
     path: &'a str,
     mut file: F,
@@ -158,7 +156,7 @@ fn settled<'a, F: Write + Drop, N: OutputFiles<F>>(
     }
 }
 
-/// Gives the file its name, all of which is on the disk then. After an error it has not got it.
+/// Brings the file to the disk and gives it its name. After an error it has not got its name.
 pub fn finished<'a, F: Write + Drop, N: OutputFiles<F>>(
     path: &'a str,
     file: F,
@@ -188,8 +186,8 @@ fn named<'a, F: Write + Drop, N: OutputFiles<F>>(
     }
 }
 
-/// Gives the log its name, if there is one, where all was printed that it answers; else leaves it under
-/// its other name, since some of it may have been seen.
+/// If everything was printed (`printed` is `Ok`), gives the log, if there is one, its name. Otherwise leaves the log
+/// under its other name, since some of its answers may have been seen, and returns the fault of printing.
 pub fn name_printed<'a, L: Write + Drop, N: OutputFiles<L>>(
     printed: Result<(), CommandFault<'a>>,
     log: Option<(&'a str, L)>,
@@ -210,7 +208,7 @@ pub fn name_printed<'a, L: Write + Drop, N: OutputFiles<L>>(
     }
 }
 
-/// Prints each of these on a line of its own. A failure is `Failed` at the last line; after an error a
+/// Prints each of these on a line of its own. A failure to write is `Failed` at the last line. After an error a
 /// beginning of the lines was printed.
 pub fn print_lines<A: Write, L: Display>(
     alloc: Global,
@@ -242,7 +240,7 @@ fn text_of<L: Display>(alloc: Global, lines: &[L]) -> Result<String, NoMemory>
     Ok(whole)
 }
 
-// Adds the line, and a line feed.
+// Appends the line and a line feed.
 fn push_line<L: Display>(whole: &mut String, line: &L) -> Result<(), NoMemory>
     ensures { OnOk result (IfSome (L.output line.now) (λ text. string_bytes whole.new ≡ string_bytes whole.old ++ (text ++ 10 ∷ []))) }
 {

@@ -1,21 +1,21 @@
-//! What a run or a replay came to, told in lines on the standard error.
+//! The summary of a run or a replay, in lines on the standard error.
 
 use crate::latencies::within;
 use crate::tally::{KINDS, NOBODY, Tally};
 use std::fmt;
 use std::io::Write;
 
-/// What is summed up.
+/// The contents of a summary.
 #[derive(Clone, Copy, Debug)]
 pub struct Summary<'a> {
     pub tally: &'a Tally,
-    /// How long it took to serve or to replay, in nanoseconds.
+    /// How long the serving or the replay took, in nanoseconds.
     pub served_for: u64,
-    /// How long each request took, from the least on, if that is known.
+    /// How long each request took, in nanoseconds, ascending; empty if that is not known.
     pub times: &'a [u64],
 }
 
-/// Tells it. That it can't be told changes nothing.
+/// Prints the summary. An error in printing is ignored.
 pub fn report_summary<W: Write>(sink: &mut W, summary: &Summary) {
     let tally = summary.tally;
     let count = tally.len();
@@ -55,7 +55,7 @@ pub fn report_summary<W: Write>(sink: &mut W, summary: &Summary) {
     );
 }
 
-// How many in a minute, where so many came in so many nanoseconds.
+// The rate in a minute of so many in so many nanoseconds.
 fn a_minute(count: usize, nanoseconds: u64) -> u128 {
     count as u128 * 60_000_000_000 / u128::from(nanoseconds.max(1))
 }
@@ -91,7 +91,7 @@ impl fmt::Display for OfKind<'_> {
     }
 }
 
-// Nanoseconds, told in seconds.
+// Nanoseconds, shown in seconds.
 #[derive(Clone, Copy, Debug)]
 struct Seconds(u64);
 
@@ -103,7 +103,7 @@ impl fmt::Display for Seconds {
     }
 }
 
-// Nanoseconds, told in microseconds.
+// Nanoseconds, shown in microseconds.
 #[derive(Clone, Copy, Debug)]
 struct Microseconds(u64);
 

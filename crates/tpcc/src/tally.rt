@@ -11,14 +11,14 @@ use std::alloc::Global;
 /// How many kinds of requests there are.
 pub const KINDS: u8 = 5;
 
-/// How many ends: done, rolled back, refused by each number from 1 to 14, and rolled back as nobody has the
-/// last name.
+/// How many ends there are: done, rolled back, refused with each number from 1 to 14, and rolled back because no
+/// customer has the last name.
 pub const ENDS: u8 = 17;
 
-/// The last of them.
+/// The last end: rolled back because no customer has the last name.
 pub const NOBODY: u8 = 16;
 
-/// Of what kind each request was that is counted, and how it ended.
+/// The kind and the end of each counted request.
 #[derive(Debug, Drop)]
 pub struct Tally {
     kinds: Vec<u8>,
@@ -26,7 +26,7 @@ pub struct Tally {
 }
 
 impl Tally {
-    /// Of no requests yet.
+    /// A tally of no requests.
     pub fn new(alloc: Global) -> Tally
         ensures { (result.kinds.items ≡ []) × (result.ends.items ≡ []) }
     {
@@ -36,7 +36,8 @@ impl Tally {
         }
     }
 
-    /// Of requests that were answered so, one after the other: by the place of an entry of this log, or refused.
+    /// A tally of requests and their answers, in the same order. An answer is the place of an entry in `log`, or a
+    /// refusal. Returns NoMemory if an allocation fails.
     pub fn of_answers(
         alloc: Global,
         requests: &[Request],
@@ -52,7 +53,7 @@ impl Tally {
         })
     }
 
-    /// Of the entries of a log, none of which was refused.
+    /// A tally of the entries of a log, none of which was refused. Returns NoMemory if an allocation fails.
     pub fn of_entries(alloc: Global, entries: &[Entry]) -> Result<Tally, NoMemory>
         ensures kinds { IfOk result (λ tally. tally.kinds.items ≡ map (λ entry. kind_number entry.request) entries.now) }
         ensures ends { IfOk result (λ tally. tally.ends.items ≡ map end_number entries.now) }
@@ -63,7 +64,8 @@ impl Tally {
         })
     }
 
-    /// Counts what another has counted too.
+    /// Adds what another tally has counted. Returns NoMemory if an allocation fails; nothing is promised of the tally
+    /// then.
     pub fn add(&mut self, other: &Tally) -> Result<(), NoMemory>
         ensures kinds { OnOk result (self.new.kinds.items ≡ self.old.kinds.items ++ other.now.kinds.items) }
         ensures ends { OnOk result (self.new.ends.items ≡ self.old.ends.items ++ other.now.ends.items) }
@@ -77,8 +79,8 @@ impl Tally {
         self.ends.len()
     }
 
-    /// How many requests of that kind, from 0, ended so: 0 done, 1 rolled back, one more than the number
-    /// for a refusal, and `NOBODY` rolled back as nobody has the last name that chooses the customer.
+    /// How many requests of that kind, from 0, had that end: 0 done, 1 rolled back, one more than its number for a
+    /// refusal, and `NOBODY` rolled back because no customer has the last name of the request.
     pub fn count(&self, kind: u8, end: u8) -> usize
         ensures { result ≡ count_by (λ it. (it.0 == kind) && (it.1 == end)) (zip self.now.kinds.items self.now.ends.items) }
     {

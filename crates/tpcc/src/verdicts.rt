@@ -1,4 +1,4 @@
-//! What is told of the twelve conditions of consistency.
+//! The verdicts on the twelve conditions of consistency.
 ghost use Rattle.std.specs.Prelude.{◌≡◌, IfOk};
 ghost use Rattle.std.specs.List.{list_any};
 ghost use Rattle.tpcc.specs.Verdicts.{is_broken, found_of, verdicts_of};
@@ -7,10 +7,10 @@ use schema::NoMemory;
 use std::alloc::Global;
 use std::fmt;
 
-// The condition that is asked of fresh datasets alone.
+// The condition that is checked on fresh datasets only.
 const FRESH: usize = 11;
 
-/// What is told of a condition.
+/// The verdict on a condition.
 #[derive(Clone, Copy, Debug, PartialEq, Eq)]
 pub enum Found {
     Met,
@@ -18,7 +18,7 @@ pub enum Found {
     Skipped,
 }
 
-/// A condition's number, and what is told of it.
+/// A condition's number and its verdict.
 #[derive(Clone, Copy, Debug, PartialEq, Eq)]
 pub struct Verdict {
     pub condition: usize,
@@ -41,7 +41,8 @@ impl fmt::Display for Verdict {
     }
 }
 
-/// What is told of the conditions, of which these answers tell whether they hold, from number 1 on.
+/// The verdicts on the conditions from number 1 on; `answers` contains for each whether it holds. Returns NoMemory if
+/// an allocation fails.
 pub fn verdicts(alloc: Global, fresh: bool, answers: &[bool]) -> Result<Vec<Verdict>, NoMemory>
     ensures { IfOk result (λ verdicts. verdicts.items ≡ verdicts_of fresh 1 answers.now) }
 {
@@ -56,7 +57,7 @@ pub fn verdicts(alloc: Global, fresh: bool, answers: &[bool]) -> Result<Vec<Verd
     Ok(verdicts)
 }
 
-// What is told of the condition of that number.
+// The verdict on the condition of that number.
 fn found_of(fresh: bool, condition: usize, holds: bool) -> Found
     ensures { result ≡ found_of fresh condition holds }
 {
@@ -69,7 +70,7 @@ fn found_of(fresh: bool, condition: usize, holds: bool) -> Found
     }
 }
 
-/// Whether one of them is that the condition is broken.
+/// Whether one of the conditions is broken.
 pub fn any_broken(verdicts: &[Verdict]) -> bool
     ensures { result ≡ list_any (λ verdict. is_broken verdict.found) verdicts.now }
 {

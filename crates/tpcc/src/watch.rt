@@ -8,20 +8,20 @@ use std::io::{Stderr, Write};
 use std::rt::Clock;
 use std::sync::atomic::{AtomicU64, Ordering};
 
-// It is told of the serving each so many nanoseconds.
+// The least time between two reports of the serving, in nanoseconds.
 const STRIDE: u64 = 1_000_000_000;
 
-/// Looks on while scripts are served: how many requests were answered, and how long each took from when
-/// it was asked for the first time. It holds nobody up, and looks at no clock where nothing is to be told.
+/// Observes the serving of scripts: how many requests were answered, and how long each took from when it was asked for
+/// the first time. It never blocks an executor, and reads no clock if neither times nor reports are wanted.
 #[derive(Drop)]
 pub struct Watch<'a, R> {
-    // Where it is told of the serving, if anywhere.
+    // Where the serving is reported, if anywhere.
     terminal: Option<Stderr>,
-    // Whether times are kept.
+    // Whether the time of each request is recorded.
     is_timed: bool,
-    // What all moments are counted from, in nanoseconds, if a clock is looked at.
+    // Measures all moments, in nanoseconds, if a clock is read.
     stopwatch: Option<Stopwatch<'a, R>>,
-    // When the first request was asked, and when the last one was answered; 0 before.
+    // The moments when the first request was asked and when the last one was answered; 0 before.
     first: AtomicU64,
     last: AtomicU64,
     answered: AtomicU64,
@@ -30,7 +30,7 @@ pub struct Watch<'a, R> {
 }
 
 impl<'a, R: Clock> Watch<'a, R> {
-    /// A watch that tells on `terminal`, and keeps times if they are wanted.
+    /// A watch that reports on `terminal`, if there is one, and records the time of each request if `is_timed`.
     pub fn new(rt: &'a R, alloc: Global, terminal: Option<Stderr>, is_timed: bool) -> Self {
         let stopwatch = if is_timed || terminal.is_some() {
             Some(Stopwatch::start(rt))
@@ -49,7 +49,8 @@ impl<'a, R: Clock> Watch<'a, R> {
         }
     }
 
-    /// Makes room for the times of all requests, if times are kept.
+    /// Allocates room for the times of all requests, if times are recorded. Returns NoMemory if an allocation fails; no
+    /// times are recorded then.
     pub fn prepare(&mut self, alloc: Global, scripts: &[Script]) -> Result<(), NoMemory> {
         if self.is_timed {
             self.latencies = Latencies::of_scripts(alloc, scripts)?;
@@ -57,25 +58,25 @@ impl<'a, R: Clock> Watch<'a, R> {
         Ok(())
     }
 
-    /// How many nanoseconds passed from when the first request was asked up to when the last was answered.
+    /// The nanoseconds from when the first request was asked to when the last was answered.
     pub fn served_for(&self) -> u64 {
         let last = self.last.load(Ordering::SeqCst);
         last.saturating_sub(self.first.load(Ordering::SeqCst))
     }
 
-    /// The times of the requests that passed, in nanoseconds, from the least on.
+    /// The times of the requests that were answered, in nanoseconds, ascending. Returns NoMemory if an allocation fails.
     pub fn sorted_times(&self, alloc: Global) -> Result<Vec<u64>, NoMemory> {
         self.latencies.sorted(alloc)
     }
 
-    /// Ends the line that was told of the serving, if there is one.
+    /// Ends the line of the reports, if one was printed.
     pub fn end(&self) {
         if self.reported.load(Ordering::SeqCst) > 0 {
             self.print("\n");
         }
     }
 
-    // The moment, if there is a clock and it is looked at. It is not 0.
+    // The moment, if a clock is wanted and can be read. It is not 0.
     fn now(&self) -> Option<u64> {
         let Some(stopwatch) = &self.stopwatch else {
             return None;
@@ -83,7 +84,7 @@ impl<'a, R: Clock> Watch<'a, R> {
         Some(stopwatch.nanoseconds()?.max(1))
     }
 
-    // Tells of the serving, once in a second, whichever thread comes by.
+    // Reports the serving at most once a second, from whichever thread calls it.
     fn report_in_time(&self, now: u64) {
         let reported = self.reported.load(Ordering::SeqCst);
         if now.saturating_sub(reported) < STRIDE {

@@ -1,4 +1,4 @@
-//! Options and arguments of several commands.
+//! Options and arguments that several commands have.
 ghost use Rattle.std.specs.Prelude.{◌≡◌, ◌≤◌, ◌↔◌, [], codes, option_map, IfOk, IfErr, IsTrue, None, Ok};
 ghost use Rattle.clap.specs.Words.{found_of};
 ghost use Rattle.command_line.specs.CommandLine.{alone, argument, arguments, command, flag, option, IsArgument, IsCommand};
@@ -12,7 +12,7 @@ use files::{parse_moment, parse_whole};
 use schema::Moment;
 use std::alloc::Global;
 
-/// A command with what its help tells, and no arguments yet.
+/// A command with its help texts, `about` before the arguments and `after` behind them, and no arguments yet.
 pub fn named<'a>(
     alloc: Global,
     name: &'static str,
@@ -24,14 +24,14 @@ pub fn named<'a>(
     Command::new(alloc, name).about(about).after_help(after)
 }
 
-/// An argument that has to be there, known by its place.
+/// A required argument, recognized by its place.
 pub fn argument<'a>(alloc: Global, id: &'static str, help: &'static str) -> Arg<'a>
     ensures { IsArgument (argument id.now) result }
 {
     Arg::new(alloc, id).help(help).required(true)
 }
 
-/// Arguments of which one has to be there, known by their place.
+/// One or more arguments, recognized by their place. At least one is required.
 pub fn arguments<'a>(alloc: Global, id: &'static str, help: &'static str) -> Arg<'a>
     ensures { IsArgument (arguments id.now) result }
 {
@@ -42,7 +42,7 @@ pub fn arguments<'a>(alloc: Global, id: &'static str, help: &'static str) -> Arg
         .action(ArgAction::Append)
 }
 
-/// An option with a value, which help calls so.
+/// The option `--name`, which may be left out, with a value that help calls `value`.
 pub fn option<'a>(
     alloc: Global,
     name: &'static str,
@@ -57,7 +57,7 @@ pub fn option<'a>(
         .help(help)
 }
 
-/// An option that is there or not.
+/// The option `--name` without a value, which may be left out.
 pub fn flag<'a>(alloc: Global, name: &'static str, help: &'static str) -> Arg<'a>
     ensures { IsArgument (flag name.now) result }
 {
@@ -67,14 +67,14 @@ pub fn flag<'a>(alloc: Global, name: &'static str, help: &'static str) -> Arg<'a
         .action(ArgAction::SetTrue)
 }
 
-/// The dataset that a command reads.
+/// The argument for the dataset that a command reads.
 pub fn data<'a>(alloc: Global) -> Arg<'a>
     ensures { IsArgument (argument (codes "DATA")) result }
 {
     argument(alloc, "DATA", "The dataset to start from")
 }
 
-/// The log that a command writes.
+/// The option for the log that a command writes.
 pub fn log<'a>(alloc: Global) -> Arg<'a>
     ensures { IsArgument (option (codes "log")) result }
 {
@@ -86,7 +86,7 @@ pub fn log<'a>(alloc: Global) -> Arg<'a>
     )
 }
 
-/// The option that has summed up what was done.
+/// The option that asks for a summary.
 pub fn summary<'a>(alloc: Global) -> Arg<'a>
     ensures { IsArgument (flag (codes "summary")) result }
 {
@@ -97,7 +97,7 @@ pub fn summary<'a>(alloc: Global) -> Arg<'a>
     )
 }
 
-/// The option that leaves out what is told of the work.
+/// The option that turns off progress and summary.
 pub fn quiet<'a>(alloc: Global) -> Arg<'a>
     ensures { IsArgument (flag (codes "quiet")) result }
 {
@@ -108,14 +108,14 @@ pub fn quiet<'a>(alloc: Global) -> Arg<'a>
     )
 }
 
-/// An option that is a number.
+/// An option whose value is a number.
 pub fn counted<'a>(alloc: Global, name: &'static str, help: &'static str) -> Arg<'a>
     ensures { IsArgument (option name.now) result }
 {
     option(alloc, name, "N", help)
 }
 
-/// How many executors there are.
+/// The option for the number of executors.
 pub fn executors<'a>(alloc: Global) -> Arg<'a>
     ensures { IsArgument (option (codes "executors")) result }
 {
@@ -126,7 +126,7 @@ pub fn executors<'a>(alloc: Global) -> Arg<'a>
     )
 }
 
-/// Whether both are to be written, under one path.
+/// Whether both paths are there and are one path.
 pub fn same(one: Option<&str>, other: Option<&str>) -> bool
     ensures { IsTrue result ↔ AreOnePath (option_map (λ path. path.now) one.entry) (option_map (λ path. path.now) other.entry) }
 {
@@ -136,7 +136,7 @@ pub fn same(one: Option<&str>, other: Option<&str>) -> bool
     }
 }
 
-/// The word that stands for an argument, the empty one if none does.
+/// The word of an argument, or the empty word if it has none.
 pub fn word<'a>(matches: &ArgMatches<'a>, id: &str) -> &'a str
     ensures { result.now ≡ word_of (found_of matches.now) id.now }
 {
@@ -146,7 +146,8 @@ pub fn word<'a>(matches: &ArgMatches<'a>, id: &str) -> &'a str
     }
 }
 
-/// The number that an option asks for, `default` where it is absent.
+/// The number of an option, or `default` if the option is absent. Returns `UsageFault::Number` if its word is not a
+/// number from `low` to `high`.
 pub fn number(
     words: Option<&str>,
     default: u32,
@@ -170,7 +171,8 @@ pub fn number(
     }
 }
 
-/// The moment that an option asks for, the beginning of 2024 where it is absent.
+/// The moment of an option, or the beginning of 2024 if the option is absent. Returns `UsageFault::Moment` if its word is
+/// not a moment of the years 1970 to 9999.
 pub fn moment(words: Option<&str>) -> Result<Moment, UsageFault>
     ensures value { IfOk result (IsMoment (option_map (λ word. word.now) words.entry)) }
     ensures mistake { IfErr result (IsMomentFault (option_map (λ word. word.now) words.entry)) }

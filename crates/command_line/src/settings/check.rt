@@ -7,16 +7,16 @@ use crate::settings::arguments::{data, flag, named, quiet, word};
 use clap::{ArgMatches, Command};
 use std::alloc::{AllocError, Global};
 
-/// What `tpcc check` was asked to do: the path of the dataset, and whether it is a fresh one at full scale.
+/// The settings of `tpcc check`: the path of the dataset, and whether it is fresh and at full scale.
 #[derive(Debug, Drop)]
 pub struct CheckSettings<'a> {
     pub data: &'a str,
     pub fresh: bool,
-    /// Whether nothing is to be told but the result and faults.
+    /// Whether only the result and faults are printed.
     pub quiet: bool,
 }
 
-/// What the words of `tpcc check` ask for.
+/// The settings that the words of `tpcc check` ask for.
 pub fn read<'a>(matches: &ArgMatches<'a>) -> CheckSettings<'a>
     ensures { AsksToCheck (found_of matches.now) result }
 {
@@ -27,7 +27,7 @@ pub fn read<'a>(matches: &ArgMatches<'a>) -> CheckSettings<'a>
     }
 }
 
-/// The command and its options.
+/// The command with its arguments and options. Returns AllocError if an allocation fails.
 pub fn command<'a>(alloc: Global) -> Result<Command<'a>, AllocError>
     ensures { IfOk result (IsCommand (alone check_command)) }
 {
@@ -45,7 +45,7 @@ pub fn command<'a>(alloc: Global) -> Result<Command<'a>, AllocError>
     Ok(command)
 }
 
-// What is told after the arguments by `tpcc check --help`.
+// The text of `tpcc check --help` after the arguments.
 const HELP: &str = "\
 Prints a line for each condition of TPC-C 5.11, clause 3.3.2: `1 ok` or `1 broken`, and so on to 12;
 `11 skipped` without --fresh.

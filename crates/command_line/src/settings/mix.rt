@@ -8,10 +8,11 @@ use crate::usage::UsageFault;
 use files::parse_whole;
 use workload::Mix;
 
-// The most cards of a kind that a deck has.
+// The most cards of a kind in a deck.
 const MOST_CARDS: u64 = 1_000;
 
-/// The mix that an option asks for, that of the benchmark where it is absent.
+/// The mix of an option, or that of the benchmark if the option is absent. Returns `UsageFault::Mix` if its word is the
+/// text of no mix.
 pub fn mix(words: Option<&str>) -> Result<Mix, UsageFault>
     ensures value { IfOk result (IsMixOf (option_map (λ word. word.now) words.entry)) }
     ensures fits { OnOk result (IsMixWord (option_map (λ word. word.now) words.entry)) }
@@ -26,7 +27,7 @@ pub fn mix(words: Option<&str>) -> Result<Mix, UsageFault>
     }
 }
 
-// The mix of these words: letters with their numbers of cards, and commas between.
+// The mix of this text: letters with their numbers of cards, separated by commas.
 fn parsed(words: &str) -> Option<Mix>
     ensures value { IfSome result (IsMixText words.now) }
     ensures none { result ≡ None → (mix : Mix) → IsMixText words.now mix → ⊥ }
@@ -49,7 +50,7 @@ fn parsed(words: &str) -> Option<Mix>
     )
 }
 
-// The kind's place, and how many cards it has.
+// The kind's place, from 0, and how many cards it has.
 fn cards(word: &str) -> Option<(usize, u32)>
     ensures some { IfSome result (λ one. (one.0 < 5) × (one.1 ≤ 1000) × (word.now ≡ cards_text (slice_index (codes "NPODL") one.0, one.1))) }
     ensures none { result ≡ None → (letter count : ℕ) → Contains (codes "NPODL") letter → count ≤ 1000 → word.now ≢ cards_text (letter, count) }
@@ -62,7 +63,7 @@ fn cards(word: &str) -> Option<(usize, u32)>
     }
 }
 
-// The place of the kind with that letter, as requests have it.
+// The place, from 0, of the kind with that letter of requests.
 fn place_of(letter: &str) -> Option<usize>
     ensures some { IfSome result (λ place. (place < 5) × (letter.now ≡ slice_index (codes "NPODL") place ∷ [])) }
     ensures none { result ≡ None → (known : ℕ) → Contains (codes "NPODL") known → letter.now ≢ known ∷ [] }

@@ -10,19 +10,20 @@ use clap::{ArgMatches, Command};
 use schema::{Moment, Scale};
 use std::alloc::{AllocError, Global};
 
-/// What `tpcc populate` was asked to do: the path of the dataset, and what it is made of.
+/// The settings of `tpcc populate`: the path of the dataset, and its scale, seed and moment.
 #[derive(Debug, Drop)]
 pub struct PopulateSettings<'a> {
     pub file: &'a str,
     pub scale: Scale,
     pub seed: u32,
-    /// The moment of everything that has one.
+    /// The date and time of all rows.
     pub now: Moment,
-    /// Whether nothing is to be told but faults.
+    /// Whether only faults are printed.
     pub quiet: bool,
 }
 
-/// What the words of `tpcc populate` ask for.
+/// The settings that the words of `tpcc populate` ask for. An error is the first of the options, in the order of help,
+/// that is out of its limits.
 pub fn read<'a>(matches: &ArgMatches<'a>) -> Result<PopulateSettings<'a>, UsageFault>
     ensures asked { IfOk result (AsksToPopulate (found_of matches.now)) }
     ensures mistake { IfErr result (IsPopulateFault (found_of matches.now)) }
@@ -42,7 +43,7 @@ pub fn read<'a>(matches: &ArgMatches<'a>) -> Result<PopulateSettings<'a>, UsageF
     })
 }
 
-/// The command and its options.
+/// The command with its arguments and options. Returns AllocError if an allocation fails.
 pub fn command<'a>(alloc: Global) -> Result<Command<'a>, AllocError>
     ensures { IfOk result (IsCommand (alone populate_command)) }
 {
@@ -79,7 +80,7 @@ pub fn command<'a>(alloc: Global) -> Result<Command<'a>, AllocError>
     Ok(command)
 }
 
-// What is told after the arguments by `tpcc populate --help`.
+// The text of `tpcc populate --help` after the arguments.
 const HELP: &str = "\
 The same words give the same bytes. Prints nothing.
 

@@ -7,19 +7,19 @@ use crate::settings::arguments::{argument, data, named, option, quiet, summary, 
 use clap::{ArgMatches, Command};
 use std::alloc::{AllocError, Global};
 
-/// What `tpcc replay` was asked to do: paths of files.
+/// The settings of `tpcc replay`: paths of files.
 #[derive(Debug, Drop)]
 pub struct ReplaySettings<'a> {
     pub data: &'a str,
     pub log: &'a str,
     pub tables: Option<&'a str>,
-    /// Whether it is to be summed up what was done.
+    /// Whether a summary is printed.
     pub summary: bool,
-    /// Whether nothing is to be told but the result and faults.
+    /// Whether only the result and faults are printed.
     pub quiet: bool,
 }
 
-/// What the words of `tpcc replay` ask for.
+/// The settings that the words of `tpcc replay` ask for.
 pub fn read<'a>(matches: &ArgMatches<'a>) -> ReplaySettings<'a>
     ensures { AsksToReplay (found_of matches.now) result }
 {
@@ -32,7 +32,7 @@ pub fn read<'a>(matches: &ArgMatches<'a>) -> ReplaySettings<'a>
     }
 }
 
-/// The command and its options.
+/// The command with its arguments and options. Returns AllocError if an allocation fails.
 pub fn command<'a>(alloc: Global) -> Result<Command<'a>, AllocError>
     ensures { IfOk result (IsCommand (alone replay_command)) }
 {
@@ -57,7 +57,7 @@ pub fn command<'a>(alloc: Global) -> Result<Command<'a>, AllocError>
     Ok(command)
 }
 
-// What is told after the arguments by `tpcc replay --help`.
+// The text of `tpcc replay --help` after the arguments.
 const HELP: &str = "\
 Prints `equal N`, with the number of entries, or `differs P`, with the first place, from 0, whose request is
 refused by its check or whose reply is another. FILE may be DATA: it gets its name once it is whole.

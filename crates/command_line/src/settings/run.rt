@@ -14,31 +14,31 @@ use clap::{ArgMatches, Command};
 use routing::MOST_EXECUTORS;
 use std::alloc::{AllocError, Global};
 
-// The most times that a request is tried, when it died or found no memory.
+// The most times that a request is tried that died or ran out of memory.
 const MOST_TRIES: u32 = 10_000;
 
-/// What `tpcc run` was asked to do: paths of files, how many executors there are, and how often a request
-/// is tried.
+/// The settings of `tpcc run`: paths of files, how many executors there are, and how often a request is tried.
 #[derive(Debug, Drop)]
 pub struct RunSettings<'a> {
     pub data: &'a str,
-    /// 1 to 64. Script s, from 0, is session s.
+    /// 1 to 64 paths. Script s, from 0, is that of session s.
     pub scripts: Vec<&'a str>,
     /// 1 to 16.
     pub executors: u32,
-    /// How often a request is asked at most that died or found no memory: 1 to 10,000.
+    /// How often a request is tried at most if it died or ran out of memory: 1 to 10,000.
     pub tries: u32,
-    /// Where the moves are read that are ordered while the scripts are served.
+    /// The file of the moves that are ordered while the scripts are served.
     pub moves: Option<&'a str>,
     pub log: Option<&'a str>,
     pub tables: Option<&'a str>,
-    /// Whether it is to be summed up what was done.
+    /// Whether a summary is printed.
     pub summary: bool,
-    /// Whether nothing is to be told but the result and faults.
+    /// Whether only the result and faults are printed.
     pub quiet: bool,
 }
 
-/// What the words of `tpcc run` ask for.
+/// The settings that the words of `tpcc run` ask for. An error is: not 1 to 64 scripts, one path for log and tables,
+/// executors or else tries out of their limits, or out of memory.
 pub fn read<'a>(alloc: Global, matches: &ArgMatches<'a>) -> Result<RunSettings<'a>, UsageFault>
     ensures limits { IfOk result IsRunnable }
     ensures asked { IfOk result (AsksToRun (found_of matches.now)) }
@@ -74,7 +74,7 @@ pub fn read<'a>(alloc: Global, matches: &ArgMatches<'a>) -> Result<RunSettings<'
     })
 }
 
-/// The command and its options.
+/// The command with its arguments and options. Returns AllocError if an allocation fails.
 pub fn command<'a>(alloc: Global) -> Result<Command<'a>, AllocError>
     ensures { IfOk result (IsCommand (alone run_command)) }
 {
@@ -114,7 +114,7 @@ pub fn command<'a>(alloc: Global) -> Result<Command<'a>, AllocError>
     Ok(command)
 }
 
-// What is told after the arguments by `tpcc run --help`.
+// The text of `tpcc run --help` after the arguments.
 const HELP: &str = "\
 The first SCRIPT is session 0, the next session 1, and so on. They are served at the same time by executors,
 each in the order of its requests, numbered from 0. An executor has the warehouses between it and the next:

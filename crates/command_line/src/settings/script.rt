@@ -17,27 +17,28 @@ use schema::Moment;
 use std::alloc::{AllocError, Global};
 use workload::Mix;
 
-/// What `tpcc script` was asked to do: paths of files, and what the scripts are drawn for.
+/// The settings of `tpcc script`: paths of files, and the parameters of the scripts.
 #[derive(Debug, Drop)]
 pub struct ScriptSettings<'a> {
     pub data: &'a str,
-    /// 1 to 64, of different paths. File s, from 0, gets the script of session s.
+    /// 1 to 64 paths, all different. File s, from 0, gets the script of session s.
     pub files: Vec<&'a str>,
-    /// How many requests each script has.
+    /// How many requests each script has, 0 to 16,777,216.
     pub requests: u32,
     pub seed: u32,
     pub mix: Mix,
-    /// The home warehouse of all sessions, 1 to 64; each has its own where there is none.
+    /// The home warehouse of all sessions, 1 to 64; if `None`, each session has its own.
     pub home: Option<u32>,
     /// Whether other warehouses take part.
     pub remote: bool,
     /// The moment of each script's first request.
     pub start: Moment,
-    /// Whether nothing is to be told but faults.
+    /// Whether only faults are printed.
     pub quiet: bool,
 }
 
-/// What the words of `tpcc script` ask for.
+/// The settings that the words of `tpcc script` ask for. An error is: not 1 to 64 files or two of one path, or else out
+/// of memory, or the first option, in the order of help, that is out of its limits.
 pub fn read<'a>(alloc: Global, matches: &ArgMatches<'a>) -> Result<ScriptSettings<'a>, UsageFault>
     ensures limits { IfOk result HasFiles }
     ensures asked { IfOk result (AsksForScripts (found_of matches.now)) }
@@ -48,7 +49,7 @@ pub fn read<'a>(alloc: Global, matches: &ArgMatches<'a>) -> Result<ScriptSetting
     with_files(matches, files.to_vec(alloc)?)
 }
 
-// Whether there are 1 to 64 files, of different paths.
+// Checks that there are 1 to 64 files, all of different paths.
 fn check_files(files: &[&str]) -> Result<(), UsageFault>
     ensures fit { OnOk result (AreFiles (map (λ file. file.now) files.now)) }
     ensures mistake { IfErr result (IsFilesFault (map (λ file. file.now) files.now)) }
@@ -62,7 +63,7 @@ fn check_files(files: &[&str]) -> Result<(), UsageFault>
     Ok(())
 }
 
-// The settings of these files, with what the options ask for.
+// The settings with these files and what the options ask for.
 #[tactic(auto, using(crate::proofs::ScriptFaults::of_mix, crate::proofs::ScriptFaults::of_home, crate::proofs::ScriptFaults::of_remote, crate::proofs::ScriptFaults::of_moment))]
 fn with_files<'a>(
     matches: &ArgMatches<'a>,
@@ -92,7 +93,7 @@ fn with_files<'a>(
     })
 }
 
-// Whether a path is there twice.
+// Whether two of the paths are one.
 fn has_twice(files: &[&str]) -> bool
     ensures twice { IsTrue result → HasPathTwice (map (λ file. file.now) files.now) }
     ensures once { result ≡ false → HasPathTwice (map (λ file. file.now) files.now) → ⊥ }
@@ -107,7 +108,7 @@ fn has_twice(files: &[&str]) -> bool
     false
 }
 
-// The home warehouse that an option asks for.
+// The home warehouse of an option.
 fn home(words: Option<&str>) -> Result<Option<u32>, UsageFault>
     ensures value { IfOk result (IsHome (option_map (λ word. word.now) words.entry)) }
     ensures fits { OnOk result (IsNumberWord 1 64 (option_map (λ word. word.now) words.entry)) }
@@ -119,7 +120,7 @@ fn home(words: Option<&str>) -> Result<Option<u32>, UsageFault>
     }
 }
 
-// Whether other warehouses take part, which they do where no option tells.
+// Whether other warehouses take part. They do if the option is absent.
 fn remote(words: Option<&str>) -> Result<bool, UsageFault>
     ensures value { IfOk result (IsRemote (option_map (λ word. word.now) words.entry)) }
     ensures fits { OnOk result (IsRemoteWord (option_map (λ word. word.now) words.entry)) }
@@ -132,7 +133,7 @@ fn remote(words: Option<&str>) -> Result<bool, UsageFault>
     }
 }
 
-/// The command and its options.
+/// The command with its arguments and options. Returns AllocError if an allocation fails.
 pub fn command<'a>(alloc: Global) -> Result<Command<'a>, AllocError>
     ensures { IfOk result (IsCommand (alone script_command)) }
 {
@@ -184,7 +185,7 @@ pub fn command<'a>(alloc: Global) -> Result<Command<'a>, AllocError>
     Ok(command)
 }
 
-// What is told after the arguments by `tpcc script --help`.
+// The text of `tpcc script --help` after the arguments.
 const HELP: &str = "\
 Of DATA the header is read, which tells the scale, and nothing behind it. The first FILE is session 0's, the
 next session 1's, and so on, as `tpcc run DATA FILE..` takes them. Without --home session s is at home in

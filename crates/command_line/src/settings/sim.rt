@@ -13,7 +13,7 @@ use clap::{ArgMatches, Command};
 use routing::MOST_EXECUTORS;
 use std::alloc::{AllocError, Global};
 
-/// What `tpcc sim` was asked to do: paths of files, and how many executors there are.
+/// The settings of `tpcc sim`: paths of files, and how many executors there are.
 #[derive(Debug, Drop)]
 pub struct SimSettings<'a> {
     pub data: &'a str,
@@ -23,11 +23,12 @@ pub struct SimSettings<'a> {
     pub log: Option<&'a str>,
     pub picture: Option<&'a str>,
     pub tables: Option<&'a str>,
-    /// Whether nothing is to be told but the result and faults.
+    /// Whether only the result and faults are printed.
     pub quiet: bool,
 }
 
-/// What the words of `tpcc sim` ask for.
+/// The settings that the words of `tpcc sim` ask for. An error is: one path for two of log, picture and tables, or
+/// executors out of their limits.
 pub fn read<'a>(matches: &ArgMatches<'a>) -> Result<SimSettings<'a>, UsageFault>
     ensures limits { IfOk result HasExecutors }
     ensures asked { IfOk result (AsksToSimulate (found_of matches.now)) }
@@ -56,7 +57,7 @@ pub fn read<'a>(matches: &ArgMatches<'a>) -> Result<SimSettings<'a>, UsageFault>
     })
 }
 
-/// The command and its options.
+/// The command with its arguments and options. Returns AllocError if an allocation fails.
 pub fn command<'a>(alloc: Global) -> Result<Command<'a>, AllocError>
     ensures { IfOk result (IsCommand (alone sim_command)) }
 {
@@ -89,7 +90,7 @@ pub fn command<'a>(alloc: Global) -> Result<Command<'a>, AllocError>
     Ok(command)
 }
 
-// What is told after the arguments by `tpcc sim --help`.
+// The text of `tpcc sim --help` after the arguments.
 const HELP: &str = "\
 Items of a schedule:
   S,session,number,..   the session, 0 to 63, submits the request that follows

@@ -12,7 +12,7 @@ use command_line::{ReplaySettings, Status};
 use std::io::{Stderr, Stdout};
 use std::rt::{Clock, Files};
 
-/// Opens the files of the command, carries it out, and gives the exit status.
+/// Opens the command's files, carries it out and returns the exit status.
 pub fn carry_out<R: Files + AllocGlobal + Clock>(
     rt: &R,
     stdout: Stdout,

@@ -17,7 +17,7 @@ use std::rt::{Clock, Files};
 use std::sync::Wait;
 use std::thread::Threads;
 
-/// Opens the files of the command, carries it out, and gives the exit status.
+/// Opens the command's files, carries it out and returns the exit status.
 pub fn carry_out<R: Files + AllocGlobal + Clock + Threads + Wait + Sync>(
     rt: &R,
     stdout: Stdout,

@@ -12,7 +12,7 @@ use command_line::{ScriptSettings, Status};
 use std::io::Stderr;
 use std::rt::Files;
 
-/// Opens the files of the command, carries it out, and gives the exit status.
+/// Opens the command's files, carries it out and returns the exit status.
 pub fn carry_out<R: Files + AllocGlobal>(
     rt: &R,
     stderr: Stderr,
@@ -44,7 +44,7 @@ pub fn carry_out<R: Files + AllocGlobal>(
     }
 }
 
-// The files of the command: the one that is read, told of on a terminal, and those that are written.
+// The files of the command: the dataset that is read, with its progress on a terminal, and those that are written.
 struct ScriptFiles<'a, R: Files> {
     data: Watched<'a, R::File>,
     scripts: Vec<NewFile<'a, R>>,

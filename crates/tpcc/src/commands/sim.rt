@@ -14,7 +14,7 @@ use command_line::{SimSettings, Status};
 use std::io::{Stderr, Stdout};
 use std::rt::Files;
 
-/// Opens the files of the command, carries it out, and gives the exit status.
+/// Opens the command's files, carries it out and returns the exit status.
 pub fn carry_out<R: Files + AllocGlobal>(
     rt: &R,
     stdout: Stdout,

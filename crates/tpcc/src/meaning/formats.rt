@@ -1,11 +1,11 @@
-//! What is in the files that a command reads.
+//! The formats of the files that a command reads.
 
 use crate::meaning::listings::{end, entry, move_order, request, scheduled};
 use crate::meaning::search::Search;
 use crate::meaning::tables::{Tables, header, key_names};
 use files::{FaultKind, Fields};
 
-/// What is in a file.
+/// The format of a file.
 #[derive(Clone, Copy, Debug, PartialEq, Eq)]
 pub enum Format {
     Dataset,
@@ -15,13 +15,13 @@ pub enum Format {
     Log,
 }
 
-/// The files that a command reads, by their paths.
+/// The formats of the files that a command reads, by their paths.
 #[derive(Clone, Copy, Debug)]
 pub struct Inputs<'a> {
-    /// The dataset.
+    /// The path of the dataset.
     pub data: &'a str,
     pub moves: Option<&'a str>,
-    /// What is in the others.
+    /// The format of all other files.
     pub others: Format,
 }
 
@@ -31,7 +31,7 @@ impl Inputs<'_> {
         Inputs::dataset("")
     }
 
-    /// A dataset alone.
+    /// A dataset only.
     pub fn dataset(data: &str) -> Inputs<'_> {
         Inputs {
             data,
@@ -40,7 +40,7 @@ impl Inputs<'_> {
         }
     }
 
-    /// What is in the file of that path.
+    /// The format of the file of that path.
     pub fn format(&self, path: &str) -> Format {
         if path == self.data {
             Format::Dataset
@@ -52,18 +52,18 @@ impl Inputs<'_> {
     }
 }
 
-/// What the records before a faulty one tell of it.
+/// What the check of a faulty record needs of the records before it.
 #[derive(Clone, Copy, Debug)]
 pub struct Before {
     format: Format,
-    // How many there are.
+    // How many records there are.
     count: u64,
-    // Of a dataset.
+    // What is needed of a dataset.
     tables: Tables,
 }
 
 impl Before {
-    /// No records, of a file that has such.
+    /// No records, of a file of that format.
     pub fn new(format: Format) -> Before {
         Before {
             format,
@@ -72,7 +72,7 @@ impl Before {
         }
     }
 
-    /// Passes a record without a fault.
+    /// Takes the next record, which has no fault.
     pub fn pass(&mut self, fields: Fields<'_>) {
         self.count = self.count.saturating_add(1);
         if self.format == Format::Dataset {
@@ -80,7 +80,7 @@ impl Before {
         }
     }
 
-    /// Goes through the fields of the record that comes next, of which the first is that word.
+    /// Searches the fields of the next record, whose first field is that word.
     pub fn search(&self, search: &mut Search<'_>, first: &str) {
         match self.format {
             Format::Dataset if self.count == 0 => header(search),
@@ -95,7 +95,7 @@ impl Before {
         }
     }
 
-    /// The names of the fields by which a record that is out of order has its place, if it is a row's.
+    /// The names of the key fields of a record that is out of order, if it is a row of a dataset.
     pub fn key_names(&self, kind: FaultKind, first: &str) -> Option<&'static str> {
         if self.format == Format::Dataset && kind == FaultKind::OutOfOrder {
             key_names(first)

@@ -5,31 +5,31 @@ use crate::meaning::search::Search;
 use crate::meaning::spelling::Spelling;
 use files::{FaultKind, parse_whole};
 
-// What the records of a schedule begin with.
+// The first words of the records of a schedule.
 const EVENTS: Spelling = Spelling::Said("one of S, M, T, X and R, or END");
 
-// What requests begin with.
+// The first words of requests.
 const REQUESTS: Spelling = Spelling::Said("one of N, P, O, D and L");
 
-// How many fields a request has with its letter.
+// How many fields a request has, including its letter.
 const SIZES: Spelling = Spelling::Said(
     "8 of P, 4 of O, D and L, and of N 5 and 3 for each line, 64 at most",
 );
 
-/// Goes through the fields of an end record, before which there are so many.
+/// Searches the fields of an end record, before which there are `count` records.
 pub fn end(search: &mut Search<'_>, count: u64) {
     search.field("the word of the end record", Spelling::Said("END"));
     search.field("how many records there are", Spelling::Count(count));
 }
 
-/// Goes through the fields of a move.
+/// Searches the fields of a move.
 pub fn move_order(search: &mut Search<'_>) {
     search.field("the first warehouse", Spelling::NUMBER);
     search.field("the last warehouse", Spelling::NUMBER);
     search.field("the executor", Spelling::NUMBER);
 }
 
-/// Goes through the fields of an item of a schedule.
+/// Searches the fields of an item of a schedule.
 pub fn scheduled(search: &mut Search<'_>) {
     match search.word("the letter", EVENTS) {
         "S" => {
@@ -44,7 +44,7 @@ pub fn scheduled(search: &mut Search<'_>) {
     }
 }
 
-/// Goes through the fields of an entry of a log, at that place.
+/// Searches the fields of an entry of a log, at that place.
 pub fn entry(search: &mut Search<'_>, place: u64) {
     search.field("the place", Spelling::Place(place));
     search.field("the session", Spelling::NUMBER);
@@ -63,13 +63,14 @@ pub fn entry(search: &mut Search<'_>, place: u64) {
     }
 }
 
-/// Goes through the fields of a request, which are all that are left.
+/// Searches the fields of a request, which are all that are left.
 pub fn request(search: &mut Search<'_>) {
     let count = search.left() as u64;
     request_of(search, count);
 }
 
-// A request, and how many fields it has with its letter, where that is known. So many it should have.
+// Searches the fields of a request that should have `count` fields, including its letter. Returns how many its kind
+// has; `None` if its letter is unknown.
 fn request_of(search: &mut Search<'_>, count: u64) -> Option<u64> {
     match search.word("the letter of the request", REQUESTS) {
         "N" => Some(new_order(search, count)),
@@ -110,7 +111,7 @@ fn request_of(search: &mut Search<'_>, count: u64) -> Option<u64> {
     }
 }
 
-// A New-Order, and how many fields it has with its letter.
+// Searches the fields of a New-Order and returns how many it has, including its letter.
 fn new_order(search: &mut Search<'_>, count: u64) -> u64 {
     search.field("W_ID", Spelling::NUMBER);
     search.field("D_ID", Spelling::NUMBER);

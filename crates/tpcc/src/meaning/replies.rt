@@ -4,13 +4,13 @@ use crate::meaning::search::Search;
 use crate::meaning::spelling::Spelling;
 use files::FaultKind;
 
-// What replies begin with.
+// The first words of replies.
 const REPLIES: Spelling = Spelling::Said("one of N, P, O, D, L and X");
 
-// Why nothing changed.
+// The words for the reason of a rollback.
 const REASONS: Spelling = Spelling::Said("one of nocustomer, noitem and range");
 
-/// Goes through the fields of a reply.
+/// Searches the fields of a reply.
 pub fn reply(search: &mut Search<'_>) {
     match search.word("the letter of the reply", REPLIES) {
         "N" => new_order_reply(search),
@@ -87,7 +87,7 @@ fn order_status_reply(search: &mut Search<'_>) {
     }
 }
 
-// Why a transaction changed nothing.
+// Searches the fields of a rollback behind its letter.
 fn fault(search: &mut Search<'_>) {
     match search.word("why nothing changed", REASONS) {
         "nocustomer" | "range" => {}

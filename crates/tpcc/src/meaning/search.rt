@@ -1,8 +1,8 @@
 use crate::meaning::spelling::Spelling;
 use files::{FaultKind, Fields};
 
-/// Goes through the fields of a faulty record, from left to right, as they should be, up to the first one
-/// that has the record's fault.
+/// Searches a faulty record from left to right for the first field that has the record's fault, by what each field
+/// should be.
 #[derive(Drop)]
 pub struct Search<'r> {
     fields: Fields<'r>,
@@ -15,14 +15,14 @@ pub struct Search<'r> {
 /// The first field that has the record's fault.
 #[derive(Clone, Copy, Debug)]
 pub struct Found {
-    /// From 1. It may be one that the record lacks.
+    /// Counted from 1. The record may lack this field.
     pub place: usize,
     pub name: &'static str,
     pub spelling: Spelling,
 }
 
 impl<'r> Search<'r> {
-    /// Before the first field of a record that has this fault.
+    /// A search before the first field of a record that has this fault.
     pub fn new(fields: Fields<'r>, fault: FaultKind) -> Self {
         Search {
             fields,
@@ -32,14 +32,14 @@ impl<'r> Search<'r> {
         }
     }
 
-    /// Goes on over the next field, which should be of this name and spelt so.
+    /// Takes the next field, which has this name and should be spelt so.
     pub fn field(&mut self, name: &'static str, spelling: Spelling) {
         spelling.take(&mut self.fields);
         self.taken = self.taken.saturating_add(1);
         self.look(self.taken, name, spelling);
     }
 
-    /// The same of a field that tells what follows it: its word.
+    /// Takes the next field, on which the rest of the record depends, and returns its word.
     pub fn word(&mut self, name: &'static str, spelling: Spelling) -> &'r str {
         let word = self.fields.word();
         self.taken = self.taken.saturating_add(1);
@@ -47,7 +47,7 @@ impl<'r> Search<'r> {
         word
     }
 
-    /// Tells that the field at that place, from 1, has such a fault, which is known from what follows it.
+    /// Notes a fault of this kind of the field at that place, from 1, which its spelling alone doesn't show.
     pub fn refuse(
         &mut self,
         kind: FaultKind,
@@ -59,7 +59,7 @@ impl<'r> Search<'r> {
         self.look(place, name, spelling);
     }
 
-    /// How many fields were gone over.
+    /// How many fields were taken.
     pub fn taken(&self) -> usize {
         self.taken
     }
@@ -69,18 +69,17 @@ impl<'r> Search<'r> {
         self.fields.left()
     }
 
-    /// Whether the next field is there and is empty.
+    /// Whether there is a next field and it is empty.
     pub fn next_is_empty(&self) -> bool {
         self.fields.next_is_empty()
     }
 
-    /// The first field that has the fault, if one that was gone over has it.
+    /// The first field that has the fault, if one that was taken has it.
     pub fn found(&self) -> Option<Found> {
         self.found
     }
 
-    /// The place, from 1, of the first field that should not be there, where those that were gone over
-    /// should be all.
+    /// The place, from 1, of the first field that should not be there, if the fields that were taken should be all.
     pub fn first_too_many(&self) -> Option<usize> {
         if self.fault == FaultKind::WrongShape && self.found.is_none() && self.left() > 0 {
             Some(self.taken.saturating_add(1))
@@ -89,8 +88,8 @@ impl<'r> Search<'r> {
         }
     }
 
-    // Looks whether the field at that place is the first that has the fault. No lesser one comes, since it
-    // is the record's.
+    // Records the field at that place if it is the first that has the fault. A lesser fault can't occur, since the
+    // record's fault is its least.
     fn look(&mut self, place: usize, name: &'static str, spelling: Spelling) {
         if self.found.is_none() && self.fields.fault() == Some(self.fault) {
             self.found = Some(Found {

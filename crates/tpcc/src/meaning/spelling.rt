@@ -1,24 +1,24 @@
-//! How the fields of records are spelt, for those who are told of a fault.
+//! The spelling of the fields of records, for the explanation of a fault.
 
 use files::{FaultKind, Fields, parse_text, parse_whole};
 use std::fmt;
 
-/// How a field is spelt, as docs/FORMATS.md has it. Shown, it is what would be right.
+/// How a field is spelt, after docs/FORMATS.md. Its `Display` is what would be right.
 #[derive(Clone, Copy, Debug)]
 pub enum Spelling {
-    /// This word, which a header has.
+    /// This word of a header.
     Header(&'static str),
-    /// A word that the reader of the record knows; these words say which.
+    /// A word that depends on the record; this text describes it.
     Said(&'static str),
-    /// A number from the one to the other.
+    /// A number from the first to the second.
     Whole(u32, u32),
-    /// The same, or nothing.
+    /// A number from the first to the second, or nothing.
     MaybeWhole(u32, u32),
     /// This number, which is the place of the record.
     Place(u64),
     /// This number, which is how many records there are.
     Count(u64),
-    /// A text of at most so many bytes.
+    /// A text of at most this many bytes.
     Text(usize),
     /// Whole cents.
     Money,
@@ -27,7 +27,7 @@ pub enum Spelling {
     MaybeMoment,
     Credit,
     Brand,
-    /// Who is chosen, by C_ID or by C_LAST.
+    /// The choice of a customer, by C_ID or by C_LAST.
     Choice,
     Nothing,
 }
@@ -42,7 +42,7 @@ impl Spelling {
     /// A count that only grows.
     pub const COUNTER: Spelling = Spelling::Whole(0, 999_999_999);
 
-    /// Takes the next field as one that is spelt so, and notes its fault if it has one.
+    /// Takes the next field, which should be spelt so, and notes its fault if it has one.
     pub fn take(self, fields: &mut Fields<'_>) {
         match self {
             Spelling::Header(word) => {
@@ -113,7 +113,7 @@ fn unless(is_right: bool, kind: FaultKind) -> Option<FaultKind> {
     if is_right { None } else { Some(kind) }
 }
 
-// The fault of a text that is to have so many bytes at most.
+// The fault of a text that should have `width` bytes at most, if it has one.
 fn text_fault(word: &str, width: usize) -> Option<FaultKind> {
     match parse_text::<500>(word) {
         Ok(_) => unless(word.len() <= width, FaultKind::OutOfRange),
@@ -121,7 +121,7 @@ fn text_fault(word: &str, width: usize) -> Option<FaultKind> {
     }
 }
 
-// The fault of a word that says who is chosen.
+// The fault of a word that chooses a customer, if it has one.
 fn choice_fault(word: &str) -> Option<FaultKind> {
     match word.strip_prefix("#") {
         Some(digits) => match parse_whole(digits, 0, u64::from(u32::MAX)) {

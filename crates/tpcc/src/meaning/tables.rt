@@ -6,21 +6,21 @@ use crate::meaning::search::Search;
 use crate::meaning::spelling::Spelling;
 use files::{FaultKind, Fields};
 
-/// What the records of a dataset tell of those behind them.
+/// What the check of a record of a dataset needs of the records before it.
 #[derive(Clone, Copy, Debug)]
 pub struct Tables {
     // How many rows there are of each table, in the order of a dataset.
     rows: [u64; 9],
-    // The header's.
+    // The scale in the header.
     warehouses: u32,
     items: u32,
     customers: u32,
 }
 
-// What records behind the header begin with.
+// The first words of the records behind the header.
 const LETTERS: Spelling = Spelling::Said("one of I, W, D, S, C, H, O, N and L, or END");
 
-/// Goes through the fields of a header.
+/// Searches the fields of a header.
 pub fn header(search: &mut Search<'_>) {
     search.field("the word of a dataset", Spelling::Header("TPCC"));
     search.field("the format", Spelling::Header("1"));
@@ -32,7 +32,7 @@ pub fn header(search: &mut Search<'_>) {
     );
 }
 
-/// The names of the fields that are the key of a row whose record begins with that word, if one does.
+/// The names of the key fields of a row whose record begins with that word, if it is a table's letter.
 pub fn key_names(first: &str) -> Option<&'static str> {
     match first {
         "I" => Some("I_ID"),
@@ -48,7 +48,7 @@ pub fn key_names(first: &str) -> Option<&'static str> {
     }
 }
 
-// The table whose records begin with that letter, in the order of a dataset, from 0.
+// The place, from 0, of the table whose records begin with that letter, in the order of a dataset.
 fn table_of(letter: &str) -> Option<usize>
     ensures { IfSome result (λ table. table < 9) }
 {
@@ -67,7 +67,7 @@ fn table_of(letter: &str) -> Option<usize>
 }
 
 impl Tables {
-    /// Before all records.
+    /// The state before all records.
     pub fn new() -> Tables {
         Tables {
             rows: [0; 9],
@@ -77,7 +77,7 @@ impl Tables {
         }
     }
 
-    /// Passes a record without a fault.
+    /// Takes the next record, which has no fault.
     pub fn pass(&mut self, mut fields: Fields<'_>) {
         let first = fields.word();
         if first == "TPCC" {
@@ -91,7 +91,7 @@ impl Tables {
         }
     }
 
-    /// Goes through the fields of a record behind the header, of which the first is that word.
+    /// Searches the fields of a record behind the header, whose first field is that word.
     pub fn search(&self, search: &mut Search<'_>, first: &str) {
         let name = "the letter";
         search.field(name, LETTERS);
@@ -236,7 +236,7 @@ impl Tables {
         search.field(order, Spelling::Whole(1, 9_999_999));
     }
 
-    // The number of a warehouse of the header's scale.
+    // The number of a warehouse in the header's scale.
     fn of_warehouses(&self) -> Spelling {
         Spelling::Whole(1, self.warehouses)
     }

@@ -21,7 +21,7 @@ returns-in_ok-print_lines-in-Differs-clause-reports g c =
     subst Reports (sym c.in-Differs.is)
     (refl, c.in_ok-print_lines-in-Differs.ensures.printed found_text (λ one. refl), refl)
 
--- the line was not told
+-- the line was not printed
 pub returns-in_err-print_lines-in-Equal-clause-begun : goal.returns-in_err-print_lines-in-Equal-clause-begun
 returns-in_err-print_lines-in-Equal-clause-begun g c =
     let Reported : Replay → Type 0 = λ replay. Begins (g.A.Write.contents c.args.found.now) (g.A.Write.contents c.print_lines.new.sink) (lines_text (found_text (found_of c.args.entries.now replay) ∷ [])) in

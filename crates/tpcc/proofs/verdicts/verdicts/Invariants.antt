@@ -1,4 +1,4 @@
--- What is told of so many conditions.
+-- The verdicts on the conditions so far.
 use Rattle.std.proofs.Common.{◌≡◌, take}
 use Rattle.tpcc.specs.Verdicts.{verdicts_of}
 use Rattle.tpcc.proofs.verdicts.verdicts.Given as goal
