@@ -11,10 +11,10 @@ use crate::orders;
 use crate::place::Place;
 use crate::recorded::Recorded;
 use files::{Fields, NewRecord};
-use rows::{Moment, OrderLine, OrderLineKey};
+use rows::{LAST_LINE, Moment, OrderLine, OrderLineKey};
 use schema::NoMemory;
 
-/// Takes a record of ORDER-LINE behind its letter, and adds its row if it has no fault. OL_NUMBER is 1 to 15, and OL_DELIVERY_D is
+/// Takes a record of ORDER-LINE behind its letter, and adds its row if it has no fault. OL_NUMBER is 1 to `LAST_LINE`, and OL_DELIVERY_D is
 /// null where the field is empty.
 pub fn take(loader: &mut Loader, fields: &mut Fields) -> Result<(), NoMemory>
     ensures { OnOk result (fault_of fields.old ≡ None → IsRowOf Lines loader.old loader.new fields.old fields.new) }
@@ -23,7 +23,7 @@ pub fn take(loader: &mut Loader, fields: &mut Fields) -> Result<(), NoMemory>
         w_id: fields.whole(1, loader.scale.warehouses),
         d_id: fields.whole(1, 10),
         o_id: fields.whole(1, 9_999_999),
-        number: fields.whole(1, 15),
+        number: fields.whole(1, LAST_LINE),
     };
     let row = OrderLine {
         i_id: fields.whole(1, loader.scale.items),

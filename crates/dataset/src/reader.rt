@@ -29,7 +29,7 @@ use std::alloc::Global;
 /// fails, with the number of the record in flight, and never where none does. Of the text neither says
 /// anything, and nothing else is given then either. After an error it is not said how far `source` was read.
 /// Memory is taken row by row; by the numbers of the header only for an empty list of payments for each
-/// district, of which there are at most 640.
+/// district, of which there are at most 10 for each of `MOST_WAREHOUSES`.
 pub fn read<R: Input + Drop>(alloc: Global, source: R) -> Result<Tables, FileError>
     ensures tables { IfOk result (λ tables. (text : List ℕ) → R.remaining source ≡ Some text → (rows : List (List (List ℕ))) × IsCsv text rows × AreRecords tables rows) }
     ensures first { (text : List ℕ) (rows : List (List (List ℕ))) → R.remaining source ≡ Some text → IsCsv text rows → length rows < 2 ^ 64 - 1

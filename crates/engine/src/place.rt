@@ -156,7 +156,7 @@ impl<'a, J: ServeNames> Place<'a, J> {
         }
         let ready = match self.stage.take() {
             Some(Stage::Ready(ready)) => ready,
-            other => return self.advance_by_hand(other, executor),
+            other => return self.advance_interactive(other, executor),
         };
         match ready.next(alloc, scale, ages, slot, tries) {
             Next::Ready(ready) => {
@@ -177,7 +177,7 @@ impl<'a, J: ServeNames> Place<'a, J> {
     }
 
     // What the session asks interactively begins, or it asks no more. It stays at any other stage.
-    fn advance_by_hand(
+    fn advance_interactive(
         &mut self,
         stage: Option<Stage<'a, J>>,
         executor: u32,

@@ -6,6 +6,7 @@ use Rattle.std.specs.FinMap as table
 use Rattle.rows.specs.declared.records.Item.{Item}
 use Rattle.rows.specs.declared.records.Stock.{Stock}
 use Rattle.rows.specs.declared.records.OrderLine.{OrderLine}
+use Rattle.rows.specs.declared.limits.TheConstants.{MOST_LINES}
 use Rattle.schema.specs.Database.{Database}
 use Rattle.requests.specs.declared.new_order.NewOrder.{NewOrder}
 use Rattle.requests.specs.declared.new_order.OrderedLine.{OrderedLine}
@@ -19,10 +20,10 @@ use Rattle.machine.specs.NewOrder.{Stocks, stock_key_of, taken_from, quantity_af
 abbrev pub AreQuantities : List OrderedLine → Type 0
 AreQuantities lines = All (λ line. (1 ≤ line.quantity) × (line.quantity ≤ 10)) lines
 
--- the order has 1 to 15 lines, and each orders 1 to 10 (clause 2.4.1)
+-- the order has 1 to MOST_LINES lines, and each orders 1 to 10 (clause 2.4.1)
 pub record IsOrderWithin (n : NewOrder) : Type 0 where
   pub some_line : 1 ≤ length n.lines
-  pub most_lines : length n.lines ≤ 15
+  pub most_lines : length n.lines ≤ MOST_LINES
   pub quantities : AreQuantities n.lines
 
 -- ---- what a line leaves

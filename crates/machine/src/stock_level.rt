@@ -1,14 +1,13 @@
 ghost use Rattle.std.specs.Prelude.{◌≡◌, ◌≤◌, count_by, length, IfOk};
 ghost use Rattle.std.specs.FinMap as table;
+ghost use Rattle.rows.specs.declared.limits.TheConstants.{RECENT_LINES};
 ghost use Rattle.machine.specs.StockLevel as spec;
 
 use partitions::Rows;
 use requests::{StockLevel, StockLevelReply};
+use rows::RECENT_LINES;
 use schema::{DistrictKey, NoMemory, StockKey, Tables};
 use std::alloc::Global;
-
-// 20 orders of at most 15 lines.
-const MOST_LINES: usize = 300;
 
 /// What Stock-Level shows (clause 2.8): of how many items of the district's last 20 orders its warehouse has less than the
 /// threshold, 0 where there is no such district. It reads the lines of these orders and a row of STOCK for each of their
@@ -28,7 +27,7 @@ pub fn stock_level_reply(
     })
 }
 
-/// The item of each line of the district's 20 orders before this number, by O_ID and then by OL_NUMBER: 300 at most. Want
+/// The item of each line of the district's 20 orders before this number, by O_ID and then by OL_NUMBER: `RECENT_LINES` at most. Want
 /// of memory leaves nothing behind.
 pub fn recent_items<T: Rows>(
     alloc: Global,
@@ -37,9 +36,9 @@ pub fn recent_items<T: Rows>(
     next: u32,
 ) -> Result<Vec<u32>, NoMemory>
     ensures value { IfOk result (λ items. items.items ≡ spec.recent_items (T.tables rows.now) home next) }
-    ensures few { IfOk result (λ items. length items.items ≤ 300) }
+    ensures few { IfOk result (λ items. length items.items ≤ RECENT_LINES) }
 {
-    let mut items = Vec::with_capacity(alloc, MOST_LINES)?;
+    let mut items = Vec::with_capacity(alloc, RECENT_LINES)?;
     for (_, row) in rows.lines_of_span(home, next.saturating_sub(20), next) {
         items.push(row.i_id)?;
     }

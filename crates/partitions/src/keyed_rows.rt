@@ -31,7 +31,7 @@ pub trait Rows {
         ensures value { result ≡ (tables self.now).scale }
         ensures rows { AreRows (slot self.now) (districts self.now) (tables self.now) };
 
-    /// How many districts' rows are here: 10 to 640.
+    /// How many districts' rows are here: 10 for each of 1 to [`MOST_WAREHOUSES`](rows::MOST_WAREHOUSES) warehouses.
     fn district_count(&self) -> u32
         ensures { result ≡ districts self.now };
 
@@ -76,7 +76,7 @@ pub trait Rows {
         ensures fits { length result < 2 ^ 63 };
 
     /// The lines of the district's orders numbered from `from` up to, but without, `to`, by O_ID and then by
-    /// OL_NUMBER, which is 1 to 15.
+    /// OL_NUMBER, which is 1 to `LAST_LINE`.
     fn lines_of_span(&self, home: DistrictKey, from: u32, to: u32) -> Lines<'_>
         ensures rows { result ≡ rows_where (is_in_span home from to) (tables self.now).lines }
         ensures numbered { LinesNumbered (tables self.now) }

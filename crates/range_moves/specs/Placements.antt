@@ -1,5 +1,6 @@
 -- Where the slices of the warehouses are, and what executors noted of them; and what each step of a move changes.
 use Rattle.std.specs.Prelude.{All, ◌≡◌, ℕ, ◌-◌, ◌<◌, ◌≤◌, ◌==◌, Bool, true, false, nat_le, if◌then◌else◌, List, [], length, replicate, Option, Some, None, slice_set, slice_index_or}
+use Rattle.rows.specs.declared.limits.TheConstants.{MOST_WAREHOUSES}
 use Rattle.routing.specs.Routes.{Routes, executor_of}
 use Rattle.range_moves.specs.declared.placement.Whereabouts.{Whereabouts}
 use Rattle.range_moves.specs.declared.placement.Whereabouts.TheVariants.{Rests, Leaves, Travels}
@@ -119,9 +120,9 @@ pub record IsPlacementOf (executors : ℕ) (placement : Placement) : Type 0 wher
   pub there : comes_to placement.place < executors
   pub notes : length placement.notes ≡ 16
 
--- There are 1 to 16 executors and at most 64 warehouses, and each placement is one of these executors'.
+-- There are 1 to 16 executors and at most MOST_WAREHOUSES warehouses, and each placement is one of these executors'.
 pub record AreKept (h : PlacementsView) : Type 0 where
   pub some : 1 ≤ h.executors
   pub most : h.executors ≤ 16
-  pub many : length h.placements ≤ 64
+  pub many : length h.placements ≤ MOST_WAREHOUSES
   pub each : All (IsPlacementOf h.executors) h.placements

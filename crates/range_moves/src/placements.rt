@@ -25,13 +25,14 @@ pub struct Placements {
 
 impl Model for Placements {
     ghost use Rattle.std.specs.Prelude.{All, length, ◌≤◌};
+    ghost use Rattle.rows.specs.declared.limits.TheConstants.{MOST_WAREHOUSES};
     ghost use Rattle.range_moves.specs.Placements.{PlacementsView, IsPlacementOf};
 
     ghost Value = { PlacementsView };
 
     ghost view = { λ h. record { executors = h.executors; placements = h.placements.items; awaited = h.awaited } };
 
-    ghost invariant = { λ h. (1 ≤ h.executors) × ((h.executors ≤ 16) × ((length h.placements.items ≤ 64) × All (IsPlacementOf h.executors) h.placements.items)) };
+    ghost invariant = { λ h. (1 ≤ h.executors) × ((h.executors ≤ 16) × ((length h.placements.items ≤ MOST_WAREHOUSES) × All (IsPlacementOf h.executors) h.placements.items)) };
 }
 
 impl Placements {
@@ -153,7 +154,7 @@ impl Placements {
         1 <= self.awaited
     }
 
-    /// What is so of any: there are at most 16 executors and 64 warehouses; each slice is at one of the executors, or comes to one, and there are 16 notes of it.
+    /// What is so of any: there are at most 16 executors and `MOST_WAREHOUSES` warehouses; each slice is at one of the executors, or comes to one, and there are 16 notes of it.
     pub fn are_kept(&self)
         ensures { AreKept self.now }
     {

@@ -20,6 +20,7 @@ use Rattle.rows.specs.declared.records.NewOrder.{NewOrder}
 use Rattle.rows.specs.declared.records.OrderLine.{OrderLine}
 use Rattle.rows.specs.Keys.{district_cmp, stock_cmp, customer_cmp, order_cmp, line_cmp, order_of_line}
 use Rattle.rows.specs.Ranged.{is_between}
+use Rattle.rows.specs.declared.limits.TheConstants.{LAST_LINE}
 use Rattle.schema.specs.declared.scale.Scale.{Scale}
 use Rattle.schema.specs.Scale.{has_item, has_warehouse, has_district, has_stock, has_customer}
 use Rattle.schema.specs.EachRow.{EachRow}
@@ -71,9 +72,9 @@ customer_of_order key row = record { w_id = key.w_id; d_id = key.d_id; c_id = ro
 abbrev pub is_order_id : ℕ → Bool
 is_order_id number = is_between 1 9999999 number
 
--- OL_NUMBER is from 1 to 15
+-- OL_NUMBER is from 1 to LAST_LINE
 abbrev pub is_line_number : ℕ → Bool
-is_line_number number = is_between 1 15 number
+is_line_number number = is_between 1 LAST_LINE number
 
 -- each payment names a customer of the scale
 abbrev pub PayersKnown : Database → Type 0

@@ -1,13 +1,13 @@
 ghost use Rattle.std.specs.Prelude.{◌≡◌, ◌↔◌, IsSome, IfSome};
 ghost use Rattle.schema.specs.Limits.{IsScale};
 
-use rows::{CustomerKey, DistrictKey, StockKey};
+use rows::{CustomerKey, DistrictKey, MOST_WAREHOUSES, StockKey};
 
 /// How many rows the tables of fixed size have (clause 1.2.1, with smaller scales allowed). Each
 /// warehouse has ten districts.
 #[derive(Clone, Copy, Debug, PartialEq, Eq)]
 pub struct Scale {
-    /// 1 to 64.
+    /// 1 to `MOST_WAREHOUSES`.
     pub warehouses: u32,
     /// 1 to 100,000.
     pub items: u32,
@@ -29,7 +29,7 @@ impl Scale {
         ensures customers { IfSome result (λ scale. scale.customers ≡ customers) }
     {
         let fits = 1 <= warehouses
-            && warehouses <= 64
+            && warehouses <= MOST_WAREHOUSES
             && 1 <= items
             && items <= 100_000
             && 1 <= customers

@@ -10,6 +10,7 @@ use Rattle.rows.specs.declared.records.Customer as customer
 use Rattle.rows.specs.declared.records.Order as order
 use Rattle.rows.specs.declared.records.OrderLine.{OrderLine}
 use Rattle.rows.specs.declared.records.History.{History}
+use Rattle.rows.specs.declared.limits.TheConstants.{MOST_LINES}
 use Rattle.schema.specs.declared.scale.Scale.{Scale}
 use Rattle.schema.specs.declared.order_rows.Replaced.{Replaced}
 use Rattle.schema.specs.MapRows.{map_rows, put_row}
@@ -71,12 +72,12 @@ abbrev pub AreNamesAt : Database → CustomerKey → customer.Customer → Type 
 AreNamesAt t key row = AreNamesOf (table.get t.customers key) row
 
 -- What is asked of an order that is added to a warehouse's rows: it is of the warehouse, with a number in its range and a
--- customer of the scale, and its lines are 15 at most, of items and of suppliers of the scale.
+-- customer of the scale, and its lines are MOST_LINES at most, of items and of suppliers of the scale.
 pub record IsOrderFor (p : Part) (key : OrderKey) (row : order.Order) (rows : List OrderLine) : Type 0 where
   pub home : key.w_id ≡ p.home
   pub number : IsTrue (is_order_id key.o_id)
   pub customer : IsTrue (has_customer p.tables.scale (customer_of_order key row))
-  pub few : length rows ≤ 15
+  pub few : length rows ≤ MOST_LINES
   pub lines : IsTrue (list_all (is_line_within p.tables.scale) rows)
 
 -- each row of a table that the group has, by its content, passes the test
@@ -98,16 +99,16 @@ pub record AreOrdersWithin (scale : Scale) (group : Group) (content : Content) :
 -- The rows of an order are there, of so many lines as stood in the places of its own; and with what stood there put back the
 -- group's orders keep the rules of the scale.
 pub record CanTakeBackOrder (scale : Scale) (key : OrderKey) (replaced : Replaced) (content : Content) : Type 0 where
-  pub few : length replaced.lines.items ≤ 15
+  pub few : length replaced.lines.items ≤ MOST_LINES
   pub order : IsTrue (is_some (order_in (group_of_order key) content key))
   pub new_order : IsTrue (is_some (new_order_in (group_of_order key) content key))
   pub lines : (n : ℕ) → n < length replaced.lines.items → IsTrue (is_some (line_in (group_of_order key) content (line_key key (1 + n))))
   pub within : AreOrdersWithin scale (group_of_order key) (with_order_back key replaced content)
 
--- The order is there, and of fifteen lines it is kept when they were delivered.
+-- The order is there, and of MOST_LINES lines it is kept when they were delivered.
 pub record CanTakeBackDelivery (key : OrderKey) (before : BeforeDelivery) (content : Content) : Type 0 where
   pub order : IsTrue (is_some (order_in (group_of_order key) content key))
-  pub fifteen : length before.moments ≡ 15
+  pub fifteen : length before.moments ≡ MOST_LINES
 
 -- What one group has changes so. The warehouse, the scale, the items and what all other groups have stay.
 pub record ChangesGroup (group : Group) (change : Content → Content) (old new : Part) : Type 0 where

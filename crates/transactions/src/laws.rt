@@ -2,9 +2,10 @@
 ghost use Rattle.transactions.specs.Laws.{AcceptedRequestsHaveTheirGroups, ActionsCanDoTheirWork, ClaimsAreOfTheFootprint, PhasesHaveActions, ReachedRequestsAreAccepted, RolledBackClaimsCanBeUndone, TransactionsClaimEachGroupOnce, TransactionsHaveFewActions, WorksAreAtWarehouses, WorksAreDoneAtHome, WorksClaimAtHome, WorksHaveAClaimForEachGroupWant, WorksHaveTheirGroups, WorksHaveGroupWants};
 
 use groups::footprints_name_each_group_once;
+use rows::MOST_LINES;
 
 /// No transaction has more actions, those of all its phases together.
-pub const MOST_ACTIONS: usize = 18;
+pub const MOST_ACTIONS: usize = MOST_LINES + 3;
 
 /// What was carried out and rolled back, was so also once all that was done under its claims is taken back.
 pub fn rolled_back_claims_can_be_undone()

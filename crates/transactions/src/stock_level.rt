@@ -54,7 +54,7 @@ pub enum Progress {
     CountLow(StockLevel, Items),
 }
 
-/// The items of the lines of 20 orders, each as often as lines name it: 300 at most. Contracts see them as a list.
+/// The items of the lines of 20 orders, each as often as lines name it: `RECENT_LINES` at most. Contracts see them as a list.
 #[derive(Drop)]
 pub struct Items {
     ids: Vec<u32>,
@@ -62,12 +62,13 @@ pub struct Items {
 
 impl Model for Items {
     ghost use Rattle.std.specs.Prelude.{◌≤◌, ℕ, List, length};
+    ghost use Rattle.rows.specs.declared.limits.TheConstants.{RECENT_LINES};
 
     ghost Value = { List ℕ };
 
     ghost view = { λ i. i.ids.items };
 
-    ghost invariant = { λ i. length i.ids.items ≤ 300 };
+    ghost invariant = { λ i. length i.ids.items ≤ RECENT_LINES };
 }
 
 impl Items {
@@ -182,7 +183,7 @@ pub fn read_next<J: GroupNames>(
     }
 }
 
-/// Reads the item of each line of the district's 20 orders before this number: 300 at most. It changes nothing, and the
+/// Reads the item of each line of the district's 20 orders before this number: `RECENT_LINES` at most. It changes nothing, and the
 /// items alone take memory.
 pub fn read_items<J: GroupNames>(
     alloc: Global,

@@ -1,6 +1,7 @@
 -- What one event does.
 use Rattle.std.specs.Prelude.{◌≡◌, ◌<◌, ◌≤◌, ℕ, ◌+◌, ◌-◌, Bool, true, false, List, [], ◌∷◌, ◌++◌, Option, Some, None, Result, Ok, Err, All, nat_lt, length, map, replicate, slice_set, ◌⊎◌}
 use Rattle.std.specs.List.{slice_get}
+use Rattle.rows.specs.declared.limits.TheConstants.{INBOX}
 use Rattle.partitions.specs.Parts.{SharedTables}
 use Rattle.schema.specs.Database.{Database}
 use Rattle.requests.specs.declared.request.Request.{Request}
@@ -136,7 +137,7 @@ module _ {J : Type 0} where
 
   -- ---- a message is pushed
 
-  -- A message goes to the end of the inbox, or, where that has its 1,024, back to the end of the outbox.
+  -- A message goes to the end of the inbox, or, where that is full, back to the end of the outbox.
   abbrev pub Pushes : Bool → Message J → Parts J → EventAnswer → Parts J → Type 0
   Pushes true message old answer new = (answer ≡ Sent) × (new ≡ record old { inbox = old.inbox ++ message ∷ [] })
   Pushes false message old answer new = (answer ≡ Full) × (new ≡ record old { outbox = old.outbox ++ item.Push message ∷ [] })
@@ -242,7 +243,7 @@ module _ {J : Type 0} where
 
   -- What an item does when it is sent, by its kind.
   abbrev pub SendsItem : Item J → Parts J → EventAnswer → Parts J → Type 0
-  SendsItem (item.Push message) old answer new = Pushes (nat_lt (length old.inbox) 1024) message old answer new
+  SendsItem (item.Push message) old answer new = Pushes (nat_lt (length old.inbox) INBOX) message old answer new
   SendsItem (item.Report r) old answer new = (answer ≡ Sent) × Reports r old new
   SendsItem (item.Ended slot) old answer new = (answer ≡ Sent) × OfEnding slot old (λ left. new ≡ with_active slot (ending (left - 1)) old)
   SendsItem (item.Commit commit) old answer new = Commits commit old answer new

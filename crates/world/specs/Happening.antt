@@ -2,6 +2,7 @@
 use Rattle.std.specs.Prelude.{IsTrue, is_some, ◌≡◌, ◌⊎◌, ℕ, zero, suc, ◌+◌, ◌-◌, ◌<◌, ◌&&◌, Bool, true, false, nat_lt, nat_le, List, [], ◌∷◌, ◌++◌, Option, Some, None, Result, Ok, Err, Vec, length, map, replicate, slice_set}
 use Rattle.std.specs.List.{slice_get}
 use Rattle.std.specs.declared.alloc.Global.{Global}
+use Rattle.rows.specs.declared.limits.TheConstants.{INBOX}
 use Rattle.partitions.specs.Parts.{SharedTables}
 use Rattle.requests.specs.declared.request.Request.{Request}
 use Rattle.requests.specs.declared.refusal.Refusal.{Refusal}
@@ -142,7 +143,7 @@ module _ {J : Type 0} where
 
   -- there is room in the inbox of an executor
   abbrev pub has_room : ℕ → Core J → Bool
-  has_room executor w = nat_lt (length (queue_of executor w.inboxes)) 1024
+  has_room executor w = nat_lt (length (queue_of executor w.inboxes)) INBOX
 
   -- these stand at the end of an executor's outbox
   abbrev pub posting : ℕ → List (Outgoing J) → Core J → Core J
@@ -179,7 +180,7 @@ module _ {J : Type 0} where
   pub record CanOrder (order : MoveOrder) (w : Core J) : Type 0 where
     pub none : w.placements.awaited ≡ 0
     pub within : IsWithin (length w.placements.placements) w.placements.executors order
-    pub room : length (queue_of order.to w.inboxes) < 1024
+    pub room : length (queue_of order.to w.inboxes) < INBOX
 
   -- the move is outstanding, and its order stands in the inbox of its destination
   abbrev pub ordering : MoveOrder → Core J → Core J
@@ -242,7 +243,7 @@ module _ {J : Type 0} where
 
   -- ---- what stands in an outbox is sent
 
-  -- An envelope goes to the end of its executor's inbox, or, where that has its 1,024, back to the end of the outbox.
+  -- An envelope goes to the end of its executor's inbox, or, where that is full, back to the end of the outbox.
   abbrev pub Delivers : Bool → ℕ → Envelope J → Core J → EventAnswer → Core J → Type 0
   Delivers true executor l old answer new = (answer ≡ Sent) × (new ≡ record old { inboxes = put_into l.to (l ∷ []) old.inboxes })
   Delivers false executor l old answer new = (answer ≡ Full) × (new ≡ posting executor (outgoing.Envelope l ∷ []) old)

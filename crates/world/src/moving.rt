@@ -14,10 +14,11 @@ ghost use Rattle.world.specs.Worlds.{Advances};
 
 use crate::flight::{Envelope, Load, Outgoing};
 use crate::homes::home_of_message;
-use crate::world::{Core, INBOX};
+use crate::world::Core;
 use commit_log::Names;
 use history::EventAnswer;
 use range_moves::{MoveOrder, Moving};
+use rows::INBOX;
 
 impl<J: Names> Core<J> {
     // A move is ordered, if there can be such a move, none is outstanding, and the inbox of its destination has room.

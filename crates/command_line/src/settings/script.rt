@@ -13,9 +13,13 @@ use crate::settings::arguments::{
 use crate::settings::mix::mix;
 use crate::usage::UsageFault;
 use clap::{ArgMatches, Command};
+use rows::{MOST_ENTRIES, MOST_WAREHOUSES};
 use schema::Moment;
 use std::alloc::{AllocError, Global};
 use workload::Mix;
+
+// A script has no more requests than a log has entries.
+const MOST_REQUESTS: u32 = MOST_ENTRIES as u32;
 
 /// What `tpcc script` was asked to do: paths of files, and what the scripts are drawn for.
 #[derive(Debug, Drop)]
@@ -27,7 +31,7 @@ pub struct ScriptSettings<'a> {
     pub requests: u32,
     pub seed: u32,
     pub mix: Mix,
-    /// The home warehouse of all sessions, 1 to 64; each has its own where there is none.
+    /// The home warehouse of all sessions, 1 to `MOST_WAREHOUSES`; each has its own where there is none.
     pub home: Option<u32>,
     /// Whether other warehouses take part.
     pub remote: bool,
@@ -80,7 +84,7 @@ fn with_files<'a>(
             matches.get_str("requests"),
             1_000,
             0,
-            16_777_216,
+            MOST_REQUESTS,
             "--requests",
         )?,
         seed: number(matches.get_str("seed"), 1, 0, u32::MAX, "--seed")?,
@@ -110,12 +114,12 @@ fn has_twice(files: &[&str]) -> bool
 // The home warehouse that an option asks for.
 fn home(words: Option<&str>) -> Result<Option<u32>, UsageFault>
     ensures value { IfOk result (IsHome (option_map (λ word. word.now) words.entry)) }
-    ensures fits { OnOk result (IsNumberWord 1 64 (option_map (λ word. word.now) words.entry)) }
-    ensures mistake { IfErr result (IsNumberFault (codes "--home") 1 64 (option_map (λ word. word.now) words.entry)) }
+    ensures fits { OnOk result (IsNumberWord 1 MOST_WAREHOUSES (option_map (λ word. word.now) words.entry)) }
+    ensures mistake { IfErr result (IsNumberFault (codes "--home") 1 MOST_WAREHOUSES (option_map (λ word. word.now) words.entry)) }
 {
     match words {
         None => Ok(None),
-        words => Ok(Some(number(words, 1, 1, 64, "--home")?)),
+        words => Ok(Some(number(words, 1, 1, MOST_WAREHOUSES, "--home")?)),
     }
 }
 

@@ -132,7 +132,7 @@ fn order_of(rows: &Partition, home: DistrictKey, o_id: u32) -> OrderDelivered
     }
 }
 
-// What the lines of an order come to: they are 300 at most.
+// What the lines of an order come to: they are `RECENT_LINES` at most.
 fn amount_of(rows: &Partition, order: OrderKey) -> u32
     requires { IsPart rows.now }
     ensures { result ≡ amount_of rows.now.tables order }
