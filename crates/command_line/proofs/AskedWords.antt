@@ -3,6 +3,7 @@ use Rattle.std.proofs.Common.{◌≡◌, ◌⊎◌, ℕ, List, Option, None, Som
 use Rattle.std.specs.Prelude.{MatchOption}
 use Rattle.clap.specs.Words.{HasKind, IsAmong, fault_of, first_value, kind_of}
 use Rattle.std.specs.Prelude.{codes}
+use Rattle.rows.specs.declared.limits.TheConstants.{MOST_ENTRIES, MOST_WAREHOUSES}
 use Rattle.clap.specs.declared.error.Error.{Error}
 use Rattle.clap.specs.declared.error.ErrorKind.TheVariants.{OutOfMemory, DisplayVersion}
 use Rattle.clap.specs.declared.parser.matches.Found.{Found}
@@ -81,13 +82,13 @@ module _ (found : Found) (fault : UsageFault)
     (no_moment_of : (word : Option (List ℕ)) → IsMomentFault word fault → ⊥) (no_mix : fault ≡ usage.Mix → ⊥) (no_remote : fault ≡ usage.Remote → ⊥) where
   no_option : IsOptionFault found fault → ⊥
   no_option h = elim h [
-    | inl a ↦ no_number_of (codes "--requests") 0 16777216 (first_value found (codes "requests")) a
+    | inl a ↦ no_number_of (codes "--requests") 0 MOST_ENTRIES (first_value found (codes "requests")) a
     | inr b ↦ elim b.1 [
       | inl d ↦ no_number_of (codes "--seed") 0 4294967295 (first_value found (codes "seed")) d
       | inr e ↦ elim e.1 [
         | inl f ↦ no_mix f.0
         | inr g ↦ elim g.1 [
-          | inl i ↦ no_number_of (codes "--home") 1 64 (first_value found (codes "home")) i
+          | inl i ↦ no_number_of (codes "--home") 1 MOST_WAREHOUSES (first_value found (codes "home")) i
           | inr j ↦ elim j.1 [
             | inl k ↦ no_remote k.0
             | inr l ↦ no_moment_of (first_value found (codes "now")) l.1

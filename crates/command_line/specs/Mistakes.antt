@@ -4,6 +4,7 @@ use Rattle.std.specs.Fmt.{decimal}
 use Rattle.std.specs.List.{slice_get}
 use Rattle.std.specs.Ordering.{is_eq}
 use Rattle.std.specs.Path.{path_cmp}
+use Rattle.rows.specs.declared.limits.TheConstants.{MOST_ENTRIES, MOST_WAREHOUSES}
 use Rattle.clap.specs.Words.{first_value, kind_of}
 use Rattle.clap.specs.declared.error.ErrorKind.TheVariants.{OutOfMemory}
 use Rattle.clap.specs.declared.parser.matches.Found.{Found}
@@ -100,8 +101,8 @@ module _ (found : Found) where
   -- the fault is that of the first number that is out of its limits, or else that of the moment
   abbrev pub IsPopulateFault : UsageFault → Type 0
   IsPopulateFault fault =
-      IsNumberFault (codes "--warehouses") 1 64 (first_value found (codes "warehouses")) fault
-      ⊎ (IsNumberWord 1 64 (first_value found (codes "warehouses")) × (
+      IsNumberFault (codes "--warehouses") 1 MOST_WAREHOUSES (first_value found (codes "warehouses")) fault
+      ⊎ (IsNumberWord 1 MOST_WAREHOUSES (first_value found (codes "warehouses")) × (
       IsNumberFault (codes "--items") 1 100000 (first_value found (codes "items")) fault
       ⊎ (IsNumberWord 1 100000 (first_value found (codes "items")) × (
       IsNumberFault (codes "--customers") 1 3000 (first_value found (codes "customers")) fault
@@ -112,14 +113,14 @@ module _ (found : Found) where
   -- the fault is that of the first option that is out of its limits
   abbrev pub IsOptionFault : UsageFault → Type 0
   IsOptionFault fault =
-      IsNumberFault (codes "--requests") 0 16777216 (first_value found (codes "requests")) fault
-      ⊎ (IsNumberWord 0 16777216 (first_value found (codes "requests")) × (
+      IsNumberFault (codes "--requests") 0 MOST_ENTRIES (first_value found (codes "requests")) fault
+      ⊎ (IsNumberWord 0 MOST_ENTRIES (first_value found (codes "requests")) × (
       IsNumberFault (codes "--seed") 0 4294967295 (first_value found (codes "seed")) fault
       ⊎ (IsNumberWord 0 4294967295 (first_value found (codes "seed")) × (
       ((fault ≡ usage.Mix) × IsMixFault (first_value found (codes "mix")))
       ⊎ (IsMixWord (first_value found (codes "mix")) × (
-      IsNumberFault (codes "--home") 1 64 (first_value found (codes "home")) fault
-      ⊎ (IsNumberWord 1 64 (first_value found (codes "home")) × (
+      IsNumberFault (codes "--home") 1 MOST_WAREHOUSES (first_value found (codes "home")) fault
+      ⊎ (IsNumberWord 1 MOST_WAREHOUSES (first_value found (codes "home")) × (
       ((fault ≡ usage.Remote) × IsRemoteFault (first_value found (codes "remote")))
       ⊎ (IsRemoteWord (first_value found (codes "remote")) × IsMomentFault (first_value found (codes "now")) fault)))))))))
 

@@ -1,6 +1,7 @@
 -- One entry more keeps what a log's book keeps.
 use Rattle.std.proofs.Common.{◌≡◌, ◌≢◌, ℕ, ◌+◌, ◌<◌, ◌==◌, Bool, List, [], ◌∷◌, ◌++◌, if◌then◌else◌, length, set, get_or, refl, sym, ap, ◌∙◌, ⊎_elim, arith, append_assoc, append-nil, length-append, length-set, eq-eqb, ne_eqb}
 use Rattle.std.proofs.lemmas.List.Elements.{All-nil, All-cons, All-append}
+use Rattle.rows.specs.declared.limits.TheConstants.{MOST_ENTRIES}
 use mathlib.Core.Option.{some}
 use lib.ListN.{get_elem?}
 use Rattle.atomic_table.proofs.Lists.{at_set, at_index}
@@ -44,7 +45,7 @@ items_of-other session entries entry apart =
 pub book_more : (length_table : TableId) (mine_tables : ℕ → TableId) (entries : List Entry) (word : LengthView) (seats : List (SeatView Mine)) → IsBookOf length_table mine_tables entries word seats
     → (entry : Entry) (seat : SeatView Mine) (longer : LengthView)
     → entry.session < 64
-    → length entries < 16777216
+    → length entries < MOST_ENTRIES
     → longer ≡ length_view length_table (length entries + 1)
     → seat ≡ seat_at (mine_tables entry.session) (mine_of (items_of entry.session entries ++ item (length entries) entry.number entry.request entry.reply ∷ []))
     → IsBookOf length_table mine_tables (entries ++ entry ∷ []) longer (set seats entry.session seat)

@@ -1,5 +1,6 @@
 -- The invariants of a log's book, a pass and a session's seat.
 use Rattle.std.specs.Prelude.{◌≡◌, ℕ, ◌<◌, ◌≤◌, List, length, All}
+use Rattle.rows.specs.declared.limits.TheConstants.{MOST_ENTRIES}
 use mathlib.Core.Option.{some}
 use lib.ListN.{get_elem?}
 use Rattle.atomic_table.specs.Seated.{TableId}
@@ -26,7 +27,7 @@ EachRecords tables entries seats =
 -- the book has these entries, this length and these seats of the sessions
 pub record IsBookOf (length_table : TableId) (mine_tables : ℕ → TableId) (entries : List Entry) (word : LengthView) (seats : List (SeatView Mine)) : Type 0 where
   pub recorded_length : word ≡ length_view length_table (length entries)
-  pub most : length entries ≤ 16777216
+  pub most : length entries ≤ MOST_ENTRIES
   pub sessions : All (λ entry. entry.session < 64) entries
   pub seat_each : length seats ≡ 64
   pub each_records : EachRecords mine_tables entries seats

@@ -19,7 +19,7 @@ mod verdict;
 pub use asking::Asking;
 pub use entry::Entry;
 pub use log::Log;
-pub use log_book::{AppendFault, LogBook, MOST_ENTRIES};
+pub use log_book::{AppendFault, LogBook};
 pub use log_names::LogNames;
 pub use mine::{Item, Mine};
 pub use names::Names;

@@ -10,12 +10,10 @@ use crate::{Entry, LogNames, Mine, Pass, SessionSeat, UnnamedLog};
 use agreement::Seat;
 use length_word::{Length, Mark};
 use requests::{Reply, Request};
+use rows::MOST_ENTRIES;
 use schema::NoMemory;
 use std::alloc::Global;
 use std::marker::{Model, PhantomData};
-
-/// The greatest number of entries of a log.
-pub const MOST_ENTRIES: usize = 16_777_216;
 
 /// Why a request was not logged.
 #[derive(Clone, Copy, Debug, PartialEq, Eq)]

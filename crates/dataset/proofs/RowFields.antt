@@ -12,6 +12,7 @@ use Rattle.rows.specs.declared.keys.DistrictKey.{DistrictKey}
 use Rattle.rows.specs.declared.records.Address.{Address}
 use Rattle.rows.specs.declared.keys.CustomerKey.{CustomerKey}
 use Rattle.rows.specs.Keys.{district_of_customer, district_of_order, order_of_line}
+use Rattle.rows.specs.declared.limits.TheConstants.{LAST_LINE}
 use Rattle.schema.specs.declared.scale.Scale.{Scale}
 use Rattle.schema.specs.Scale.{has_district, has_customer}
 use Rattle.files.specs.FieldRead.{FieldsView}
@@ -231,7 +232,7 @@ row_values scale (OfLine key row) h =
           (
             bounds 1 9999999 key.o_id h.0.order.number,
             (
-              bounds 1 15 key.number h.0.number,
+              bounds 1 LAST_LINE key.number h.0.number,
               (bounds 1 scale.items row.i_id h.1.item, (bounds 1 scale.warehouses row.supply_w_id h.1.supplier, (r.delivery_d, (r.quantity, (r.amount, (r.dist_info, tt)))))),
             ),
           ),

@@ -4,6 +4,7 @@ use Rattle.std.specs.Ordering.{nat_cmp, is_le, is_lt}
 use Rattle.std.specs.Cmp.Lexicographic.{slice_cmp}
 use Rattle.std.specs.Str.{bytes_eq}
 use Rattle.std.specs.Str.Parse.{digits_value}
+use Rattle.rows.specs.declared.limits.TheConstants.{LAST_LINE}
 use Rattle.schema.specs.declared.scale.Scale.{Scale}
 use Rattle.files.specs.declared.fault.FaultKind.{FaultKind}
 use Rattle.files.specs.declared.fault.FaultKind.TheVariants.{WrongShape, OutOfOrder}
@@ -79,7 +80,7 @@ key_columns scale Customers = customer_key scale
 key_columns scale Histories = district_key scale
 key_columns scale Orders = order_key scale
 key_columns scale NewOrders = order_key scale
-key_columns scale Lines = Whole 1 scale.warehouses ∷ Whole 1 10 ∷ Whole 1 9999999 ∷ Whole 1 15 ∷ []
+key_columns scale Lines = Whole 1 scale.warehouses ∷ Whole 1 10 ∷ Whole 1 9999999 ∷ Whole 1 LAST_LINE ∷ []
 
 -- street_1, street_2, city, state and zip
 abbrev pub address_columns : List Column
@@ -104,7 +105,7 @@ other_columns scale Customers =
     Words 16 ∷ Words 2 ∷ Words 16 ∷ address_columns ++ Words 16 ∷ Moment ∷ Credit
     ∷ Cents ∷ Whole 0 9999 ∷ Cents ∷ Cents ∷ counter ∷ counter ∷ Words 500 ∷ []
 other_columns scale Histories = customer_key scale ++ Moment ∷ Cents ∷ Words 24 ∷ []
-other_columns scale Orders = Whole 1 scale.customers ∷ Moment ∷ MaybeWhole 1 10 ∷ Whole 1 15 ∷ Whole 0 1 ∷ []
+other_columns scale Orders = Whole 1 scale.customers ∷ Moment ∷ MaybeWhole 1 10 ∷ Whole 1 LAST_LINE ∷ Whole 0 1 ∷ []
 other_columns scale NewOrders = []
 other_columns scale Lines =
     Whole 1 scale.items ∷ Whole 1 scale.warehouses ∷ MaybeMoment ∷ Whole 1 10 ∷ Whole 0 999999 ∷ Words 24 ∷ []

@@ -2,6 +2,7 @@
 use Rattle.std.specs.Prelude.{◌≡◌, ◌+◌, ℕ, List, [], ◌∷◌, ◌++◌, length, drop, get_or, Bool, false, ◌&&◌, ◌==◌, codes, Option, Some, None, MatchOption, if◌then◌else◌}
 use Rattle.std.specs.Str.{bytes_eq}
 use Rattle.std.specs.Str.Parse.{digits_value}
+use Rattle.rows.specs.declared.limits.TheConstants.{MOST_WAREHOUSES}
 use Rattle.schema.specs.Database.{Database, IsWithinScale}
 use Rattle.files.specs.declared.fault.FaultKind.{FaultKind}
 use Rattle.files.specs.declared.fault.FaultKind.TheVariants.{NoHeader, NoEnd, ScaleBroken}
@@ -66,7 +67,7 @@ rows_fault scale before (row ∷ rows) =
 
 -- the three numbers of a header
 abbrev pub header_columns : List Column
-header_columns = Whole 1 64 ∷ Whole 1 100000 ∷ Whole 1 3000 ∷ []
+header_columns = Whole 1 MOST_WAREHOUSES ∷ Whole 1 100000 ∷ Whole 1 3000 ∷ []
 
 abbrev pub header_sizes : List (List ℕ) → Sizes
 header_sizes fields = record {

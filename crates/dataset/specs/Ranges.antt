@@ -17,6 +17,7 @@ use Rattle.rows.specs.declared.records.OrderLine.{OrderLine}
 use Rattle.rows.specs.declared.keys.OrderKey.{OrderKey}
 use Rattle.rows.specs.declared.keys.OrderLineKey.{OrderLineKey}
 use Rattle.rows.specs.Keys.{district_of_order, order_of_line}
+use Rattle.rows.specs.declared.limits.TheConstants.{LAST_LINE}
 use Rattle.schema.specs.declared.scale.Scale.{Scale}
 use Rattle.schema.specs.Scale.{has_item, has_warehouse, has_district, has_customer}
 use Rattle.schema.specs.Database.{Database, is_order_id, is_line_number}
@@ -107,7 +108,7 @@ pub record HistoryInRange (row : History) : Type 0 where
 pub record OrderInRange (row : Order) : Type 0 where
   pub entry_d : IsMoment row.entry_d
   pub carrier_id : IfSome row.carrier_id (IsFrom 1 10)
-  pub ol_cnt : IsFrom 1 15 row.ol_cnt
+  pub ol_cnt : IsFrom 1 LAST_LINE row.ol_cnt
 
 -- the columns of ORDER-LINE except its key, its item and its warehouse
 pub record LineInRange (row : OrderLine) : Type 0 where

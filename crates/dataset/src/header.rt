@@ -5,6 +5,7 @@ ghost use Rattle.dataset.specs.Records.{AreSpelt, header_fields};
 ghost use Rattle.dataset.specs.Writing.{Adds};
 
 use files::{FaultKind, Fields, NewRecord};
+use rows::MOST_WAREHOUSES;
 use schema::{NoMemory, Scale};
 
 /// The scale of a header record. Returns `NoHeader` if the record does not have this format, otherwise
@@ -16,7 +17,7 @@ pub fn parse(fields: &mut Fields) -> Result<Scale, FaultKind>
     if fields.left() != 5 || fields.word() != "TPCC" || fields.word() != "1" {
         return Err(FaultKind::NoHeader);
     }
-    let warehouses = fields.whole(1, 64);
+    let warehouses = fields.whole(1, MOST_WAREHOUSES);
     let items = fields.whole(1, 100_000);
     let customers = fields.whole(1, 3_000);
     match fields.finish() {

@@ -11,7 +11,7 @@ use crate::orders;
 use crate::place::Place;
 use crate::recorded::Recorded;
 use files::{Fields, NewRecord};
-use rows::{Moment, OrderLine, OrderLineKey};
+use rows::{LAST_LINE, Moment, OrderLine, OrderLineKey};
 use schema::NoMemory;
 
 /// Takes the fields of a record of ORDER-LINE after its letter. If the record has no fault, adds its
@@ -24,7 +24,7 @@ pub fn take(loader: &mut Loader, fields: &mut Fields) -> Result<(), NoMemory>
         w_id: fields.whole(1, loader.scale.warehouses),
         d_id: fields.whole(1, 10),
         o_id: fields.whole(1, 9_999_999),
-        number: fields.whole(1, 15),
+        number: fields.whole(1, LAST_LINE),
     };
     let row = OrderLine {
         i_id: fields.whole(1, loader.scale.items),

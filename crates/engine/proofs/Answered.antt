@@ -1,6 +1,7 @@
 -- A session has one more answer: its facts then.
 use Rattle.std.proofs.Common.{◌≡◌, ℕ, ◌+◌, ◌<◌, ◌≤◌, max, Bool, true, false, List, [], ◌∷◌, ◌++◌, length, Result, Ok, Err, inr, refl, sym, ap, subst, ◌∙◌, arith}
 use Rattle.std.proofs.lemmas.List.Elements.{Contains-push}
+use Rattle.rows.specs.declared.limits.TheConstants.{MOST_ENTRIES}
 use Rattle.schema.specs.declared.scale.Scale.{Scale}
 use Rattle.requests.specs.declared.request.Request.{Request}
 use Rattle.requests.specs.declared.refusal.Refusal.{Refusal}
@@ -95,7 +96,7 @@ module _ (scale : Scale) where
     seen_so : (why : Refusal) → IsRecordedBy seat.asking pass (Err why) → HasSeen pass.seen (answers ++ Err why ∷ [])
     seen_so why recorded = seen_still answers why seat.asking.seen pass.seen recorded.0 h.has_seen
 
-    recorded_full : (why : Refusal) → 16777216 ≤ pass.reached → IsRecordedBy seat.asking pass (Err why) → IsResting scale (ready_view (script ++ request ∷ []) seat pass (answers ++ Err why ∷ []) true)
+    recorded_full : (why : Refusal) → MOST_ENTRIES ≤ pass.reached → IsRecordedBy seat.asking pass (Err why) → IsResting scale (ready_view (script ++ request ∷ []) seat pass (answers ++ Err why ∷ []) true)
     recorded_full why full recorded = record {
       seat_is = sym session;
       served = so_refused why pass.reached recorded recorded.2;

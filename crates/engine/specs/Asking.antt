@@ -1,6 +1,7 @@
 -- A session that asks one request after another, interactively or by a script.
 use Rattle.std.specs.Prelude.{◌≡◌, ℕ, ◌<◌, ◌≤◌, Bool, true, false, List, take, length, Some, Result, Ok, Err, if◌then◌else◌}
 use Rattle.std.specs.List.{slice_get}
+use Rattle.rows.specs.declared.limits.TheConstants.{MOST_ENTRIES}
 use Rattle.schema.specs.declared.scale.Scale.{Scale}
 use Rattle.requests.specs.declared.request.Request.{Request}
 use Rattle.requests.specs.declared.refusal.Refusal.{Refusal}
@@ -40,7 +41,7 @@ pub record IsResting (scale : Scale) (s : ReadyView) : Type 0 where
   pub seat_is : s.seat.session ≡ s.pass.session
   pub served : Served scale s.script s.answers s.pass.mine (known_of s.is_full s.pass.reached)
   pub has_seen : HasSeen s.pass.seen s.answers
-  pub full : s.is_full ≡ true → 16777216 ≤ s.pass.reached
+  pub full : s.is_full ≡ true → MOST_ENTRIES ≤ s.pass.reached
 
 -- what contracts see of a session whose next request is in flight
 pub record AskedView : Type 0 where

@@ -20,14 +20,12 @@ use crate::{
 use consistency::first_broken;
 use range_moves::MoveOrder;
 use requests::Script;
+use rows::INBOX;
 use schema::Tables;
 use std::alloc::Global;
 use std::marker::Brand;
 use std::sync::Wait;
 use std::thread::Threads;
-
-/// The largest number of messages in an inbox, if the caller does not set it.
-const ROOM: usize = 1024;
 
 /// Serves the scripts from the opening tables. Script s is session s, which asks its requests one after the other. `executors`
 /// executors share the tables' warehouses, each in a thread of its own: warehouse w is at executor
@@ -61,7 +59,7 @@ pub fn serve<R: Threads + Wait + Sync, G: Gate + Send + Sync + Drop>(
     ensures fault { IfErr result (λ fault. IsFaultOf opening executors moves.now fault) }
 {
     serve_with_room(
-        rt, alloc, opening, scripts, executors, tries, ROOM, moves, gate,
+        rt, alloc, opening, scripts, executors, tries, INBOX, moves, gate,
     )
 }
 
@@ -122,7 +120,7 @@ pub fn serve_client<R: Threads + Wait + Sync, C: Client>(
         sessions,
         executors,
         1,
-        ROOM,
+        INBOX,
         &[],
         OpenGate,
         client,

@@ -2,6 +2,7 @@
 use Rattle.std.proofs.Common.{◌≡◌, ◌≤◌, ◌++◌, ◌∷◌, [], inl, inr, ℕ, Bool, true, false, List, Err, length, refl, sym, ap, ◌∙◌, subst}
 use Rattle.std.specs.Prelude.{All, ◌↔◌}
 use Rattle.std.proofs.lemmas.List.Elements.{All-weaker}
+use Rattle.rows.specs.declared.limits.TheConstants.{MOST_ENTRIES}
 use Rattle.tickets.specs.Claims.{ClaimView}
 use Rattle.commit_log.specs.declared.entry.Entry.{Entry}
 use Rattle.commit_log.specs.declared.log_book.AppendFault.{AppendFault}
@@ -37,7 +38,7 @@ module _ {J : Type 0} (c : CommitView) (old new : List Entry) (logged : Logged J
       })
   answers asked (inr refused) = subst (λ (l : Logged J). CarriesAnswer (answer_view c.age c.number l.pass l.answer)) (sym refused.2) (by refused.0 refused.1)
     where
-      by : (why : AppendFault) → ((why ≡ fault.LogFull) ↔ (16777216 ≤ length old)) → CarriesAnswer (answer_view c.age c.number (after_refusal why (length old) c.pass) (Err (why_refused why)))
+      by : (why : AppendFault) → ((why ≡ fault.LogFull) ↔ (MOST_ENTRIES ≤ length old)) → CarriesAnswer (answer_view c.age c.number (after_refusal why (length old) c.pass) (Err (why_refused why)))
       by fault.NoMemory full = record { number_is = asked.number_is; recorded = (asked.seen, asked.mine, tt) }
       by fault.LogFull full = record { number_is = asked.number_is; recorded = (asked.seen, asked.mine, full.0 refl) }
 

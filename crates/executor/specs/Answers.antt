@@ -1,5 +1,6 @@
 -- What an answer contains, and which claims go back with it.
 use Rattle.std.specs.Prelude.{◌≡◌, ◌≤◌, ◌+◌, ℕ, Bool, true, false, List, [], ◌∷◌, ◌++◌, All, Contains, Result, Ok, Err}
+use Rattle.rows.specs.declared.limits.TheConstants.{MOST_ENTRIES}
 use Rattle.requests.specs.declared.request.Request.{Request}
 use Rattle.requests.specs.declared.reply.Reply.{Reply}
 use Rattle.requests.specs.declared.refusal.Refusal.{Refusal}
@@ -30,7 +31,7 @@ answer_view age number pass answer = record { age = age; number = number; pass =
 -- refused for nothing else.
 abbrev pub MayBeRefused : ℕ → Request → Refusal → Type 0
 MayBeRefused entries request NoMemory = Unit {0}
-MayBeRefused entries request LogFull = 16777216 ≤ entries
+MayBeRefused entries request LogFull = MOST_ENTRIES ≤ entries
 MayBeRefused entries request (Died group holder) = Contains (groups_of (footprint request)) group
 MayBeRefused entries request _ = ⊥
 

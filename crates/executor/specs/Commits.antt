@@ -1,5 +1,6 @@
 -- A transaction is appended to the log.
 use Rattle.std.specs.Prelude.{◌≡◌, ◌⊎◌, ◌<◌, ◌≤◌, ◌↔◌, ℕ, false, List, [], ◌∷◌, ◌++◌, All, length, map, Ok, Err}
+use Rattle.rows.specs.declared.limits.TheConstants.{MOST_ENTRIES}
 use Rattle.schema.specs.Database.{Database}
 use Rattle.requests.specs.declared.request.Request.{Request}
 use Rattle.requests.specs.declared.reply.Reply.{Reply}
@@ -62,6 +63,6 @@ refusing c pass why = release_view (answer_view c.age c.number pass (Err why)) (
 -- it is full.
 abbrev pub Commits : CommitView → List Entry → ReleaseView → List Entry → Type 0
 Commits c old release new =
-    ((length old < 16777216) × ((release ≡ logging c (length old)) × (new ≡ old ++ entry_committed c ∷ [])))
-    ⊎ ((why : AppendFault) × (((why ≡ fault.LogFull) ↔ (16777216 ≤ length old))
+    ((length old < MOST_ENTRIES) × ((release ≡ logging c (length old)) × (new ≡ old ++ entry_committed c ∷ [])))
+    ⊎ ((why : AppendFault) × (((why ≡ fault.LogFull) ↔ (MOST_ENTRIES ≤ length old))
     × ((release ≡ refusing c (after_refusal why (length old) c.pass) (why_refused why)) × (new ≡ old))))

@@ -6,6 +6,7 @@ use Rattle.std.specs.FinMap as table
 use Rattle.rows.specs.declared.records.Item.{Item}
 use Rattle.rows.specs.declared.records.Stock.{Stock}
 use Rattle.rows.specs.declared.records.OrderLine.{OrderLine}
+use Rattle.rows.specs.declared.limits.TheConstants.{MOST_LINES}
 use Rattle.schema.specs.Database.{Database}
 use Rattle.requests.specs.declared.new_order.NewOrder.{NewOrder}
 use Rattle.requests.specs.declared.new_order.OrderedLine.{OrderedLine}
@@ -22,7 +23,7 @@ AreQuantities lines = All (λ line. (1 ≤ line.quantity) × (line.quantity ≤ 
 -- the order has 1 to 15 lines, each with a quantity from 1 to 10 (clause 2.4.1)
 pub record IsOrderWithin (n : NewOrder) : Type 0 where
   pub some_line : 1 ≤ length n.lines
-  pub most_lines : length n.lines ≤ 15
+  pub most_lines : length n.lines ≤ MOST_LINES
   pub quantities : AreQuantities n.lines
 
 -- ---- the results of a line

@@ -1,6 +1,7 @@
 ghost use Rattle.std.specs.Prelude.{◌≡◌, ◌≤◌, ◌==◌, ◌*◌, length, IsTrue, IfOk, OnOk, OnErr};
 ghost use Rattle.std.specs.List.{list_all};
 ghost use Rattle.std.specs.FinMap as table;
+ghost use Rattle.rows.specs.declared.limits.TheConstants.{MOST_LINES};
 ghost use Rattle.schema.specs.Database.{Database, is_order_id, customer_of_order};
 ghost use Rattle.schema.specs.Scale.{has_customer, customer_key};
 ghost use Rattle.schema.specs.OrderRows.{is_line_within, with_order};
@@ -84,7 +85,7 @@ fn post(
     requires number { IsTrue (is_order_id o_id) }
     requires district_is_there { IsTrue (table.contains_key tables.old.districts order.now.home) }
     requires customer_is_there { IsTrue (has_customer tables.old.scale (customer_of_order (spec.order_key order.now.home o_id) (spec.order_row order.now))) }
-    requires few { length rows.items ≤ 15 }
+    requires few { length rows.items ≤ MOST_LINES }
     requires lines { IsTrue (list_all (is_line_within tables.old.scale) rows.items) }
     requires stocks_are_there { IsTrue (list_all (λ line. table.contains_key tables.old.stocks (spec.stock_key_of line)) order.now.lines) }
     requires as_many { length stocks.items ≡ length order.now.lines }
@@ -187,7 +188,7 @@ pub fn new_order_reply(
     rows: &[OrderLine],
     shown: Vec<NewOrderLine>,
 ) -> NewOrderReply
-    requires { length rows.now ≤ 15 }
+    requires { length rows.now ≤ MOST_LINES }
     ensures { result ≡ spec.new_order_reply order.now warehouse.now district.now customer.now rows.now shown.items }
 {
     let sum = Cents::new(i64::from(sum_of(rows)));
@@ -206,9 +207,9 @@ pub fn new_order_reply(
 
 // Returns the sum of the lines' amounts, in cents.
 fn sum_of(rows: &[OrderLine]) -> u32
-    requires { length rows.now ≤ 15 }
+    requires { length rows.now ≤ MOST_LINES }
     ensures value { result ≡ spec.sum_of rows.now }
-    ensures fits { result ≤ 15 * 999999 }
+    ensures fits { result ≤ MOST_LINES * 999999 }
 {
     let mut sum = 0;
     for row in rows {

@@ -3,6 +3,7 @@ ghost use Rattle.std.specs.Prelude.{◌≡◌, ◌≤◌, ◌==◌, ◌&&◌, le
 ghost use Rattle.std.specs.List.{sum_by, filter};
 ghost use Rattle.std.specs.Option.{option_map};
 ghost use Rattle.rows.specs.Ranged.{is_between};
+ghost use Rattle.rows.specs.declared.limits.TheConstants.{MOST_LINES};
 ghost use Rattle.machine.specs.NewOrder as spec;
 ghost use Rattle.machine.specs.NewOrderLines.{AreQuantities, IsOrderWithin, columns, line_placed, lines_placed};
 
@@ -119,7 +120,7 @@ pub fn place_line<T: Rows>(
 /// Returns the row of STOCK at the key after those of the lines that it supplies; `None` if a counter would leave its
 /// range.
 pub fn stock_taken(home: u32, row: &Stock, key: StockKey, lines: &[OrderedLine]) -> Option<Stock>
-    requires few { length lines.now ≤ 15 }
+    requires few { length lines.now ≤ MOST_LINES }
     requires quantities { AreQuantities lines.now }
     ensures { result ≡ spec.stock_taken home row.now (spec.taken_from key lines.now) }
 {
@@ -143,7 +144,7 @@ pub fn stock_taken(home: u32, row: &Stock, key: StockKey, lines: &[OrderedLine])
 
 // Returns the amounts by which the lines raise the counters of the row at the key.
 fn raised_by(home: u32, key: StockKey, lines: &[OrderedLine]) -> Raised
-    requires few { length lines.now ≤ 15 }
+    requires few { length lines.now ≤ MOST_LINES }
     requires quantities { AreQuantities lines.now }
     ensures ytd { result.ytd ≡ sum_by (λ line. line.quantity) (spec.taken_from key lines.now) }
     ensures order_cnt { result.order_cnt ≡ length (spec.taken_from key lines.now) }

@@ -1,14 +1,13 @@
 ghost use Rattle.std.specs.Prelude.{◌≡◌, ◌≤◌, count_by, length, IfOk};
 ghost use Rattle.std.specs.FinMap as table;
+ghost use Rattle.rows.specs.declared.limits.TheConstants.{RECENT_LINES};
 ghost use Rattle.machine.specs.StockLevel as spec;
 
 use partitions::Rows;
 use requests::{StockLevel, StockLevelReply};
+use rows::RECENT_LINES;
 use schema::{DistrictKey, NoMemory, StockKey, Tables};
 use std::alloc::Global;
-
-// 20 orders of at most 15 lines.
-const MOST_LINES: usize = 300;
 
 /// Returns the reply of Stock-Level (clause 2.8): the number of items in the district's last 20 orders whose stock in
 /// its warehouse is below the threshold; 0 if there is no such district. Reads the lines of these orders and one row of
@@ -38,9 +37,9 @@ pub fn recent_items<T: Rows>(
     next: u32,
 ) -> Result<Vec<u32>, NoMemory>
     ensures value { IfOk result (λ items. items.items ≡ spec.recent_items (T.tables rows.now) home next) }
-    ensures few { IfOk result (λ items. length items.items ≤ 300) }
+    ensures few { IfOk result (λ items. length items.items ≤ RECENT_LINES) }
 {
-    let mut items = Vec::with_capacity(alloc, MOST_LINES)?;
+    let mut items = Vec::with_capacity(alloc, RECENT_LINES)?;
     for (_, row) in rows.lines_of_span(home, next.saturating_sub(20), next) {
         items.push(row.i_id)?;
     }

@@ -11,6 +11,7 @@ use Rattle.rows.specs.declared.records.Order.{Order}
 use Rattle.rows.specs.declared.records.NewOrder.{NewOrder}
 use Rattle.rows.specs.declared.records.OrderLine.{OrderLine}
 use Rattle.rows.specs.Keys.{order_cmp, order_of_line}
+use Rattle.rows.specs.declared.limits.TheConstants.{MOST_LINES}
 use Rattle.schema.specs.declared.scale.Scale.{Scale}
 use Rattle.schema.specs.EachRow.{EachRow}
 use Rattle.schema.specs.MapRows.{table_of}
@@ -48,11 +49,11 @@ lines_pass test scale order number (row ∷ rows) lines each known new =
 is_here : (home w_id : ℕ) → w_id ≡ home → IsTrue (is_of home w_id)
 is_here home w_id same = grind (arith, nat_tests)
 
-numbered : (n count : ℕ) → count ≤ 15 → 1 ≤ n → n < 1 + count → IsTrue (is_line_number n)
+numbered : (n count : ℕ) → count ≤ MOST_LINES → 1 ≤ n → n < 1 + count → IsTrue (is_line_number n)
 numbered n count few low high = grind (arith, nat_tests)
 
 pub part_with_order : (p : Part) (key : OrderKey) (order : Order) (lines : List OrderLine) → IsPart p → key.w_id ≡ p.home → IsTrue (is_order_id key.o_id)
-    → IsTrue (has_customer p.tables.scale (customer_of_order key order)) → length lines ≤ 15 → IsTrue (list_all (is_line_within p.tables.scale) lines)
+    → IsTrue (has_customer p.tables.scale (customer_of_order key order)) → length lines ≤ MOST_LINES → IsTrue (list_all (is_line_within p.tables.scale) lines)
     → IsPart (record p { tables = with_order p.tables key order lines })
 part_with_order p key order lines h home number customer few known =
     let t = p.tables in

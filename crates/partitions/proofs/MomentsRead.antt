@@ -13,6 +13,7 @@ use Rattle.rows.specs.declared.keys.OrderKey.{OrderKey}
 use Rattle.rows.specs.declared.keys.OrderLineKey.{OrderLineKey}
 use Rattle.rows.specs.declared.records.OrderLine.{OrderLine}
 use Rattle.rows.specs.Keys.{line_cmp}
+use Rattle.rows.specs.declared.limits.TheConstants.{LAST_LINE, MOST_LINES}
 use Rattle.schema.specs.Database.{is_of_order, rows_where}
 use Rattle.schema.specs.OrderRows.{LineTable, line_key}
 use Rattle.schema.proofs.KeyOrders.{lines_total, lines_exact}
@@ -21,7 +22,7 @@ use Rattle.partitions.proofs.Undelivered.{is_equal, line_test}
 
 -- the moments with that of this line, where its number is one of an order's
 abbrev pub with_line : OrderLineKey × OrderLine → List (Option ℕ) → List (Option ℕ)
-with_line line moments = cond (nat_le 1 line.0.number && nat_le line.0.number 15) (slice_set moments (line.0.number - 1) line.1.delivery_d) moments
+with_line line moments = cond (nat_le 1 line.0.number && nat_le line.0.number LAST_LINE) (slice_set moments (line.0.number - 1) line.1.delivery_d) moments
 
 -- and with those of these lines
 abbrev pub written : List (OrderLineKey × OrderLine) → List (Option ℕ) → List (Option ℕ)
@@ -31,16 +32,16 @@ written (line ∷ lines) moments = written lines (with_line line moments)
 -- there are as many
 length-with_line : (line : OrderLineKey × OrderLine) (moments : List (Option ℕ)) → length (with_line line moments) ≡ length moments
 length-with_line line moments =
-    elim (nat_le 1 line.0.number && nat_le line.0.number 15) as (λ b. length (cond b (slice_set moments (line.0.number - 1) line.1.delivery_d) moments) ≡ length moments) [
+    elim (nat_le 1 line.0.number && nat_le line.0.number LAST_LINE) as (λ b. length (cond b (slice_set moments (line.0.number - 1) line.1.delivery_d) moments) ≡ length moments) [
       | true ↦ length-set moments (line.0.number - 1) line.1.delivery_d
       | false ↦ refl
     ]
 
 -- the line's moment is at its number
-at_line : (line : OrderLineKey × OrderLine) (moments : List (Option ℕ)) (n : ℕ) → n < 15 → length moments ≡ 15 → (line.0.number == n + 1) ≡ true
+at_line : (line : OrderLineKey × OrderLine) (moments : List (Option ℕ)) (n : ℕ) → n < MOST_LINES → length moments ≡ MOST_LINES → (line.0.number == n + 1) ≡ true
     → slice_index_or (with_line line moments) n None ≡ line.1.delivery_d
 at_line line moments n few long e =
-    let inside : (nat_le 1 line.0.number && nat_le line.0.number 15) ≡ true = grind (arith, nat_tests) in
+    let inside : (nat_le 1 line.0.number && nat_le line.0.number LAST_LINE) ≡ true = grind (arith, nat_tests) in
     let place : line.0.number - 1 ≡ n = grind (arith, nat_tests) in
     ap (λ b. slice_index_or (cond b (slice_set moments (line.0.number - 1) line.1.delivery_d) moments) n None) inside
     ∙ ap (λ k. slice_index_or (slice_set moments k line.1.delivery_d) n None) place ∙ get_or-set_same moments n line.1.delivery_d None (omega arith)
@@ -49,7 +50,7 @@ at_line line moments n few long e =
 beside_line : (line : OrderLineKey × OrderLine) (moments : List (Option ℕ)) (n : ℕ) → (line.0.number == n + 1) ≡ false
     → slice_index_or (with_line line moments) n None ≡ slice_index_or moments n None
 beside_line line moments n e =
-    elim (nat_le 1 line.0.number && nat_le line.0.number 15) as (λ b. (nat_le 1 line.0.number && nat_le line.0.number 15) ≡ b
+    elim (nat_le 1 line.0.number && nat_le line.0.number LAST_LINE) as (λ b. (nat_le 1 line.0.number && nat_le line.0.number LAST_LINE) ≡ b
     → slice_index_or (cond b (slice_set moments (line.0.number - 1) line.1.delivery_d) moments) n None ≡ slice_index_or moments n None) [
       | true ↦ λ inside.
           let apart : n ≢ line.0.number - 1 = λ same. grind (arith, nat_tests) in
@@ -87,7 +88,7 @@ abbrev moment_or : Option OrderLine → Option ℕ → Option ℕ
 moment_or line was = unwrap_or (option_map (λ (row : OrderLine). row.delivery_d) line) was
 
 -- of lines of the order, each stands at its number
-read_written : (order : OrderKey) (n : ℕ) → n < 15 → (lines : List (OrderLineKey × OrderLine)) (moments : List (Option ℕ)) → length moments ≡ 15
+read_written : (order : OrderKey) (n : ℕ) → n < MOST_LINES → (lines : List (OrderLineKey × OrderLine)) (moments : List (Option ℕ)) → length moments ≡ MOST_LINES
     → T (is_sorted line_cmp lines) → T (list_all (λ e. is_of_order order e.0) lines)
     → slice_index_or (written lines moments) n None ≡ moment_or (find line_cmp (line_key order (n + 1)) lines) (slice_index_or moments n None)
 read_written order n few [] moments long sorted own = refl
@@ -106,12 +107,12 @@ read_written order n few (line ∷ lines) moments long sorted own =
     ∙ ap (λ b. moment_or (cond b (Some line.1) (find line_cmp key lines)) (slice_index_or moments n None)) (sym here)
 
 -- all lines of the order are written
-pub all_written : (order : OrderKey) (lines : LineTable) (n : ℕ) → n < 15
-    → slice_index_or (written (rows_where (is_of_order order) lines) (replicate 15 None)) n None ≡ moment_at lines (line_key order (n + 1))
+pub all_written : (order : OrderKey) (lines : LineTable) (n : ℕ) → n < MOST_LINES
+    → slice_index_or (written (rows_where (is_of_order order) lines) (replicate MOST_LINES None)) n None ≡ moment_at lines (line_key order (n + 1))
 all_written order lines n few =
-    read_written order n few (rows_where (is_of_order order) lines) (replicate 15 None) refl
+    read_written order n few (rows_where (is_of_order order) lines) (replicate MOST_LINES None) refl
     (is_sorted-where_key line_cmp (is_of_order order) (entries lines) (entries_sorted lines)) (all_own (entries lines))
-    ∙ ap (moment_or (find line_cmp key (rows_where (is_of_order order) lines))) (get_or-replicate 15 n None None few)
+    ∙ ap (moment_or (find line_cmp key (rows_where (is_of_order order) lines))) (get_or-replicate MOST_LINES n None None few)
     ∙ or_none (find line_cmp key (rows_where (is_of_order order) lines))
     ∙ ap (option_and_then (λ (row : OrderLine). row.delivery_d))
     (find-where_key line_cmp (is_of_order order) key (λ k e. ap (is_of_order order) (sym (lines_exact key k e))) (entries lines)

@@ -6,6 +6,7 @@ use Rattle.rows.specs.declared.keys.DistrictKey.{DistrictKey}
 use Rattle.rows.specs.declared.keys.CustomerKey.{CustomerKey}
 use Rattle.rows.specs.Keys.{district_of_customer}
 use Rattle.rows.specs.Ranged.{is_between}
+use Rattle.rows.specs.declared.limits.TheConstants.{MOST_WAREHOUSES}
 use Rattle.schema.specs.declared.scale.Scale.{Scale}
 use Rattle.schema.specs.Scale.{has_district, has_customer, district_slot}
 use Rattle.schema.specs.Database.{Database, IsWithinScale, customer_of_order}
@@ -64,7 +65,7 @@ customer_here scale key =
 -- the rows of all tables are at the places of the scale's districts
 pub tables_are_rows : (scale : Scale) (t : Database) → scale ≡ t.scale → IsWithinScale t → AreRows (district_slot t.scale) (t.scale.warehouses * 10) t
 tables_are_rows scale t same within = record {
-  few = let most : scale.warehouses ≤ 64 = scale.limits.most_warehouses in let e : scale.warehouses ≡ t.scale.warehouses = ap (λ s. s.warehouses) same in omega arith;
+  few = let most : scale.warehouses ≤ MOST_WAREHOUSES = scale.limits.most_warehouses in let e : scale.warehouses ≡ t.scale.warehouses = ap (λ s. s.warehouses) same in omega arith;
   within = place_within t.scale;
   apart = places_apart t.scale;
   customers = λ key. within.customers key ∙ customer_here t.scale key;

@@ -7,6 +7,7 @@ use Rattle.rows.specs.declared.keys.OrderLineKey.{OrderLineKey}
 use Rattle.rows.specs.declared.records.Order.{Order}
 use Rattle.rows.specs.declared.records.OrderLine.{OrderLine}
 use Rattle.rows.specs.Keys.{order_cmp}
+use Rattle.rows.specs.declared.limits.TheConstants.{MOST_LINES}
 use Rattle.schema.specs.MapRows.{map_rows, put_row}
 use Rattle.schema.specs.Database.{Database, is_of_order}
 use Rattle.schema.specs.OrderRows.{LineTable, line_key, is_order}
@@ -23,8 +24,8 @@ moment_at lines key = option_and_then (λ row. row.delivery_d) (table.get lines 
 -- this is what was stored before the order was delivered
 pub record StoodBefore (t : Database) (order : OrderKey) (before : BeforeDelivery) : Type 0 where
   pub carrier : before.carrier_id ≡ carrier_at t.orders order
-  pub fifteen : length before.moments ≡ 15
-  pub moments : (n : ℕ) → n < 15 → slice_index_or before.moments n None ≡ moment_at t.lines (line_key order (n + 1))
+  pub fifteen : length before.moments ≡ MOST_LINES
+  pub moments : (n : ℕ) → n < MOST_LINES → slice_index_or before.moments n None ≡ moment_at t.lines (line_key order (n + 1))
   pub new_order : before.new_order ≡ table.get t.new_orders order
 
 -- the order's row gets this carrier back, or none

@@ -7,6 +7,7 @@ use Rattle.rows.specs.Ranged.{is_between}
 use Rattle.rows.specs.declared.keys.DistrictKey.{DistrictKey}
 use Rattle.rows.specs.declared.keys.StockKey.{StockKey}
 use Rattle.rows.specs.declared.keys.CustomerKey.{CustomerKey}
+use Rattle.rows.specs.declared.limits.TheConstants.{MOST_WAREHOUSES}
 use Rattle.schema.specs.declared.scale.Scale.{Scale}
 use Rattle.schema.specs.Database.{Database, customer_of_order, OrdersNumbered}
 use Rattle.schema.specs.EachRow.{EachRow}
@@ -29,7 +30,7 @@ AreApart slot = (one other : DistrictKey) (place : ℕ) → slot one ≡ Some pl
 -- exactly those of the districts that have a place, each order's customer is one of them, and each order's number is
 -- one that orders can have.
 pub record AreRows (slot : Slots) (districts : ℕ) (t : Database) : Type 0 where
-  pub few : districts ≤ 640
+  pub few : districts ≤ 10 * MOST_WAREHOUSES
   pub within : (home : DistrictKey) (place : ℕ) → slot home ≡ Some place → place < districts
   pub apart : AreApart slot
   pub customers : (key : CustomerKey) → map.contains_key t.customers key ≡ is_some (customer_slot_by slot t.scale.customers key)

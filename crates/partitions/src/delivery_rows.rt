@@ -1,6 +1,7 @@
 //! Undoing a delivery, over the rows of one warehouse.
 ghost use Rattle.std.specs.Prelude.{◌≡◌, ◌+◌, ◌<◌, ℕ, None, length, slice_index_or};
 ghost use Rattle.rows.specs.Keys.{order_cmp};
+ghost use Rattle.rows.specs.declared.limits.TheConstants.{MOST_LINES};
 ghost use Rattle.schema.specs.EachRow.{EachRow};
 ghost use Rattle.schema.specs.MapRows.{table_of, map_rows};
 ghost use Rattle.schema.specs.Database.{is_line_number};
@@ -8,6 +9,7 @@ ghost use Rattle.schema.specs.OrderRows.{line_key, line_table};
 ghost use Rattle.partitions.specs.Deliveries.{carrier_at, moment_at, with_carrier_back, with_moments_back};
 
 use crate::new_order_rows::RowRoom;
+use rows::{LAST_LINE, MOST_LINES};
 use schema::{CarrierId, Moment, NewOrder, Order, OrderKey, OrderLineKey, OrderLines};
 use std::collections::BTreeMap;
 
@@ -17,7 +19,7 @@ use std::collections::BTreeMap;
 pub struct BeforeDelivery {
     pub carrier_id: Option<CarrierId>,
     /// By OL_NUMBER, from 1. `None` also where the order has no such line.
-    pub moments: [Option<Moment>; 15],
+    pub moments: [Option<Moment>; MOST_LINES],
     /// The order's row of NEW-ORDER, which was deleted.
     pub new_order: Option<NewOrder>,
     pub(crate) room: RowRoom,
@@ -31,14 +33,14 @@ pub(crate) fn carrier_of(orders: &BTreeMap<OrderKey, Order>, key: OrderKey) -> O
 }
 
 /// Returns the moments at which the order's lines were delivered, by OL_NUMBER from 1.
-pub(crate) fn moments_of(lines: &OrderLines, order: OrderKey) -> [Option<Moment>; 15]
-    ensures fifteen { length result ≡ 15 }
-    ensures each { (n : ℕ) → n < 15 → slice_index_or result n None ≡ moment_at (line_table lines.now) (line_key order (n + 1)) }
+pub(crate) fn moments_of(lines: &OrderLines, order: OrderKey) -> [Option<Moment>; MOST_LINES]
+    ensures fifteen { length result ≡ MOST_LINES }
+    ensures each { (n : ℕ) → n < MOST_LINES → slice_index_or result n None ≡ moment_at (line_table lines.now) (line_key order (n + 1)) }
 {
-    let mut moments = [None; 15];
+    let mut moments = [None; MOST_LINES];
     for (key, row) in lines.of_order(order) {
         // An order has no lines of other numbers.
-        if (1..=15).contains(&key.number) {
+        if (1..=LAST_LINE).contains(&key.number) {
             moments[key.number as usize - 1] = row.delivery_d;
         }
     }
@@ -62,13 +64,13 @@ pub(crate) fn put_carrier_back(
 pub(crate) fn put_moments_back(
     lines: &mut OrderLines,
     order: OrderKey,
-    moments: [Option<Moment>; 15],
+    moments: [Option<Moment>; MOST_LINES],
 )
-    requires fifteen { length moments ≡ 15 }
+    requires fifteen { length moments ≡ MOST_LINES }
     requires numbered { EachRow (λ key _. is_line_number key.number) (line_table lines.old) }
     ensures { line_table lines.new ≡ map_rows (with_moments_back order moments) (line_table lines.old) }
 {
-    for place in 0..15 {
+    for place in 0..MOST_LINES {
         lines.set_delivery(line_key(order, place as u32 + 1), moments[place]);
     }
 }

@@ -5,6 +5,7 @@ ghost use Rattle.std.specs.Prelude.{◌≡◌, ◌+◌, ◌<◌, ◌≤◌, ℕ,
 ghost use Rattle.std.specs.FinMap as table;
 ghost use Rattle.rows.specs.declared.records.NewOrder as new_order;
 ghost use Rattle.rows.specs.Keys.{order_cmp};
+ghost use Rattle.rows.specs.declared.limits.TheConstants.{MOST_LINES};
 ghost use Rattle.schema.specs.EachRow.{EachRow};
 ghost use Rattle.schema.specs.MapRows.{table_of, put_row, map_rows};
 ghost use Rattle.schema.specs.Database.{rows_where, is_of_district, is_order_id, is_line_number};
@@ -114,7 +115,7 @@ impl NewOrderRows {
         order: Order,
         rows: Vec<OrderLine>,
     ) -> Result<Replaced, NoMemory>
-        requires { length rows.items ≤ 15 }
+        requires { length rows.items ≤ MOST_LINES }
         ensures order { OnOk result (table_of order_cmp orders.new ≡ table.insert (table_of order_cmp orders.old) key order) }
         ensures new_order { OnOk result (table.from_entries {R = order_cmp} self.new ≡ table.insert (table.from_entries self.old) key (record {})) }
         ensures lines { OnOk result (line_table lines.new ≡ put_lines key 1 (map Some rows.items) (line_table lines.old)) }
@@ -137,7 +138,7 @@ impl NewOrderRows {
         key: OrderKey,
         replaced: Replaced,
     )
-        requires few { length replaced.lines.items ≤ 15 }
+        requires few { length replaced.lines.items ≤ MOST_LINES }
         requires order { IsTrue (table.contains_key (table_of order_cmp orders.old) key) }
         requires new_order { IsTrue (table.contains_key (table.from_entries {R = order_cmp} self.old) key) }
         requires lines { (n : ℕ) → n < length replaced.lines.items → IsTrue (table.contains_key (line_table lines.old) (line_key key (1 + n))) }

@@ -2,6 +2,7 @@ ghost use Rattle.std.specs.Prelude.{◌≡◌, ◌+◌, ◌^◌, ◌<◌, ◌≤
 ghost use Rattle.std.specs.Option.{option_copied};
 ghost use Rattle.std.specs.FinMap as map;
 ghost use Rattle.std.specs.List.{list_all, slice_get};
+ghost use Rattle.rows.specs.declared.limits.TheConstants.{MOST_LINES};
 ghost use Rattle.schema.specs.Scale.{has_customer, customer_key};
 ghost use Rattle.schema.specs.Database.{customer_of_order, is_order_id, with_payment, without_payment, rows_where, is_of_order};
 ghost use Rattle.schema.specs.OrderRows.{StoodThere, is_in_span, is_line_within, line_key, oldest_new_order, with_delivery, with_order, without_order};
@@ -240,7 +241,7 @@ impl Partition {
         requires home { key.w_id ≡ self.old.home }
         requires number { IsTrue (is_order_id key.o_id) }
         requires customer { IsTrue (has_customer self.old.tables.scale (customer_of_order key order)) }
-        requires few { length lines.items ≤ 15 }
+        requires few { length lines.items ≤ MOST_LINES }
         requires lines { IsTrue (list_all (is_line_within self.old.tables.scale) lines.items) }
         ensures ok { OnOk result (self.new ≡ record self.old { tables = with_order self.old.tables key order lines.items }) }
         ensures replaced { IfOk result (StoodThere self.old.tables key (length lines.items)) }
@@ -258,7 +259,7 @@ impl Partition {
     /// Undoes `add_order`: at each of the order's keys the replaced row is stored again, or none if
     /// there was none. Never allocates.
     pub fn take_back_order(&mut self, key: OrderKey, replaced: Replaced)
-        requires few { length replaced.lines.items ≤ 15 }
+        requires few { length replaced.lines.items ≤ MOST_LINES }
         requires order { IsTrue (map.contains_key self.old.tables.orders key) }
         requires new_order { IsTrue (map.contains_key self.old.tables.new_orders key) }
         requires lines { (n : ℕ) → n < length replaced.lines.items → IsTrue (map.contains_key self.old.tables.lines (line_key key (1 + n))) }
@@ -313,7 +314,7 @@ impl Partition {
     /// Undoes `deliver_order`: restores what was stored before it. Never allocates.
     pub fn take_back_delivery(&mut self, key: OrderKey, before: BeforeDelivery)
         requires order { IsTrue (map.contains_key self.old.tables.orders key) }
-        requires fifteen { length before.moments ≡ 15 }
+        requires fifteen { length before.moments ≡ MOST_LINES }
         ensures { self.new ≡ record self.old { tables = without_delivery self.old.tables key before } }
     {
         put_carrier_back(&mut self.rows.orders, key, before.carrier_id);

@@ -1,5 +1,6 @@
 -- The placements of the slices of the warehouses, the executors' notes of them, and the changes of each step of a move.
 use Rattle.std.specs.Prelude.{All, ◌≡◌, ℕ, ◌-◌, ◌<◌, ◌≤◌, ◌==◌, Bool, true, false, nat_le, if◌then◌else◌, List, [], length, replicate, Option, Some, None, slice_set, slice_index_or}
+use Rattle.rows.specs.declared.limits.TheConstants.{MOST_WAREHOUSES}
 use Rattle.routing.specs.Routes.{Routes, executor_of}
 use Rattle.range_moves.specs.declared.placement.Whereabouts.{Whereabouts}
 use Rattle.range_moves.specs.declared.placement.Whereabouts.TheVariants.{Rests, Leaves, Travels}
@@ -123,5 +124,5 @@ pub record IsPlacementOf (executors : ℕ) (placement : Placement) : Type 0 wher
 pub record AreKept (h : PlacementsView) : Type 0 where
   pub some : 1 ≤ h.executors
   pub most : h.executors ≤ 16
-  pub many : length h.placements ≤ 64
+  pub many : length h.placements ≤ MOST_WAREHOUSES
   pub each : All (IsPlacementOf h.executors) h.placements

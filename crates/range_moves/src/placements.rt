@@ -25,13 +25,14 @@ pub struct Placements {
 
 impl Model for Placements {
     ghost use Rattle.std.specs.Prelude.{All, length, ◌≤◌};
+    ghost use Rattle.rows.specs.declared.limits.TheConstants.{MOST_WAREHOUSES};
     ghost use Rattle.range_moves.specs.Placements.{PlacementsView, IsPlacementOf};
 
     ghost Value = { PlacementsView };
 
     ghost view = { λ h. record { executors = h.executors; placements = h.placements.items; awaited = h.awaited } };
 
-    ghost invariant = { λ h. (1 ≤ h.executors) × ((h.executors ≤ 16) × ((length h.placements.items ≤ 64) × All (IsPlacementOf h.executors) h.placements.items)) };
+    ghost invariant = { λ h. (1 ≤ h.executors) × ((h.executors ≤ 16) × ((length h.placements.items ≤ MOST_WAREHOUSES) × All (IsPlacementOf h.executors) h.placements.items)) };
 }
 
 impl Placements {

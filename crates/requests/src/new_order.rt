@@ -8,6 +8,7 @@ ghost use Rattle.requests.specs.Check.{check_of};
 use crate::checks::is_district;
 use crate::{Lines, Refusal, Request};
 use amounts::{Cents, Rate};
+use rows::{FEWEST_LINES, MOST_LINES};
 use schema::{
     BrandGeneric, Credit, DistrictKey, LineAmount, LineQuantity, Moment, Price, Scale,
     StockQuantity, Text,
@@ -85,7 +86,7 @@ pub(crate) fn check(scale: Scale, order: &NewOrder) -> Result<(), Refusal>
         return Err(Refusal::BadDistrict);
     }
     let lines = order.lines.as_slice();
-    if !(5..=15).contains(&lines.len()) {
+    if !(FEWEST_LINES..=MOST_LINES).contains(&lines.len()) {
         return Err(Refusal::BadLines);
     }
     if !are_quantities(lines) {

@@ -9,7 +9,7 @@ pub enum Refusal {
     BadWarehouse,
     /// The home district or the customer's is not 1 to 10.
     BadDistrict,
-    /// There are not 5 to 15 lines.
+    /// There are not `FEWEST_LINES` to `MOST_LINES` lines.
     BadLines,
     /// The quantity of a line is not 1 to 10.
     BadQuantity,
@@ -32,7 +32,7 @@ pub enum Refusal {
     NoMemory,
     /// The engine was closed.
     Closed,
-    /// The log has 16,777,216 entries.
+    /// The log has `MOST_ENTRIES` entries.
     LogFull,
 }
 

@@ -4,6 +4,7 @@
 
 mod copies;
 mod keys;
+mod limits;
 mod moment;
 mod names;
 mod payment_note;
@@ -13,6 +14,9 @@ mod stock_rules;
 mod text;
 
 pub use keys::{CustomerKey, DistrictKey, OrderKey, OrderLineKey, StockKey};
+pub use limits::{
+    FEWEST_LINES, INBOX, LAST_LINE, MOST_ENTRIES, MOST_LINES, MOST_WAREHOUSES, RECENT_LINES,
+};
 pub use moment::Moment;
 pub use names::last_name;
 pub use payment_note::prepend_data;

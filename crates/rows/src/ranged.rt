@@ -1,6 +1,7 @@
 ghost use Rattle.std.specs.Prelude.{◌≡◌, ◌+◌, ◌≤◌};
 ghost use Rattle.rows.specs.Ranged.{in_range};
 
+use crate::LAST_LINE;
 use std::marker::Model;
 
 /// A whole number from `LOW` to `HIGH`, inclusive.
@@ -29,8 +30,8 @@ pub type ImageId = Ranged<1, 10_000>;
 /// O_CARRIER_ID: the carrier who delivers the order, from 1 to 10 (clause 2.7.1.2).
 pub type CarrierId = Ranged<1, 10>;
 
-/// O_OL_CNT: the number of lines of an order, from 1 to 15 (clause 1.3.1).
-pub type LineCount = Ranged<1, 15>;
+/// O_OL_CNT: the number of lines of an order, from 1 to [`LAST_LINE`] (clause 1.3.1).
+pub type LineCount = Ranged<1, LAST_LINE>;
 
 /// OL_QUANTITY: the quantity of an item that a line orders, from 1 to 10 (clause 2.4.1.5).
 pub type LineQuantity = Ranged<1, 10>;

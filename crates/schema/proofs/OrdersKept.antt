@@ -15,6 +15,7 @@ use Rattle.rows.specs.declared.records.Order.{Order}
 use Rattle.rows.specs.declared.records.NewOrder.{NewOrder}
 use Rattle.rows.specs.declared.records.OrderLine.{OrderLine}
 use Rattle.rows.specs.Keys.{order_cmp, order_of_line}
+use Rattle.rows.specs.declared.limits.TheConstants.{MOST_LINES}
 use Rattle.schema.specs.declared.scale.Scale.{Scale}
 use Rattle.schema.specs.declared.table_rows.TableRows.{TableRows}
 use Rattle.schema.specs.EachRow.{EachRow}
@@ -88,13 +89,13 @@ list_all-second scale (row ∷ rows) h =
     let here : IsTrue (has_warehouse scale row.supply_w_id) = second _ _ (first _ _ h) in
     rw here (list_all-second scale rows (second _ _ h))
 
-numbered : (n count : ℕ) → count ≤ 15 → 1 ≤ n → n < 1 + count → IsTrue (is_line_number n)
+numbered : (n count : ℕ) → count ≤ MOST_LINES → 1 ≤ n → n < 1 + count → IsTrue (is_line_number n)
 numbered n count few low high = grind (arith, nat_tests)
 
 -- ---- an order more
 
 pub within_added : (t : Database) (key : OrderKey) (order : Order) (lines : List OrderLine) → IsWithinScale t → IsTrue (is_order_id key.o_id) → IsTrue (has_customer t.scale (customer_of_order key order))
-    → length lines ≤ 15 → IsTrue (list_all (is_line_within t.scale) lines) → IsWithinScale (with_order t key order lines)
+    → length lines ≤ MOST_LINES → IsTrue (list_all (is_line_within t.scale) lines) → IsWithinScale (with_order t key order lines)
 within_added t key order lines h number customer few known = record {
   items = h.items;
   warehouses = h.warehouses;

@@ -20,6 +20,7 @@ use Rattle.rows.specs.declared.records.NewOrder.{NewOrder}
 use Rattle.rows.specs.declared.records.OrderLine.{OrderLine}
 use Rattle.rows.specs.Keys.{district_cmp, stock_cmp, customer_cmp, order_cmp, line_cmp, order_of_line}
 use Rattle.rows.specs.Ranged.{is_between}
+use Rattle.rows.specs.declared.limits.TheConstants.{LAST_LINE}
 use Rattle.schema.specs.declared.scale.Scale.{Scale}
 use Rattle.schema.specs.Scale.{has_item, has_warehouse, has_district, has_stock, has_customer}
 use Rattle.schema.specs.EachRow.{EachRow}
@@ -73,7 +74,7 @@ is_order_id number = is_between 1 9999999 number
 
 -- whether OL_NUMBER is from 1 to 15
 abbrev pub is_line_number : ℕ → Bool
-is_line_number number = is_between 1 15 number
+is_line_number number = is_between 1 LAST_LINE number
 
 -- each payment refers to a customer of the scale
 abbrev pub PayersKnown : Database → Type 0

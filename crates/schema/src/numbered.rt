@@ -5,19 +5,17 @@ ghost use Rattle.std.specs.List.Sorted.{IsStrictlySortedBy};
 ghost use Rattle.std.specs.Map.{keys_of};
 ghost use Rattle.std.specs.Option.{option_copied, option_map};
 ghost use Rattle.std.specs.Ordering.{nat_cmp};
+ghost use Rattle.rows.specs.declared.limits.TheConstants.{MOST_LINES};
 ghost use Rattle.schema.specs.MapRows.{put_row};
 ghost use Rattle.schema.specs.NumberedRows.{StandsAt, BelongsAt};
 ghost use Rattle.schema.specs.OrderRows.{delivered_at};
 ghost use Rattle.schema.specs.PackedLines.{numbered, numbered_from};
 
 use crate::NoMemory;
-use rows::{Moment, OrderLine};
+use rows::{FEWEST_LINES, Moment, OrderLine};
 use std::alloc::Global;
 use std::marker::Model;
 use std::mem;
-
-// An order has at least this many lines (clause 2.4.1.3).
-const FEWEST: usize = 5;
 
 /// The lines of one order with their numbers, in ascending order, in one vector. `from_rows` reserves
 /// room for exactly the lines that it takes. `put` reserves room for the fewest lines of an order at
@@ -53,7 +51,7 @@ impl Numbered {
 
     /// These lines, numbered from 1. Returns `NoMemory` if an allocation fails.
     pub(crate) fn from_rows(rows: Vec<OrderLine>) -> Result<Numbered, NoMemory>
-        requires { length rows.items ≤ 15 }
+        requires { length rows.items ≤ MOST_LINES }
         ensures { IfOk result (λ lines. lines ≡ numbered_from 1 rows.items) }
     {
         let mut lines = Vec::with_capacity(*rows.allocator(), rows.len())?;
@@ -175,7 +173,7 @@ fn put(
     match find(rows.as_slice(), number) {
         Ok(place) => Ok(Some(mem::replace(&mut rows[place].1, row))),
         Err(place) => {
-            let more = if rows.is_empty() { FEWEST } else { 1 };
+            let more = if rows.is_empty() { FEWEST_LINES } else { 1 };
             rows.reserve_exact(more)?;
             rows.insert(place, (number, row))?;
             Ok(None)

@@ -11,6 +11,7 @@ ghost use Rattle.std.specs.Ordering.{nat_cmp, eq_by_cmp};
 ghost use Rattle.std.specs.declared.cmp.Ordering.{Ordering};
 ghost use Rattle.std.specs.Vec.{vec_len, vec_capacity};
 ghost use Rattle.rows.specs.Keys.{order_cmp, line_cmp, order_of_line};
+ghost use Rattle.rows.specs.declared.limits.TheConstants.{MOST_LINES};
 ghost use Rattle.schema.specs.EachRow.{EachRow};
 ghost use Rattle.schema.specs.MapRows.{map_rows, put_row};
 ghost use Rattle.schema.specs.PackedLines.{all_lines, with_keys, AreNumbered, AreKept, IsLast, HasNone};
@@ -342,7 +343,7 @@ impl OrderLines {
         order: OrderKey,
         rows: Vec<OrderLine>,
     ) -> Result<Vec<Option<OrderLine>>, NoMemory>
-        requires few { length rows.items ≤ 15 }
+        requires few { length rows.items ≤ MOST_LINES }
         ensures lines { OnOk result (line_table self.new ≡ put_lines order 1 (map Some rows.items) (line_table self.old)) }
         ensures were { IfOk result (λ were. were.items ≡ lines_at (line_table self.old) order 1 (length rows.items)) }
         ensures err { OnErr result (line_table self.new ≡ line_table self.old) }
@@ -366,7 +367,7 @@ impl OrderLines {
         rows: &mut Vec<OrderLine>,
         were: &mut Vec<Option<OrderLine>>,
     ) -> Result<(), NoMemory>
-        requires few { length rows.old.items ≤ 15 }
+        requires few { length rows.old.items ≤ MOST_LINES }
         requires room { vec_len were.old + length rows.old.items ≤ vec_capacity were.old }
         ensures lines { OnOk result (line_table self.new ≡ put_lines order 1 (map Some rows.old.items) (line_table self.old)) }
         ensures were { OnOk result (were.new.items ≡ were.old.items ++ lines_at (line_table self.old) order 1 (length rows.old.items)) }
@@ -394,7 +395,7 @@ impl OrderLines {
     // Restores the lines that were replaced at the order's numbers from 1, the last one first. Does not
     // allocate.
     pub(crate) fn take_back(&mut self, order: OrderKey, were: Vec<Option<OrderLine>>)
-        requires few { length were.items ≤ 15 }
+        requires few { length were.items ≤ MOST_LINES }
         requires there { (n : ℕ) → n < length were.items → IsTrue (table.contains_key (line_table self.old) (line_key order (1 + n))) }
         ensures { line_table self.new ≡ put_lines order 1 were.items (line_table self.old) }
     {

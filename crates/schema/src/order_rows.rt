@@ -4,6 +4,7 @@ ghost use Rattle.std.specs.Option.{option_map};
 ghost use Rattle.std.specs.Ordering.{eq_by_cmp};
 ghost use Rattle.std.specs.FinMap as table;
 ghost use Rattle.rows.specs.Keys.{order_cmp};
+ghost use Rattle.rows.specs.declared.limits.TheConstants.{MOST_LINES};
 ghost use Rattle.schema.specs.EachRow.{EachRow};
 ghost use Rattle.schema.specs.MapRows.{table_of, map_rows, put_row};
 ghost use Rattle.schema.specs.Database.{is_order_id, is_line_number, rows_where, is_of_district};
@@ -36,7 +37,7 @@ pub fn add_order_rows(
     order: Order,
     rows: Vec<OrderLine>,
 ) -> Result<Replaced, NoMemory>
-    requires { length rows.items ≤ 15 }
+    requires { length rows.items ≤ MOST_LINES }
     ensures order { OnOk result (table_of order_cmp orders.new ≡ table.insert (table_of order_cmp orders.old) key order) }
     ensures new_order { OnOk result (table_of order_cmp new_orders.new ≡ table.insert (table_of order_cmp new_orders.old) key (record {})) }
     ensures lines { OnOk result (line_table lines.new ≡ put_lines key 1 (map Some rows.items) (line_table lines.old)) }
@@ -78,7 +79,7 @@ pub fn take_back_order_rows(
     key: OrderKey,
     replaced: Replaced,
 )
-    requires few { length replaced.lines.items ≤ 15 }
+    requires few { length replaced.lines.items ≤ MOST_LINES }
     requires order { IsTrue (table.contains_key (table_of order_cmp orders.old) key) }
     requires new_order { IsTrue (table.contains_key (table_of order_cmp new_orders.old) key) }
     requires lines { (n : ℕ) → n < length replaced.lines.items → IsTrue (table.contains_key (line_table lines.old) (line_key key (1 + n))) }
@@ -97,7 +98,7 @@ pub fn take_back_order_and_lines(
     key: OrderKey,
     replaced: Replaced,
 )
-    requires few { length replaced.lines.items ≤ 15 }
+    requires few { length replaced.lines.items ≤ MOST_LINES }
     requires order { IsTrue (table.contains_key (table_of order_cmp orders.old) key) }
     requires lines { (n : ℕ) → n < length replaced.lines.items → IsTrue (table.contains_key (line_table lines.old) (line_key key (1 + n))) }
     ensures order { table_of order_cmp orders.new ≡ put_row (table_of order_cmp orders.old) key replaced.order }

@@ -8,7 +8,7 @@ ghost use Rattle.schema.specs.Scale.{has_item, has_warehouse, has_customer};
 ghost use Rattle.schema.specs.Database.{customer_of_order, is_order_id, is_line_number, are_payers_known};
 
 use crate::{HistoryList, OrderLines, Scale};
-use rows::{CustomerKey, NewOrder, Order, OrderKey};
+use rows::{CustomerKey, LAST_LINE, NewOrder, Order, OrderKey};
 use std::collections::BTreeMap;
 
 /// Whether every payment refers to a customer of the scale.
@@ -75,7 +75,7 @@ pub fn line_rules(lines: &OrderLines, scale: Scale) -> LineRules
     let mut have_items = true;
     let mut have_suppliers = true;
     for (key, row) in lines.entries() {
-        are_numbered &= (1..=15).contains(&key.number);
+        are_numbered &= (1..=LAST_LINE).contains(&key.number);
         have_items &= scale.has_item(row.i_id);
         have_suppliers &= scale.has_warehouse(row.supply_w_id);
     }

@@ -1,7 +1,7 @@
 ghost use Rattle.std.specs.Prelude.{◌≡◌, ◌↔◌, IsSome, IfSome};
 ghost use Rattle.schema.specs.Limits.{IsScale};
 
-use rows::{CustomerKey, DistrictKey, StockKey};
+use rows::{CustomerKey, DistrictKey, MOST_WAREHOUSES, StockKey};
 
 /// The number of rows of the tables of fixed size (clause 1.2.1; smaller scales are allowed). Each
 /// warehouse has ten districts.
@@ -29,7 +29,7 @@ impl Scale {
         ensures customers { IfSome result (λ scale. scale.customers ≡ customers) }
     {
         let fits = 1 <= warehouses
-            && warehouses <= 64
+            && warehouses <= MOST_WAREHOUSES
             && 1 <= items
             && items <= 100_000
             && 1 <= customers

@@ -3,6 +3,7 @@ ghost use Rattle.std.specs.Option.{option_copied};
 ghost use Rattle.std.specs.FinMap as map;
 ghost use Rattle.std.specs.List.{list_all, slice_get};
 ghost use Rattle.rows.specs.Keys.{order_of_line};
+ghost use Rattle.rows.specs.declared.limits.TheConstants.{MOST_LINES};
 ghost use Rattle.schema.specs.Scale.{has_customer, has_district, customer_key};
 ghost use Rattle.schema.specs.Database.{IsWithinScale, customer_of_order, is_order_id, with_payment, without_payment, rows_where, is_of_district, is_of_order};
 ghost use Rattle.schema.specs.Rows.{database, FitsScale, Breaks};
@@ -373,7 +374,7 @@ impl Tables {
     ) -> Result<Replaced, NoMemory>
         requires number { IsTrue (is_order_id key.o_id) }
         requires customer { IsTrue (has_customer self.old.scale (customer_of_order key order)) }
-        requires few { length lines.items ≤ 15 }
+        requires few { length lines.items ≤ MOST_LINES }
         requires lines { IsTrue (list_all (is_line_within self.old.scale) lines.items) }
         ensures ok { OnOk result (self.new ≡ with_order self.old key order lines.items) }
         ensures replaced { IfOk result (StoodThere self.old key (length lines.items)) }
@@ -392,7 +393,7 @@ impl Tables {
     /// Takes back an order that was added: restores the rows that it replaced, and removes its rows
     /// where it replaced none. Does not allocate.
     pub fn take_back_order(&mut self, key: OrderKey, replaced: Replaced)
-        requires few { length replaced.lines.items ≤ 15 }
+        requires few { length replaced.lines.items ≤ MOST_LINES }
         requires order { IsTrue (map.contains_key self.old.orders key) }
         requires new_order { IsTrue (map.contains_key self.old.new_orders key) }
         requires lines { (n : ℕ) → n < length replaced.lines.items → IsTrue (map.contains_key self.old.lines (line_key key (1 + n))) }

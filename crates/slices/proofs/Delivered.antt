@@ -16,6 +16,7 @@ use Rattle.rows.specs.declared.keys.OrderLineKey.{OrderLineKey}
 use Rattle.rows.specs.declared.records.Order as order
 use Rattle.rows.specs.declared.records.NewOrder.{NewOrder}
 use Rattle.rows.specs.declared.records.OrderLine.{OrderLine}
+use Rattle.rows.specs.declared.limits.TheConstants.{MOST_LINES}
 use Rattle.schema.specs.EachRow.{EachRow}
 use Rattle.schema.specs.MapRows.{mapped, map_rows, put_row}
 use Rattle.schema.specs.Database.{Database, is_of_order, is_line_number}
@@ -158,7 +159,7 @@ carrier_again orders key carrier was stood = same_map orders_total orders_exact 
     ] refl)
 
 moments_again : (lines : LineTable) (key : OrderKey) (moment : ℕ) (moments : List (Option ℕ)) → EachRow (λ q _. is_line_number q.number) lines
-    → ((n : ℕ) → n < 15 → slice_index_or moments n None ≡ moment_at lines (line_key key (n + 1)))
+    → ((n : ℕ) → n < MOST_LINES → slice_index_or moments n None ≡ moment_at lines (line_key key (n + 1)))
     → map_rows (with_moments_back key moments) (map_rows (with_moment key moment) lines) ≡ lines
 moments_again lines key moment moments numbered stood = same_map lines_total lines_exact _ _ (λ q.
     get-map_rows line_cmp (with_moments_back key moments) lines_exact (map_rows (with_moment key moment) lines) q
@@ -169,7 +170,7 @@ moments_again lines key moment moments numbered stood = same_map lines_total lin
           → Some (cond b (record (cond b (delivered_at moment row) row) { delivery_d = slice_index_or moments (q.number - 1) None }) (cond b (delivered_at moment row) row)) ≡ Some row) [
             | true ↦ λ own.
                 let range : is_line_number q.number ≡ true = numbered q row e in
-                let low : q.number - 1 < 15 = grind (arith, nat_tests) in
+                let low : q.number - 1 < MOST_LINES = grind (arith, nat_tests) in
                 let number : q.number - 1 + 1 ≡ q.number = grind (arith, nat_tests) in
                 let found : get lines (line_key key (q.number - 1 + 1)) ≡ Some row = ap (λ n. get lines (line_key key n)) number ∙ ap (get lines) (sym (of_line key q own)) ∙ e in
                 let had : slice_index_or moments (q.number - 1) None ≡ row.delivery_d = stood (q.number - 1) low ∙ ap (option_and_then (λ (r : OrderLine). r.delivery_d)) found in

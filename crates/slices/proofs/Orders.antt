@@ -11,6 +11,7 @@ use Rattle.rows.specs.declared.keys.OrderKey.{OrderKey}
 use Rattle.rows.specs.declared.records.Order as order
 use Rattle.rows.specs.declared.records.NewOrder.{NewOrder}
 use Rattle.rows.specs.declared.records.OrderLine.{OrderLine}
+use Rattle.rows.specs.declared.limits.TheConstants.{MOST_LINES}
 use Rattle.schema.specs.declared.order_rows.Replaced.{Replaced}
 use Rattle.schema.specs.EachRow.{EachRow}
 use Rattle.schema.specs.MapRows.{put_row}
@@ -217,7 +218,7 @@ line_there key number (row ∷ rows) lines n low high =
           subst (λ (m : ℕ). IsTrue (table.contains_key (table.insert rest (line_key key number) row) (line_key key m))) same (now_there lines_total lines_exact rest (line_key key number) row)
     ]
 
-pub order_step : (p q : Part) (key : OrderKey) (row : order.Order) (rows : List OrderLine) (replaced : Replaced) → IsPart p → length rows ≤ 15 → StoodThere p.tables key (length rows) replaced
+pub order_step : (p q : Part) (key : OrderKey) (row : order.Order) (rows : List OrderLine) (replaced : Replaced) → IsPart p → length rows ≤ MOST_LINES → StoodThere p.tables key (length rows) replaced
     → q ≡ record p { tables = with_order p.tables key row rows } → IsStep (group_of_order key) (with_order_more key row rows) (k.Order key replaced) p q
 order_step p q key row rows replaced is_part few stood is =
     let u = with_order p.tables key row rows in

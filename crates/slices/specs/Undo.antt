@@ -10,6 +10,7 @@ use Rattle.rows.specs.declared.records.Customer as customer
 use Rattle.rows.specs.declared.records.Order as order
 use Rattle.rows.specs.declared.records.OrderLine.{OrderLine}
 use Rattle.rows.specs.declared.records.History.{History}
+use Rattle.rows.specs.declared.limits.TheConstants.{MOST_LINES}
 use Rattle.schema.specs.declared.scale.Scale.{Scale}
 use Rattle.schema.specs.declared.order_rows.Replaced.{Replaced}
 use Rattle.schema.specs.MapRows.{map_rows, put_row}
@@ -77,7 +78,7 @@ pub record IsOrderFor (p : Part) (key : OrderKey) (row : order.Order) (rows : Li
   pub home : key.w_id ≡ p.home
   pub number : IsTrue (is_order_id key.o_id)
   pub customer : IsTrue (has_customer p.tables.scale (customer_of_order key row))
-  pub few : length rows ≤ 15
+  pub few : length rows ≤ MOST_LINES
   pub lines : IsTrue (list_all (is_line_within p.tables.scale) rows)
 
 -- each row of a table in the group's contents passes the test
@@ -99,7 +100,7 @@ pub record AreOrdersWithin (scale : Scale) (group : Group) (content : Content) :
 -- The rows of an order are stored, with as many lines as `replaced` has entries for; with the replaced rows put back,
 -- the group's orders follow the rules of the scale.
 pub record CanTakeBackOrder (scale : Scale) (key : OrderKey) (replaced : Replaced) (content : Content) : Type 0 where
-  pub few : length replaced.lines.items ≤ 15
+  pub few : length replaced.lines.items ≤ MOST_LINES
   pub order : IsTrue (is_some (order_in (group_of_order key) content key))
   pub new_order : IsTrue (is_some (new_order_in (group_of_order key) content key))
   pub lines : (n : ℕ) → n < length replaced.lines.items → IsTrue (is_some (line_in (group_of_order key) content (line_key key (1 + n))))
@@ -108,7 +109,7 @@ pub record CanTakeBackOrder (scale : Scale) (key : OrderKey) (replaced : Replace
 -- The order is stored, and the record has the earlier delivery moments of fifteen lines.
 pub record CanTakeBackDelivery (key : OrderKey) (before : BeforeDelivery) (content : Content) : Type 0 where
   pub order : IsTrue (is_some (order_in (group_of_order key) content key))
-  pub fifteen : length before.moments ≡ 15
+  pub fifteen : length before.moments ≡ MOST_LINES
 
 -- The contents of one group change in this way. The warehouse, the scale, the items and the contents of all other
 -- groups are unchanged.

@@ -3,6 +3,7 @@ ghost use Rattle.std.specs.Prelude.{◌≡◌, ◌+◌, ◌<◌, ◌≤◌, ℕ,
 ghost use Rattle.std.specs.Option.{option_copied, option_map};
 ghost use Rattle.std.specs.FinMap as map;
 ghost use Rattle.rows.specs.declared.records.Order as order;
+ghost use Rattle.rows.specs.declared.limits.TheConstants.{MOST_LINES};
 ghost use Rattle.schema.specs.Database.{Database, with_payment, without_payment};
 ghost use Rattle.schema.specs.OrderRows.{StoodThere, line_key, with_delivery, with_order, without_order};
 ghost use Rattle.schema.specs.Scale.{has_customer};
@@ -171,7 +172,7 @@ impl IndexedRows {
     /// Undoes the addition of an order: restores the rows that it replaced; where it replaced none, its row is deleted.
     /// Never allocates.
     pub(crate) fn take_back_order(&mut self, key: OrderKey, replaced: Replaced)
-        requires few { length replaced.lines.items ≤ 15 }
+        requires few { length replaced.lines.items ≤ MOST_LINES }
         requires order { IsTrue (map.contains_key self.old.tables.orders key) }
         requires new_order { IsTrue (map.contains_key self.old.tables.new_orders key) }
         requires lines { (n : ℕ) → n < length replaced.lines.items → IsTrue (map.contains_key self.old.tables.lines (line_key key (1 + n))) }
@@ -203,7 +204,7 @@ impl IndexedRows {
     /// Undoes a delivery: restores the replaced values. Never allocates.
     pub(crate) fn take_back_delivery(&mut self, key: OrderKey, before: BeforeDelivery)
         requires order { IsTrue (map.contains_key self.old.tables.orders key) }
-        requires fifteen { length before.moments ≡ 15 }
+        requires fifteen { length before.moments ≡ MOST_LINES }
         ensures { self.new ≡ record self.old { tables = without_delivery self.old.tables key before } }
     {
         self.partition.take_back_delivery(key, before);

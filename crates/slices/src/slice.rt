@@ -1,6 +1,7 @@
 ghost use Rattle.std.specs.Prelude.{◌≡◌, ◌<◌, ◌≤◌, ◌%◌, ℕ, [], ◌∷◌, All, length, IfNone, IfOk, IfSome, IsTrue, OnErr, OnOk};
 ghost use Rattle.std.specs.List.{list_all};
 ghost use Rattle.std.specs.FinMap as map;
+ghost use Rattle.rows.specs.declared.limits.TheConstants.{MOST_LINES};
 ghost use Rattle.schema.specs.Database.{customer_of_order, is_order_id, with_payment};
 ghost use Rattle.schema.specs.OrderRows.{is_line_within, with_delivery, with_order};
 ghost use Rattle.schema.specs.Scale.{has_customer};
@@ -308,7 +309,7 @@ impl<J: GroupNames> Slice<J> {
         requires exclusive { claim.old.mode ≡ Exclusive }
         requires number { IsTrue (is_order_id key.o_id) }
         requires customer { IsTrue (has_customer self.old.tables.scale (customer_of_order key order)) }
-        requires few { length lines.items ≤ 15 }
+        requires few { length lines.items ≤ MOST_LINES }
         requires lines { IsTrue (list_all (is_line_within self.old.tables.scale) lines.items) }
         ensures claim { OnOk result (claim.new ≡ leaving claim.old (with_order_more key order lines.items claim.old.left)) }
         ensures kept { OnOk result (SliceKeeps (claim.old ∷ []) self.old (claim.new ∷ []) self.new) }

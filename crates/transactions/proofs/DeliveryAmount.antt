@@ -1,4 +1,4 @@
--- An order has 300 lines at most, and so what they come to fits.
+-- An order has RECENT_LINES lines at most, and so what they come to fits.
 use Rattle.std.proofs.Common.{◌≡◌, ◌+◌, ◌-◌, ◌≤◌, true, ◌&&◌, ◌==◌, nat_le, nat_lt, length, filter, ap, arith}
 use Rattle.std.proofs.lemmas.Bool.Decides.{nat_tests}
 use Rattle.std.proofs.lemmas.List.Sums.{count_by-le-length, length-filter}
@@ -7,6 +7,7 @@ use Rattle.rows.specs.Keys.{district_of_order}
 use Rattle.rows.specs.declared.keys.OrderKey.{OrderKey}
 use Rattle.rows.specs.declared.keys.OrderLineKey.{OrderLineKey}
 use Rattle.rows.specs.declared.records.OrderLine.{OrderLine}
+use Rattle.rows.specs.declared.limits.TheConstants.{RECENT_LINES}
 use Rattle.schema.specs.Database.{Database, LinesNumbered, is_of_order}
 use Rattle.schema.specs.Consistency.{lines_of}
 use Rattle.schema.specs.OrderRows.{is_in_span}
@@ -22,7 +23,7 @@ in_span order key of_it =
     let there : (((key.w_id == order.w_id) && (key.d_id == order.d_id)) && (nat_le from key.o_id && nat_lt key.o_id (order.o_id + 1))) ≡ true = grind (arith, nat_tests) in
     there
 
-pub few_lines_of : (t : Database) (order : OrderKey) → LinesNumbered t → length (lines_of t order) ≤ 300
+pub few_lines_of : (t : Database) (order : OrderKey) → LinesNumbered t → length (lines_of t order) ≤ RECENT_LINES
 few_lines_of t order numbered =
     let of_it = λ (e : OrderLineKey × OrderLine). is_of_order order e.0 in
     let next = order.o_id + 1 in
@@ -30,5 +31,5 @@ few_lines_of t order numbered =
     let all = table.entries t.lines in
     let within : filter of_it (filter near all) ≡ filter of_it all =
     filter-within of_it near all (all_of (λ (e : OrderLineKey × OrderLine). of_it e ≡ true → near e ≡ true) (λ e passes. in_span order e.0 passes) all) in
-    let few : length (filter near all) ≤ 300 = few_lines t numbered (district_of_order order) next in
+    let few : length (filter near all) ≤ RECENT_LINES = few_lines t numbered (district_of_order order) next in
     omega (arith, few, length-filter of_it (filter near all), count_by-le-length of_it (filter near all), ap length within)

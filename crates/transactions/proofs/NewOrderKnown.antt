@@ -7,6 +7,7 @@ use Rattle.std.proofs.lemmas.List.{length-map}
 use Rattle.std.proofs.lemmas.List.Elements.{All-from_recursion}
 use Rattle.rows.specs.Ranged.{is_between}
 use Rattle.rows.specs.declared.records.OrderLine.{OrderLine}
+use Rattle.rows.specs.declared.limits.TheConstants.{FEWEST_LINES, MOST_LINES}
 use Rattle.partitions.specs.Parts.{SharedTables}
 use Rattle.schema.specs.declared.scale.Scale.{Scale}
 use Rattle.schema.specs.Scale.{has_warehouse}
@@ -37,7 +38,7 @@ pub record IsInScale (scale : Scale) (n : NewOrder) : Type 0 where
   pub warehouse : has_warehouse scale n.home.w_id ≡ true
   pub district : is_between 1 10 n.home.d_id ≡ true
   pub some_line : 1 ≤ length n.lines
-  pub most_lines : length n.lines ≤ 15
+  pub most_lines : length n.lines ≤ MOST_LINES
   pub quantities : AllByRecursion (λ (line : OrderedLine). (1 ≤ line.quantity) × (line.quantity ≤ 10)) n.lines
   pub suppliers : list_all (λ (line : OrderedLine). has_warehouse scale line.supply_w_id) n.lines ≡ true
 
@@ -49,7 +50,7 @@ in_scale scale n accepted =
     let third = not_first test BadLines (BadQuantity ∷ BadSupply ∷ BadAmount ∷ BadThreshold ∷ BadCarrier ∷ []) second.1 in
     let fourth = not_first test BadQuantity (BadSupply ∷ BadAmount ∷ BadThreshold ∷ BadCarrier ∷ []) third.1 in
     let fifth = not_first test BadSupply (BadAmount ∷ BadThreshold ∷ BadCarrier ∷ []) fourth.1 in
-    let count = between 5 15 (length n.lines) (not-false _ third.0) in
+    let count = between FEWEST_LINES MOST_LINES (length n.lines) (not-false _ third.0) in
     record {
       warehouse = not-false _ first.0;
       district = not-false _ second.0;

@@ -41,6 +41,7 @@ use Rattle.transactions.proofs.NewOrderCarriedOut.{is_placed, stocks_on}
 use Rattle.transactions.proofs.NewOrderKnown.{in_scale, placed_orders_are_known}
 use Rattle.transactions.proofs.NewOrderSteps.{claims_of_all}
 use Rattle.transactions.proofs.NewOrderSupplies.{each_among, firsts_of, of_one}
+use Rattle.transactions.specs.declared.laws.TheConstants.{MOST_ACTIONS}
 
 -- ---- the group that supplies some of the lines
 
@@ -165,7 +166,7 @@ few_supplies : (lines : List OrderedLine) → length (supplies_of lines) ≤ len
 few_supplies lines = omega (arith, few_firsts (map group_of_supply lines), length-map lines group_of_supply)
 
 -- actions are few
-pub few_actions : (shared : SharedTables) (asked : Request) (progress : Progress) (held : List (List ClaimView)) → IsReached shared asked progress held → length held + length (works_of progress) ≤ 18
+pub few_actions : (shared : SharedTables) (asked : Request) (progress : Progress) (held : List (List ClaimView)) → IsReached shared asked progress held → length held + length (works_of progress) ≤ MOST_ACTIONS
 few_actions shared asked (ReadRows n) held known = omega (arith, ap (λ (hs : List (List ClaimView)). length hs) known.none)
 few_actions shared asked (TakeLines given) held known =
     let order_accepted : IsAccepted shared.scale (request.NewOrder given.order) = subst (IsAccepted shared.scale) known.is known.accepted in

@@ -8,7 +8,7 @@ use Rattle.tickets.specs.Claims.{ClaimView}
 use Rattle.commit_log.specs.declared.entry.Entry.{Entry}
 use Rattle.commit_log.specs.declared.log_book.AppendFault.{AppendFault}
 use Rattle.commit_log.specs.declared.log_book.AppendFault.TheVariants as fault
-use Rattle.commit_log.specs.declared.log_book.TheConstants.{MOST_ENTRIES}
+use Rattle.rows.specs.declared.limits.TheConstants.{MOST_ENTRIES}
 use Rattle.commit_log.specs.Claimed.{claims_logged}
 use Rattle.commit_log.specs.Items.{item}
 use Rattle.commit_log.specs.PassView.{PassView, after_item, after_refusal}

@@ -7,6 +7,7 @@ use Rattle.amounts.specs.Total.{total_of}
 use Rattle.rows.specs.declared.records.Warehouse.{Warehouse}
 use Rattle.rows.specs.declared.records.District.{District}
 use Rattle.rows.specs.declared.records.Customer.{Customer}
+use Rattle.rows.specs.declared.limits.TheConstants.{MOST_LINES}
 use Rattle.partitions.specs.Parts.{SharedTables, shared_of}
 use Rattle.schema.specs.declared.scale.Scale.{Scale}
 use Rattle.schema.specs.Scale.{customer_key, has_customer}
@@ -184,7 +185,7 @@ AreStocksTaken shared n groups found stocks = ⊥
 pub record IsOrderKnown (scale : Scale) (order : OrderRows) : Type 0 where
   pub number : IsTrue (is_order_id order.key.o_id)
   pub customer : IsTrue (has_customer scale (customer_of_order order.key order.row))
-  pub few : length order.lines ≤ 15
+  pub few : length order.lines ≤ MOST_LINES
   pub lines : IsTrue (list_all (is_line_within scale) order.lines)
 
 -- the claim leaves what all tables whose content of the group is the recorded one have there with the order

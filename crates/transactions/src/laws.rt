@@ -2,9 +2,10 @@
 ghost use Rattle.transactions.specs.Laws.{AcceptedRequestsHaveTheirGroups, ActionsCanDoTheirWork, ClaimsAreOfTheFootprint, PhasesHaveActions, ReachedRequestsAreAccepted, RolledBackClaimsCanBeUndone, TransactionsClaimEachGroupOnce, TransactionsHaveFewActions, WorksAreAtWarehouses, WorksAreDoneAtHome, WorksClaimAtHome, WorksHaveAClaimForEachGroupWant, WorksHaveTheirGroups, WorksHaveGroupWants};
 
 use groups::footprints_name_each_group_once;
+use rows::MOST_LINES;
 
 /// The largest number of actions of a transaction, in all its phases together.
-pub const MOST_ACTIONS: usize = 18;
+pub const MOST_ACTIONS: usize = MOST_LINES + 3;
 
 /// Law: a request that was carried out as rolled back under its claims is so also once all that was done under them is undone.
 pub fn rolled_back_claims_can_be_undone()

@@ -68,7 +68,7 @@ pub enum StockTaken {
 /// A line of an order that was taken from the stock.
 #[derive(Drop)]
 pub struct LineSold {
-    /// OL_NUMBER: 1 to 15.
+    /// OL_NUMBER: 1 to `LAST_LINE`.
     pub number: usize,
     /// The row of ORDER-LINE that is to be added.
     pub row: OrderLine,

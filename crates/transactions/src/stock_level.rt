@@ -62,12 +62,13 @@ pub struct Items {
 
 impl Model for Items {
     ghost use Rattle.std.specs.Prelude.{◌≤◌, ℕ, List, length};
+    ghost use Rattle.rows.specs.declared.limits.TheConstants.{RECENT_LINES};
 
     ghost Value = { List ℕ };
 
     ghost view = { λ i. i.ids.items };
 
-    ghost invariant = { λ i. length i.ids.items ≤ 300 };
+    ghost invariant = { λ i. length i.ids.items ≤ RECENT_LINES };
 }
 
 impl Items {

@@ -1,6 +1,7 @@
 -- What an event does with one executor's queues in hand, it does with all queues as one.
 use Rattle.std.proofs.Common.{◌≡◌, inl, inr, ℕ, Bool, true, false, List, [], ◌∷◌, ◌++◌, length, Option, Some, None, Err, refl, sym, ◌∙◌, ap, subst, append_assoc, nat_lt, ⊎_elim}
 use Rattle.std.specs.List.{slice_get}
+use Rattle.rows.specs.declared.limits.TheConstants.{INBOX}
 use Rattle.partitions.specs.Parts.{SharedTables}
 use Rattle.requests.specs.declared.request.Request.{Request}
 use Rattle.requests.specs.declared.refusal.Refusal.{Refusal}
@@ -87,7 +88,7 @@ module _ {J : Type 0} (messages : List (Message J)) (items : List (Item J)) wher
   pub sends_framed : (shared : SharedTables) (old new : Parts J) (i : Item J) (answer : EventAnswer) (h : IsSoundWith shared (part_item i) (framed old)) → IsSoundItem shared h.in_flight i
       → SendsItem i old answer new → SendsOn shared (part_item i) (framed old) answer (framed new)
   sends_framed shared old new (item.Push m) answer h s said =
-      sends_push shared (framed old) (framed new) m answer (nat_lt (length old.inbox) 1024) h s (pushes_framed (nat_lt (length old.inbox) 1024) m old new answer said)
+      sends_push shared (framed old) (framed new) m answer (nat_lt (length old.inbox) INBOX) h s (pushes_framed (nat_lt (length old.inbox) INBOX) m old new answer said)
   sends_framed shared old new (item.Report r) answer h s said =
       sends_on shared (framed old) (framed new) (item.Report r) answer h s (said.0, reports_framed r old new said.1)
   sends_framed shared old new (item.Ended slot) answer h s said =

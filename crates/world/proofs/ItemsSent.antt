@@ -1,6 +1,7 @@
 -- An item is sent.
 use Rattle.std.proofs.Common.{◌≡◌, ℕ, Bool, true, false, List, [], ◌∷◌, ◌++◌, length, Option, Some, None, refl, sym, subst, nat_lt, ◌+◌, ◌-◌, ◌≤◌, arith, ◌∙◌, ap, inl, inr}
 use Rattle.std.specs.List.{slice_get}
+use Rattle.rows.specs.declared.limits.TheConstants.{INBOX}
 use Rattle.partitions.specs.Parts.{SharedTables}
 use Rattle.schema.specs.Database.{Database}
 use Rattle.history.specs.declared.event.Event.TheVariants.{Send}
@@ -107,7 +108,7 @@ module _ {J : Type 0} where
 
   pub sends_on : (shared : SharedTables) (w new : Parts J) (i : Item J) (answer : EventAnswer) (h : IsSoundWith shared (part_item i) w) → IsSoundItem shared h.in_flight i
       → SendsItem i w answer new → SendsOn shared (part_item i) w answer new
-  sends_on shared w new (item.Push message) answer h s said = sends_push shared w new message answer (nat_lt (length w.inbox) 1024) h s said
+  sends_on shared w new (item.Push message) answer h s said = sends_push shared w new message answer (nat_lt (length w.inbox) INBOX) h s said
   sends_on shared w new (item.Report r) answer h s said =
       let first = said.1.0 in
       let slots = said.1.1.0 in

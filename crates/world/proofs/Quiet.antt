@@ -4,6 +4,7 @@ use Rattle.std.specs.Prelude.{All, Result, Ok, Err}
 use Rattle.std.specs.List.{sum_by}
 use Rattle.std.proofs.lemmas.List.Elements.{All-head, All-tail}
 use Rattle.std.proofs.lemmas.List.Sums.{sum_by-append}
+use Rattle.rows.specs.declared.limits.TheConstants.{INBOX}
 use Rattle.partitions.specs.Parts.{SharedTables}
 use Rattle.schema.specs.Database.{Database}
 use Rattle.groups.specs.Content.{content}
@@ -128,7 +129,7 @@ module _ {J : Type 0} where
   -- ---- what is answered Nothing
 
   pub sends_something : (i : Item J) (old new : Parts J) (answer : EventAnswer) → SendsItem i old answer new → answer ≡ Nothing → ⊥
-  sends_something (item.Push message) old new answer said is = pushed (nat_lt (length old.inbox) 1024) said is
+  sends_something (item.Push message) old new answer said is = pushed (nat_lt (length old.inbox) INBOX) said is
     where
       pushed : (room : Bool) → Pushes room message old answer new → answer ≡ Nothing → ⊥
       pushed true said is = absurd (cc)

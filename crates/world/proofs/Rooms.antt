@@ -7,6 +7,7 @@ use Rattle.std.specs.List.{sum_by}
 use Rattle.std.proofs.lemmas.Grind.{flat_map-append}
 use Rattle.std.proofs.lemmas.List.Sorted.{length_permutation}
 use Rattle.std.proofs.lemmas.List.Sums.{sum_by-cons, sum_by-append}
+use Rattle.rows.specs.declared.limits.TheConstants.{MOST_WAREHOUSES}
 use Rattle.rendezvous.specs.Awaited.{awaited_from}
 use Rattle.rendezvous.proofs.Awaiting.{awaited_at_most}
 use Rattle.partitions.specs.Parts.{SharedTables}
@@ -24,16 +25,26 @@ use Rattle.world.specs.declared.flight.Load.{Load}
 use Rattle.world.specs.declared.flight.Load.TheVariants.{Work, Move}
 use Rattle.world.specs.declared.flight.Outgoing.{Outgoing}
 use Rattle.world.specs.declared.flight.Outgoing.TheVariants as outgoing
+use Rattle.world.specs.declared.slots.TheConstants.{MOST_ACTIVE}
 use Rattle.world.specs.declared.world.Core.{Core}
 use Rattle.world.specs.declared.world.Parts.{Parts}
-use Rattle.world.specs.Envelopes.{arrived_of, going_in, home_of_message, items_in, items_of, envelopes_of, envelopes_out, messages_of, sent_in, sent_of}
+use Rattle.world.specs.Envelopes.{arrived_of, going_in, home_of_message, items_in, items_of, envelopes_of, envelopes_out, messages_in, messages_of, sent_in, sent_of}
 use Rattle.world.specs.Queues.{all_of, queue_of}
-use Rattle.world.specs.Together.{IsSound, arrived_in, envelopes_of_all, together}
+use Rattle.world.specs.Shards.{waiting_in}
+use Rattle.world.specs.Together.{IsLocated, IsSound, arrived_in, envelopes_of_all, together}
 use Rattle.world.specs.Flights.{Acting, Ending, InFlight, nothing, parts, part_item, part_message}
 use Rattle.world.specs.Sound.{ActiveTransactions, ActiveTransaction, IsSoundWith, IsSoundActive, AreSoundActive, awaited, awaited_by_all, flight, IsSoundMessage}
 use Rattle.world.proofs.Balances.{in_inbox, in_outbox, in_meeting}
 use Rattle.world.proofs.Asking.{one_each, some_token}
 use Rattle.world.proofs.Shuffles.{own_apart, shuffle-order}
+
+-- so many are in flight at most: of each slot all actions, and what was submitted
+abbrev pub most_in_flight : ℕ
+most_in_flight = MOST_ACTIVE * (MOST_ACTIONS + 1)
+
+-- and with what moves bring, so many stand in an outbox
+abbrev pub most_outgoing : ℕ
+most_outgoing = most_in_flight + MOST_WAREHOUSES
 
 length-more : {X : Type 0} (xs ys : List X) → length (xs ++ ys) ≡ length xs + length ys
 length-more xs ys = length-append xs ys
@@ -101,7 +112,7 @@ module _ {J : Type 0} where
       )
 
   -- there are so many messages and items at most
-  pub few_in_flight : (shared : SharedTables) (hand : InFlight) (w : Parts J) → IsSoundWith shared hand w → length w.inbox + length w.outbox ≤ 1216
+  pub few_in_flight : (shared : SharedTables) (hand : InFlight) (w : Parts J) → IsSoundWith shared hand w → length w.inbox + length w.outbox ≤ most_in_flight
   few_in_flight shared hand w h =
       let met = in_meeting w in
       let tokens = h.balance.tokens one_each in
@@ -146,18 +157,31 @@ module _ {J : Type 0} where
         sum_by-cons arrived_of p posts,
       )
 
-  -- an executor's outbox has room for much more
-  pub room_in : (shared : SharedTables) (w : Core J) → IsSound shared w → length w.placements.placements ≤ 64 → (executor : ℕ) → executor < length w.outboxes → length (queue_of executor w.outboxes) ≤ 1280
-  room_in shared w h many executor there =
+  -- an executor's outbox has few beside the items
+  pub few_outgoing : (w : Core J) → IsLocated w → length w.placements.placements ≤ MOST_WAREHOUSES → (executor : ℕ) → executor < length w.outboxes
+      → length (queue_of executor w.outboxes) ≤ length (items_in (all_of w.outboxes)) + MOST_WAREHOUSES
+  few_outgoing w h many executor there =
       let posts = all_of w.outboxes in
       let envelopes = envelopes_of_all w in
       omega (
         arith,
         few_in_one w.outboxes executor there,
         few_posts posts,
-        few_in_flight shared nothing (together w) h.all,
-        located.few_sent 0 w.placements (going_in envelopes) (sent_in envelopes) (arrived_in w) (map home_of_message w.parked) h.located,
+        located.few_sent 0 w.placements (going_in envelopes) (sent_in envelopes) (arrived_in w) (map home_of_message w.parked) h,
         ap (λ (ds : List Dispatch). length ds) (flat_map-append (λ (l : Envelope J). sent_of l.to l.load) (all_of w.inboxes) (envelopes_out posts)),
         length-more (sent_in (all_of w.inboxes)) (sent_in (envelopes_out posts)),
         many,
+      )
+
+  -- it has room for much more, also for all that is parked
+  pub room_in : (shared : SharedTables) (w : Core J) → IsSound shared w → length w.placements.placements ≤ MOST_WAREHOUSES → (executor : ℕ) → executor < length w.outboxes
+      → length (queue_of executor w.outboxes) + length w.parked ≤ most_outgoing
+  room_in shared w h many executor there =
+      let come = messages_in (all_of w.inboxes) in
+      omega (
+        arith,
+        few_outgoing w h.located many executor there,
+        few_in_flight shared nothing (together w) h.all,
+        length-more (waiting_in w.parts) (come ++ w.parked),
+        length-more come w.parked,
       )

@@ -1,5 +1,6 @@
 -- What an event leaves unchanged: the shards, unless a message is taken, and then the inbox.
 use Rattle.std.proofs.Common.{◌≡◌, inl, inr, ℕ, Bool, true, false, List, [], ◌∷◌, length, Option, Some, None, refl, ◌∙◌, ap, nat_lt, ⊎_elim}
+use Rattle.rows.specs.declared.limits.TheConstants.{INBOX}
 use Rattle.requests.specs.declared.request.Request.{Request}
 use Rattle.requests.specs.declared.refusal.Refusal.{Refusal}
 use Rattle.history.specs.declared.event.EventAnswer.{EventAnswer}
@@ -51,7 +52,7 @@ module _ {J : Type 0} where
   push_shards false m old new answer said = ap (λ (w : Parts J). w.shards) said.1
 
   pub sent_shards : (i : Item J) (old new : Parts J) (answer : EventAnswer) → SendsItem i old answer new → new.shards ≡ old.shards
-  sent_shards (item.Push m) old new answer said = push_shards (nat_lt (length old.inbox) 1024) m old new answer said
+  sent_shards (item.Push m) old new answer said = push_shards (nat_lt (length old.inbox) INBOX) m old new answer said
   sent_shards (item.Report r) old new answer said = into_shards r.slot said.1.0 _ old new said.1.1.1.1
   sent_shards (item.Ended slot) old new answer said = ap (λ (w : Parts J). w.shards) said.1.1.1
   sent_shards (item.Commit commit) old new answer said = commits_shards commit old new answer said

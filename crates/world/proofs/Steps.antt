@@ -17,6 +17,7 @@ use Rattle.range_moves.specs.declared.order.MoveOrder.{MoveOrder}
 use Rattle.range_moves.specs.declared.order.Moving.TheVariants as moving
 use Rattle.range_moves.specs.Placements.{AreKept, PlacementsView, IsPlacementOf, IsWarehouse, comes_to, route_of}
 use Rattle.range_moves.specs.Orders.{IsWithin}
+use Rattle.range_moves.specs.Traffic.{IsLocatedWith}
 use Rattle.range_moves.proofs.Located as located
 use Rattle.range_moves.proofs.Knowing.{by_warehouse, kept_placement}
 use Rattle.world.specs.declared.flight.Item.{Item}
@@ -37,14 +38,14 @@ use Rattle.world.specs.Envelopes.{HasHome, HasHomeIn, IsOutgoing, going_in, home
 use Rattle.world.specs.Queues.{TakesFrom, all_of, queue_of}
 use Rattle.world.specs.Sound.{IsSoundItem, IsSoundMessage}
 use Rattle.world.specs.Shards.{IsShardOf, slices_in, waiting_in}
-use Rattle.world.specs.Together.{IsSound, arrived_in, envelopes_of_all, together}
+use Rattle.world.specs.Together.{IsLocated, IsSound, arrived_in, envelopes_of_all, together}
 use Rattle.world.specs.Worlds.{Advances}
 use Rattle.world.proofs.Executing.{GoesOnWith, has_home, has_home_in, message_hand, works_if_here, works_sound}
 use Rattle.world.proofs.Framed.{framed, sends_framed}
 use Rattle.world.proofs.Moves.{arrives, begins_move, installs, takes_out}
-use Rattle.world.proofs.Posting.{holding, is_own, is_outgoing, takes_envelope, there_in, there_out}
+use Rattle.world.proofs.Posting.{holding, is_own, is_outgoing, takes_envelope, takes_outgoing, there_in, there_out}
 use Rattle.world.proofs.Ready.{can_send, can_work}
-use Rattle.world.proofs.Rooms.{few_in_flight, room_in}
+use Rattle.world.proofs.Rooms.{few_outgoing, few_in_flight, most_outgoing, room_in}
 use Rattle.world.proofs.Sent.{item_taken, sends_item, sends_envelope}
 
 -- messages go to one of the executors
@@ -120,8 +121,7 @@ module _ {J : Type 0} where
   pub record CanOpen (shared : SharedTables) (executor : ℕ) (left : Core J) : Type 0 where
     pub there : executor < length left.outboxes
     pub here : executor < left.placements.executors
-    pub room : length (queue_of executor left.outboxes) ≤ 1280
-    pub parked : length left.parked ≤ 1216
+    pub room : length (queue_of executor left.outboxes) + length left.parked ≤ most_outgoing
     pub waiting : length (waiting_in left.parts) + (MOST_ACTIONS + 1) ≤ 4096
     pub catalog : left.parts.catalog ≡ shared
     pub slices : AreSlicesOf left.parts.catalog (slices_in left.parts)
@@ -143,7 +143,6 @@ module _ {J : Type 0} where
         there = there;
         here = omega (arith, there, h.outboxes);
         room = room_in shared w h o.kept.many executor there;
-        parked = omega (arith, all, length-append waiting (come ++ w.parked), length-append come w.parked);
         waiting = omega (arith, all, length-append waiting (come ++ w.parked));
         catalog = h.all.shared_is;
         slices = h.all.slices;
@@ -161,7 +160,7 @@ module _ {J : Type 0} where
 
   -- what a message has put fits the outbox
   pub can_post_work : TransactionsClaimEachGroupOnce → (shared : SharedTables) (executor : ℕ) (m : Message J) (left : Core J) → EnvelopeInHand shared executor (Work m) left → (parts : Parts J) → TakesMessage m left.parts parts
-      → All HasHomeIn parts.outbox × (length parts.outbox ≤ 1216)
+      → All HasHomeIn parts.outbox × (length (queue_of executor left.outboxes) + length parts.outbox ≤ most_outgoing)
   can_post_work once shared executor m left o parts said =
       let w = o.whole in
       let given : TakesMessage m w.parts parts = subst (λ (v : Core J). TakesMessage m v.parts parts) o.left_is said in
@@ -169,16 +168,24 @@ module _ {J : Type 0} where
       let from : Core J = record w { inboxes = slice_set w.inboxes executor o.rest; parts = record parts { outbox = [] } } in
       let items = (together from).outbox in
       let homes = front (IsSoundItem shared sound.in_flight) parts.outbox items sound.outbox in
+      let inbox_there = there_in shared w o.sound executor (envelope executor (Work m)) o.rest o.first in
+      let there : executor < length w.outboxes = omega (arith, inbox_there, o.sound.inboxes, o.sound.outboxes) in
       let all = few_in_flight shared nothing (holding [] parts.outbox from) sound in (
         All-weaker (IsSoundItem shared sound.in_flight) HasHomeIn (λ i is. has_home_in shared sound.in_flight parts i is) parts.outbox homes,
-        omega (arith, all, length-append parts.outbox items),
+        omega (
+          arith,
+          all,
+          length-append parts.outbox items,
+          few_outgoing w o.sound.located o.kept.many executor there,
+          ap (λ (v : Core J). length (queue_of executor v.outboxes)) o.left_is,
+        ),
       )
 
   -- ---- of a world of which an executor sends something
 
   pub record CanPost (shared : SharedTables) (executor : ℕ) (left : Core J) : Type 0 where
     pub there : executor < length left.outboxes
-    pub room : length (queue_of executor left.outboxes) ≤ 1280
+    pub room : length (queue_of executor left.outboxes) ≤ most_outgoing
     pub inboxes : length left.inboxes ≡ left.placements.executors
     pub no_outbox : left.parts.outbox ≡ []
 
@@ -218,7 +225,7 @@ module _ {J : Type 0} where
 
   -- what an item has put fits the outbox
   pub can_post_item : (shared : SharedTables) (executor : ℕ) (i : Item J) (left : Core J) → OutgoingInHand shared executor (outgoing.Item i) left → (answer : EventAnswer) (parts : Parts J) → SendsItem i left.parts answer parts
-      → All HasHomeIn parts.outbox × (length parts.outbox ≤ 1216)
+      → All HasHomeIn parts.outbox × (length (queue_of executor left.outboxes) + length parts.outbox ≤ most_outgoing)
   can_post_item shared executor i left s answer parts said =
       let w = s.whole in
       let given : SendsItem i w.parts answer parts = subst (λ (v : Core J). SendsItem i v.parts answer parts) s.left_is said in
@@ -228,9 +235,20 @@ module _ {J : Type 0} where
       let items = (together from).outbox in
       let sound = (sends_framed messages items shared w.parts parts i answer taken.0 taken.1 given).sound in
       let homes = back (IsSoundItem shared sound.in_flight) items parts.outbox sound.outbox in
+      let there = there_out shared w s.sound executor (outgoing.Item i) s.rest s.first in
+      let hand = takes_outgoing shared w s.sound executor (outgoing.Item i) s.rest s.first in
+      let there_left : executor < length from.outboxes = omega (arith, there, length-set w.outboxes executor s.rest) in
+      let kept : IsLocated from =
+      subst (λ n. IsLocatedWith 0 w.placements (going_in (envelopes_of_all from)) (sent_in (envelopes_of_all from)) n (map home_of_message w.parked)) (omega arith) hand.located in
       let all = few_in_flight shared nothing (framed messages items parts) sound in (
         All-weaker (IsSoundItem shared sound.in_flight) HasHomeIn (λ i is. has_home_in shared sound.in_flight parts i is) parts.outbox homes,
-        omega (arith, all, length-append items parts.outbox),
+        omega (
+          arith,
+          all,
+          length-append items parts.outbox,
+          few_outgoing from kept s.kept.many executor there_left,
+          ap (λ (v : Core J). length (queue_of executor v.outboxes)) s.left_is,
+        ),
       )
 
   -- a report of a move is awaited

@@ -3,6 +3,7 @@ use Rattle.std.proofs.Common.{◌≡◌, inl, inr, ℕ, ◌≤◌, ◌-◌, zero
 use Rattle.std.specs.Prelude.{Contains, Result, Ok, Err, slice_set}
 use Rattle.std.specs.List.{slice_get}
 use Rattle.std.proofs.lemmas.List.Elements.{All-contains, Contains-append_left, Contains-append_right, Contains-get_or}
+use Rattle.rows.specs.declared.limits.TheConstants.{INBOX}
 use Rattle.partitions.specs.Parts.{SharedTables}
 use Rattle.requests.specs.declared.refusal.Refusal.{Refusal}
 use Rattle.requests.specs.declared.request.Request.{Request}
@@ -89,7 +90,7 @@ module _ {J : Type 0} (session number : ℕ) (recorded : Result ℕ Refusal) whe
   pushed false m old new answer said is = let e = said.0 in absurd (cc)
 
   sent_of : (shared : SharedTables) (at : ActiveTransactions) (i : Item J) (old new : Parts J) (answer : EventAnswer) → IsSoundItem shared at i → SendsItem i old answer new → IsAnswered session number recorded answer → IsOneRecordedSo session number recorded (part_item i).pending
-  sent_of shared at (item.Push m) old new answer fine said is = absurd (pushed (nat_lt (length old.inbox) 1024) m old new answer said is)
+  sent_of shared at (item.Push m) old new answer fine said is = absurd (pushed (nat_lt (length old.inbox) INBOX) m old new answer said is)
   sent_of shared at (item.Report r) old new answer fine said is = let e = said.0 in absurd (cc)
   sent_of shared at (item.Ended slot) old new answer fine said is = let e = said.0 in absurd (cc)
   sent_of shared at (item.Commit commit) old new answer fine said is = absurd (committed said.logged.answer (sym said.answered ∙ is))

@@ -1,6 +1,7 @@
 -- The effect of one event.
 use Rattle.std.specs.Prelude.{◌≡◌, ◌<◌, ◌≤◌, ℕ, ◌+◌, ◌-◌, Bool, true, false, List, [], ◌∷◌, ◌++◌, Option, Some, None, Result, Ok, Err, All, nat_lt, length, map, replicate, slice_set, ◌⊎◌}
 use Rattle.std.specs.List.{slice_get}
+use Rattle.rows.specs.declared.limits.TheConstants.{INBOX}
 use Rattle.partitions.specs.Parts.{SharedTables}
 use Rattle.schema.specs.Database.{Database}
 use Rattle.requests.specs.declared.request.Request.{Request}
@@ -245,7 +246,7 @@ module _ {J : Type 0} where
 
   -- The effect of sending an item, by its kind.
   abbrev pub SendsItem : Item J → Parts J → EventAnswer → Parts J → Type 0
-  SendsItem (item.Push message) old answer new = Pushes (nat_lt (length old.inbox) 1024) message old answer new
+  SendsItem (item.Push message) old answer new = Pushes (nat_lt (length old.inbox) INBOX) message old answer new
   SendsItem (item.Report r) old answer new = (answer ≡ Sent) × Reports r old new
   SendsItem (item.Ended slot) old answer new = (answer ≡ Sent) × OfEnding slot old (λ left. new ≡ with_active slot (ending (left - 1)) old)
   SendsItem (item.Commit commit) old answer new = Commits commit old answer new

@@ -2,6 +2,7 @@
 use Rattle.std.specs.Prelude.{IsTrue, is_some, ◌≡◌, ◌⊎◌, ℕ, zero, suc, ◌+◌, ◌-◌, ◌<◌, ◌&&◌, Bool, true, false, nat_lt, nat_le, List, [], ◌∷◌, ◌++◌, Option, Some, None, Result, Ok, Err, Vec, length, map, replicate, slice_set}
 use Rattle.std.specs.List.{slice_get}
 use Rattle.std.specs.declared.alloc.Global.{Global}
+use Rattle.rows.specs.declared.limits.TheConstants.{INBOX}
 use Rattle.partitions.specs.Parts.{SharedTables}
 use Rattle.requests.specs.declared.request.Request.{Request}
 use Rattle.requests.specs.declared.refusal.Refusal.{Refusal}
@@ -143,7 +144,7 @@ module _ {J : Type 0} where
 
   -- The inbox of an executor has room.
   abbrev pub has_room : ℕ → Core J → Bool
-  has_room executor w = nat_lt (length (queue_of executor w.inboxes)) 1024
+  has_room executor w = nat_lt (length (queue_of executor w.inboxes)) INBOX
 
   -- These are appended to an executor's outbox.
   abbrev pub posting : ℕ → List (Outgoing J) → Core J → Core J
@@ -180,7 +181,7 @@ module _ {J : Type 0} where
   pub record CanOrder (order : MoveOrder) (w : Core J) : Type 0 where
     pub none : w.placements.awaited ≡ 0
     pub within : IsWithin (length w.placements.placements) w.placements.executors order
-    pub room : length (queue_of order.to w.inboxes) < 1024
+    pub room : length (queue_of order.to w.inboxes) < INBOX
 
   -- The move is outstanding, and its order is appended to the inbox of its destination.
   abbrev pub ordering : MoveOrder → Core J → Core J

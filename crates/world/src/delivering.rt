@@ -11,10 +11,11 @@ ghost use Rattle.world.specs.Shards.{IsShardOf};
 
 use crate::flight::{Envelope, Item, Load, Message, Outgoing};
 use crate::homes::{home_of_message as home_of, is_for_slice as needs_slice};
-use crate::world::{Core, INBOX};
+use crate::world::Core;
 use commit_log::Names;
 use history::EventAnswer;
 use range_moves::{Found, Moving};
+use rows::INBOX;
 use std::alloc::Global;
 
 impl<J: Names> Core<J> {
@@ -160,7 +161,7 @@ impl<J: Names> Core<J> {
     pub(crate) fn hand_out(&mut self, to: u32)
         requires there { to < length self.old.inboxes }
         requires one { length self.old.parts.inbox ≤ 1 }
-        requires room { 1 ≤ length self.old.parts.inbox → length (queue_of to self.old.inboxes) < 1024 }
+        requires room { 1 ≤ length self.old.parts.inbox → length (queue_of to self.old.inboxes) < INBOX }
         ensures { self.new ≡ beginning_at to self.old.parts self.old }
     {
         if let Some(message) = self.parts.inbox.take() {

@@ -6,10 +6,11 @@ ghost use Rattle.world.specs.Happening.{Happens};
 ghost use Rattle.world.specs.Together.{IsSound, together};
 ghost use Rattle.world.specs.Worlds.{Advances};
 
-use crate::world::{Core, INBOX};
+use crate::world::Core;
 use commit_log::Names;
 use history::{Event, EventAnswer};
 use requests::Request;
+use rows::INBOX;
 use std::alloc::Global;
 use transactions::{claims_are_of_the_footprint, home_of_request};
 

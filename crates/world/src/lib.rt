@@ -39,4 +39,4 @@ pub use queues::Queues;
 pub use sending::Release;
 pub use simulating::{Simulation, simulate};
 pub use slots::{MOST_ACTIVE, Slots};
-pub use world::{Core, GatherFault, INBOX, Parts, World};
+pub use world::{Core, GatherFault, Parts, World};

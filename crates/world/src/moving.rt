@@ -14,10 +14,11 @@ ghost use Rattle.world.specs.Worlds.{Advances};
 
 use crate::flight::{Envelope, Load, Outgoing};
 use crate::homes::home_of_message;
-use crate::world::{Core, INBOX};
+use crate::world::Core;
 use commit_log::Names;
 use history::EventAnswer;
 use range_moves::{MoveOrder, Moving};
+use rows::INBOX;
 
 impl<J: Names> Core<J> {
     // Orders a move, if it is a possible one, no other is outstanding, and its destination's inbox has room.

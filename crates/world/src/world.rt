@@ -18,14 +18,12 @@ use commit_log::{Entry, Log, Names};
 use history::{Event, EventAnswer};
 use partitions::Catalog;
 use range_moves::Placements;
+use rows::INBOX;
 use schema::{NoMemory, Tables};
 use slices::whole;
 use std::alloc::Global;
 use std::marker::Model;
 use transactions::{Shard, claims_are_of_the_footprint};
-
-/// The number of messages an inbox has room for.
-pub const INBOX: usize = 1024;
 
 /// The state that an event works on.
 #[derive(Drop)]
@@ -35,7 +33,7 @@ pub struct Parts<J: Names> {
     /// One for each warehouse, in order: its slice and the actions that wait there.
     pub shards: Vec<Shard<J, Carried<J>>>,
     /// The message that a submission puts, until it is handed out. Empty between events.
-    pub inbox: Queue<Message<J>, 1024>,
+    pub inbox: Queue<Message<J>, INBOX>,
     /// The items that an event puts, until they are moved to an outbox. Empty between events.
     pub outbox: Queue<Item<J>, 4096>,
     pub desk: Desk<J>,
@@ -51,7 +49,7 @@ pub struct Core<J: Names> {
     /// Messages parked for a slice that is on its way, at the executor that gets the slice, in the order of parking.
     pub parked: Queue<Message<J>, 4096>,
     /// The inbox of each executor, by executor number.
-    pub inboxes: Queues<Envelope<J>, 1024>,
+    pub inboxes: Queues<Envelope<J>, INBOX>,
     /// The outbox of each executor, by executor number.
     pub outboxes: Queues<Outgoing<J>, 4096>,
 }

@@ -7,6 +7,7 @@ ghost use Rattle.command_line.specs.Words.{AsksToPopulate};
 use crate::settings::arguments::{argument, counted, moment, named, number, option, quiet, word};
 use crate::usage::UsageFault;
 use clap::{ArgMatches, Command};
+use rows::MOST_WAREHOUSES;
 use schema::{Moment, Scale};
 use std::alloc::{AllocError, Global};
 
@@ -28,7 +29,13 @@ pub fn read<'a>(matches: &ArgMatches<'a>) -> Result<PopulateSettings<'a>, UsageF
     ensures asked { IfOk result (AsksToPopulate (found_of matches.now)) }
     ensures mistake { IfErr result (IsPopulateFault (found_of matches.now)) }
 {
-    let warehouses = number(matches.get_str("warehouses"), 1, 1, 64, "--warehouses")?;
+    let warehouses = number(
+        matches.get_str("warehouses"),
+        1,
+        1,
+        MOST_WAREHOUSES,
+        "--warehouses",
+    )?;
     let items = number(matches.get_str("items"), 100_000, 1, 100_000, "--items")?;
     let customers = number(matches.get_str("customers"), 3_000, 1, 3_000, "--customers")?;
     let Some(scale) = Scale::checked_new(warehouses, items, customers) else {

@@ -13,9 +13,13 @@ use crate::settings::arguments::{
 use crate::settings::mix::mix;
 use crate::usage::UsageFault;
 use clap::{ArgMatches, Command};
+use rows::{MOST_ENTRIES, MOST_WAREHOUSES};
 use schema::Moment;
 use std::alloc::{AllocError, Global};
 use workload::Mix;
+
+// A script has no more requests than a log has entries.
+const MOST_REQUESTS: u32 = MOST_ENTRIES as u32;
 
 /// The settings of `tpcc script`: paths of files, and the parameters of the scripts.
 #[derive(Debug, Drop)]
@@ -81,7 +85,7 @@ fn with_files<'a>(
             matches.get_str("requests"),
             1_000,
             0,
-            16_777_216,
+            MOST_REQUESTS,
             "--requests",
         )?,
         seed: number(matches.get_str("seed"), 1, 0, u32::MAX, "--seed")?,
@@ -111,12 +115,12 @@ fn has_twice(files: &[&str]) -> bool
 // The home warehouse of an option.
 fn home(words: Option<&str>) -> Result<Option<u32>, UsageFault>
     ensures value { IfOk result (IsHome (option_map (λ word. word.now) words.entry)) }
-    ensures fits { OnOk result (IsNumberWord 1 64 (option_map (λ word. word.now) words.entry)) }
-    ensures mistake { IfErr result (IsNumberFault (codes "--home") 1 64 (option_map (λ word. word.now) words.entry)) }
+    ensures fits { OnOk result (IsNumberWord 1 MOST_WAREHOUSES (option_map (λ word. word.now) words.entry)) }
+    ensures mistake { IfErr result (IsNumberFault (codes "--home") 1 MOST_WAREHOUSES (option_map (λ word. word.now) words.entry)) }
 {
     match words {
         None => Ok(None),
-        words => Ok(Some(number(words, 1, 1, 64, "--home")?)),
+        words => Ok(Some(number(words, 1, 1, MOST_WAREHOUSES, "--home")?)),
     }
 }
 

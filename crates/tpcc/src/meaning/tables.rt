@@ -5,6 +5,7 @@ ghost use Rattle.std.specs.Prelude.{◌<◌, IfSome};
 use crate::meaning::search::Search;
 use crate::meaning::spelling::Spelling;
 use files::{FaultKind, Fields};
+use rows::{LAST_LINE, MOST_WAREHOUSES};
 
 /// What the check of a record of a dataset needs of the records before it.
 #[derive(Clone, Copy, Debug)]
@@ -24,7 +25,7 @@ const LETTERS: Spelling = Spelling::Said("one of I, W, D, S, C, H, O, N and L, o
 pub fn header(search: &mut Search<'_>) {
     search.field("the word of a dataset", Spelling::Header("TPCC"));
     search.field("the format", Spelling::Header("1"));
-    search.field("how many warehouses", Spelling::Whole(1, 64));
+    search.field("how many warehouses", Spelling::Whole(1, MOST_WAREHOUSES));
     search.field("how many items", Spelling::Whole(1, 100_000));
     search.field(
         "how many customers of a district",
@@ -71,7 +72,7 @@ impl Tables {
     pub fn new() -> Tables {
         Tables {
             rows: [0; 9],
-            warehouses: 64,
+            warehouses: MOST_WAREHOUSES,
             items: 100_000,
             customers: 3_000,
         }
@@ -82,7 +83,7 @@ impl Tables {
         let first = fields.word();
         if first == "TPCC" {
             fields.word();
-            self.warehouses = fields.whole(1, 64);
+            self.warehouses = fields.whole(1, MOST_WAREHOUSES);
             self.items = fields.whole(1, 100_000);
             self.customers = fields.whole(1, 3_000);
         }
@@ -209,13 +210,13 @@ impl Tables {
         search.field("O_C_ID", Spelling::Whole(1, self.customers));
         search.field("O_ENTRY_D", Spelling::Moment);
         search.field("O_CARRIER_ID", Spelling::MaybeWhole(1, 10));
-        search.field("O_OL_CNT", Spelling::Whole(1, 15));
+        search.field("O_OL_CNT", Spelling::Whole(1, LAST_LINE));
         search.field("O_ALL_LOCAL", Spelling::Whole(0, 1));
     }
 
     fn line(&self, search: &mut Search<'_>) {
         self.order_key(search, "OL_W_ID", "OL_D_ID", "OL_O_ID");
-        search.field("OL_NUMBER", Spelling::Whole(1, 15));
+        search.field("OL_NUMBER", Spelling::Whole(1, LAST_LINE));
         search.field("OL_I_ID", Spelling::Whole(1, self.items));
         search.field("OL_SUPPLY_W_ID", self.of_warehouses());
         search.field("OL_DELIVERY_D", Spelling::MaybeMoment);

@@ -1,6 +1,7 @@
 //! The step after the second phase of a New-Order, from what the groups of its stock found.
 ghost use Rattle.std.specs.Prelude.{◌≡◌, ◌≤◌, ◌*◌, ◌+◌, length, map, IfOk};
 ghost use Rattle.std.specs.List.{filter_map, list_all, list_any};
+ghost use Rattle.rows.specs.declared.limits.TheConstants.{MOST_LINES};
 ghost use Rattle.machine.specs.NewOrder.{order_key, sum_of};
 ghost use Rattle.machine.specs.NewOrderLines.{IsOrderWithin};
 ghost use Rattle.transactions.specs.NewOrder.{all_sold, decided, in_order, is_no_item, is_taken, order_placed};
@@ -119,7 +120,7 @@ fn filled_places(alloc: Global, places: Vec<Option<LineSold>>) -> Result<Vec<Lin
 // The rows to be added, and the reply.
 fn placed(alloc: Global, given: OrderBegun, sold: Vec<LineSold>) -> Result<OrderPlaced, NoMemory>
     requires within { IsOrderWithin given.order }
-    requires few { length sold.items ≤ 15 }
+    requires few { length sold.items ≤ MOST_LINES }
     ensures { IfOk result (λ r. r ≡ order_placed given.order given.home given.orderer sold.items) }
 {
     let OrderBegun {
@@ -162,9 +163,9 @@ fn key_of(home: DistrictKey, o_id: u32) -> OrderKey
 
 // The sum of the lines' amounts, in cents.
 fn sum_sold(sold: &[LineSold]) -> u32
-    requires { length sold.now ≤ 15 }
+    requires { length sold.now ≤ MOST_LINES }
     ensures value { result ≡ sum_of (map (λ line. line.row) sold.now) }
-    ensures fits { result ≤ 15 * 999999 }
+    ensures fits { result ≤ MOST_LINES * 999999 }
 {
     let mut sum = 0;
     for line in sold {

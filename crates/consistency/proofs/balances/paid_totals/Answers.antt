@@ -2,6 +2,7 @@ use Rattle.std.proofs.Common.{◌≡◌, ◌+◌, ◌*◌, ◌≤◌, ◌^◌, �
 use Rattle.std.proofs.lemmas.Int.{ints}
 use Rattle.std.specs.Prelude.{ℤ, pos, ◌+ℤ◌, ◌-ℤ◌}
 use Rattle.rows.specs.declared.keys.CustomerKey.{CustomerKey}
+use Rattle.rows.specs.declared.limits.TheConstants.{MOST_WAREHOUSES}
 use Rattle.schema.specs.declared.scale.Scale.{Scale}
 use Rattle.schema.specs.Database.{Database}
 use Rattle.schema.specs.Rows.{database}
@@ -36,7 +37,7 @@ pub credit_payers-requires-clause-within : goal.credit_payers-requires-clause-wi
 credit_payers-requires-clause-within c =
     let fits = c.rows-rows.ensures.fits in
     let limits = c.args.tables.now.scale.limits in
-    let few : c.loop-list.list-index ≤ 640 = omega (arith, fits.counts.histories, limits.most_warehouses, ap length c.deref-list-items.ensures.value) in
+    let few : c.loop-list.list-index ≤ 10 * MOST_WAREHOUSES = omega (arith, fits.counts.histories, limits.most_warehouses, ap length c.deref-list-items.ensures.value) in
     subst (λ (totals : List ℤ). AreWithin (2 ^ 124) totals) (sym c.deref_mut.ensures.value)
     (within-more (2 ^ 114 * c.loop-list.list-index) (2 ^ 124) c.loop-list.totals.items (omega arith) c.loop-list.invariant.within)
 
@@ -80,5 +81,5 @@ pub returns-clause-within : goal.returns-clause-within
 returns-clause-within c =
     let fits = c.rows-rows.ensures.fits in
     let limits = c.args.tables.now.scale.limits in
-    let few : c.loop-list.list-index ≤ 640 = omega (arith, fits.counts.histories, limits.most_warehouses, ap length c.deref-list-items.ensures.value) in
+    let few : c.loop-list.list-index ≤ 10 * MOST_WAREHOUSES = omega (arith, fits.counts.histories, limits.most_warehouses, ap length c.deref-list-items.ensures.value) in
     within-more (2 ^ 114 * c.loop-list.list-index) (2 ^ 124) c.loop-list.totals.items (omega arith) c.loop-list.invariant.within

@@ -3,6 +3,7 @@ use Rattle.std.proofs.lemmas.Simd.{map-map}
 use Rattle.std.proofs.lemmas.Map.Iter.{iter_turn, iter_end}
 use Rattle.rows.specs.declared.keys.OrderKey.{OrderKey}
 use Rattle.rows.specs.declared.records.Order.{Order}
+use Rattle.rows.specs.declared.limits.TheConstants.{LAST_LINE}
 use Rattle.schema.specs.Entries.{entry}
 use Rattle.schema.specs.Consistency.{orders_of}
 use Rattle.consistency.proofs.line_counts.sum_line_counts.Goals as goal
@@ -14,8 +15,8 @@ overflow_add-lines c =
     let turn = iter_turn entry orders c.loop-order.yielded _ c.loop-order.order-iterator c.next.new.self c.next.result start c.loop-order.yielded_by (c.in-Some.field-0-0, c.in-Some.order) c.in-Some.is c.next.ensures.steps in
     let few : length orders ≤ 9999999 = omega (arith, c.orders_of-order-items.ensures.few, ap length c.orders_of-order-items.ensures.rows) in
     let within : length c.loop-order.yielded < length orders = turn.0 in
-    let small : c.loop-order.lines ≤ 15 * length c.loop-order.yielded = c.loop-order.invariant.1 in
-    let more : c.get.result ≤ 15 = omega (arith, c.get.ensures.value, c.get.ensures.high) in
+    let small : c.loop-order.lines ≤ LAST_LINE * length c.loop-order.yielded = c.loop-order.invariant.1 in
+    let more : c.get.result ≤ LAST_LINE = omega (arith, c.get.ensures.value, c.get.ensures.high) in
     omega arith
 
 pub returns : goal.returns

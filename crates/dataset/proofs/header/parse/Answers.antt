@@ -11,6 +11,7 @@ use Rattle.dataset.specs.FirstFault.{reported_header}
 use Rattle.dataset.specs.Records.{Words, Number}
 use Rattle.dataset.proofs.Taking.{takes-then, takes-one, takes-number, all_spelt, same_word, header_spelt}
 use Rattle.std.proofs.Common.{◌≡◌, None, length, arith}
+use Rattle.rows.specs.declared.limits.TheConstants.{MOST_WAREHOUSES}
 use Rattle.files.specs.Taken.{fields_left}
 use Rattle.dataset.proofs.header.parse.Goals.{After-finish, then-left-ne5-via-then-left-ne5, then-left-ne5-via-else-left-ne5+then-ne, then-left-ne5-via-else-left-ne5+else-ne+then-ne-2}
 use Rattle.dataset.proofs.header.parse.Goals as goal
@@ -53,7 +54,7 @@ reported c free =
     let version = same_word c.word-else-ne.result.now (codes "1") c.ne-else-ne.result c.ne-else-ne.ensures c.if-ne-2.false in
     let five : length (fields_left c.args.fields.now) ≡ 5 = omega arith in
     let columns =
-    and_then (whole 1 64 c.word-else-ne.new.self c.whole-warehouses.new.self c.whole-warehouses.ensures.field)
+    and_then (whole 1 MOST_WAREHOUSES c.word-else-ne.new.self c.whole-warehouses.new.self c.whole-warehouses.ensures.field)
     (and_then (whole 1 100000 c.whole-warehouses.new.self c.whole-items.new.self c.whole-items.ensures.field)
     (whole 1 3000 c.whole-items.new.self c.whole-customers.new.self c.whole-customers.ensures.field)) in
     sym (header_reported c.args.fields.now c.word.new.self c.word-else-ne.new.self c.whole-customers.new.self c.word.result.now c.word-else-ne.result.now (fault_of c.finish.new.self) free five name c.word.ensures.field version c.word-else-ne.ensures.field

@@ -1,4 +1,5 @@
 use Rattle.std.proofs.Common.{refl}
+use Rattle.rows.specs.declared.limits.TheConstants.{LAST_LINE}
 use Rattle.files.specs.Columns.{MaybeMoment, Whole, Words}
 use Rattle.dataset.specs.Columns.{Lines}
 use Rattle.dataset.specs.TableRow.{TableRow, OfLine}
@@ -18,7 +19,7 @@ takes c =
     (read_then (Whole 1 l.scale.warehouses) c.whole.ensures.field
     (read_then (Whole 1 10) c.whole-2.ensures.field
     (read_then (Whole 1 9999999) c.whole-3.ensures.field
-    (read_then (Whole 1 15) c.whole-4.ensures.field
+    (read_then (Whole 1 LAST_LINE) c.whole-4.ensures.field
     (read_then (Whole 1 l.scale.items) c.whole-5.ensures.field
     (read_then (Whole 1 l.scale.warehouses) c.whole-6.ensures.field
     (read_then (MaybeMoment) c.optional_moment.ensures.field

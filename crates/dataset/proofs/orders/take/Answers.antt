@@ -1,4 +1,5 @@
 use Rattle.std.proofs.Common.{◌==◌, refl}
+use Rattle.rows.specs.declared.limits.TheConstants.{LAST_LINE}
 use Rattle.files.specs.Columns.{MaybeWhole, Moment, Whole}
 use Rattle.dataset.specs.Columns.{Orders, order_key, sizes}
 use Rattle.dataset.specs.TableRow.{TableRow, OfOrder}
@@ -19,7 +20,7 @@ takes c =
     (read_then (Whole 1 l.scale.customers) c.whole.ensures.field
     (read_then (Moment) c.moment.ensures.field
     (read_then (MaybeWhole 1 10) c.optional_ranged.ensures.field
-    (read_then (Whole 1 15) c.ranged.ensures.field
+    (read_then (Whole 1 LAST_LINE) c.ranged.ensures.field
     (read_then (Whole 0 1) c.whole-2.ensures.field read_none))))))
     (λ i. OfOrder (c.key-key.ensures.value i) (record { c_id = c.whole.result; entry_d = c.moment.result; carrier_id = c.optional_ranged.result; ol_cnt = c.ranged.result; all_local = c.whole-2.result == 1 }))
 

@@ -4,6 +4,7 @@ use Rattle.std.specs.FinMap as table
 use Rattle.schema.specs.Scale.{has_warehouse, customer_key}
 use Rattle.schema.specs.OrderRows.{with_order}
 use Rattle.rows.specs.Ranged.{is_between}
+use Rattle.rows.specs.declared.limits.TheConstants.{MOST_LINES}
 use Rattle.machine.specs.declared.new_order_lines.LinesPlaced.{LinesPlaced}
 use Rattle.machine.specs.Outcome.{Outcome, rolled_back}
 use Rattle.machine.specs.NewOrder.{new_order, new_order_reply, order_key, order_row, items_found}
@@ -26,7 +27,7 @@ ready c =
     (sym (c.if-not-has_items.ensures ∙ ap (λ lines. is_some (items_found t lines)) c.as_slice.ensures))
     (sym (ap (option_map (λ (p : LinesPlaced). (p.rows.items, p.shown.items, p.stocks.items))) c.in-Some-2.is) ∙ c.in_ok-placed.ensures)
 
-few_rows : (c : In-Some-2) → length c.in-Some-2.placed.rows.items ≤ 15
+few_rows : (c : In-Some-2) → length c.in-Some-2.placed.rows.items ≤ MOST_LINES
 few_rows c = omega (arith, (ready c).counted, c.requires.within.most_lines)
 
 out_of_range : (c : In_default-2) → new_order c.args.tables.now c.args.order.now ≡ rolled_back c.args.tables.now Range

@@ -34,7 +34,7 @@ loop-init g c =
     ap (λ (qs : List (List (Outgoing g.row.J.Denot))). queue_of e qs) c.put.ensures ∙ get_or-set_same old.outboxes e (queue_of e old.outboxes ++ one) [] can.there in
     record {
       there = omega (arith, can.there, ap (λ (qs : List (List (Outgoing g.row.J.Denot))). length qs) c.put.ensures, length-set old.outboxes e (queue_of e old.outboxes ++ one));
-      room = omega (arith, can.room, can.parked, ap (λ (q : List (Outgoing g.row.J.Denot)). length q) queue, length-append (queue_of e old.outboxes) one);
+      room = omega (arith, can.room, ap (λ (q : List (Outgoing g.row.J.Denot)). length q) queue, length-append (queue_of e old.outboxes) one);
       few = omega arith;
       round = ([], (old.parked, (refl, (refl, λ k. record old { placements = c.install.ensures k; parked = sym (append-nil old.parked) k; outboxes = c.put.ensures k }))));
     }
@@ -55,7 +55,7 @@ home_of_message-requires g c =
 pub put-requires-else-home_of_message-w_id : goal.put-requires-else-home_of_message-w_id
 put-requires-else-home_of_message-w_id g c =
     let can = can_open (shared_of g.J.LogNames.opening) c.args.executor (Move (moving.Parcel c.args.w_id)) c.args.self.now c.requires in
-    let room : length c.take.new.self < 4096 = omega (arith, can.parked, c.loop.invariant.few, ap (λ (ms : List (Message g.row.J.Denot)). length ms) c.in-Some.ensures.first) in
+    let room : length c.take.new.self < 4096 = omega (arith, can.room, c.loop.invariant.few, ap (λ (ms : List (Message g.row.J.Denot)). length ms) c.in-Some.ensures.first) in
     (omega arith, room)
 
 pub loop-preserved : goal.loop-preserved

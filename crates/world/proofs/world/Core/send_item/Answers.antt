@@ -16,9 +16,8 @@ post_all-requires-clause-homes g c =
 
 pub post_all-requires-clause-room : goal.post_all-requires-clause-room
 post_all-requires-clause-room g c =
-    let can = can_post (shared_of g.J.LogNames.opening) c.args.executor (outgoing.Item c.args.item) c.args.self.now c.requires.sending in
     let more = can_post_item (shared_of g.J.LogNames.opening) c.args.executor c.args.item c.args.self.now c.requires.sending c.send_item-answer.result c.send_item-answer.new.self c.send_item-answer.ensures.sends in
-    omega (arith, can.0.room, more.1)
+    omega (arith, more.1)
 
 pub returns : goal.returns
 returns g c = (c.send_item-answer.new.self, (c.send_item-answer.ensures.sends, c.post_all.ensures))

@@ -17,5 +17,5 @@ put-requires g c =
 pub put-requires-in-Unknown : goal.put-requires-in-Unknown
 put-requires-in-Unknown g c =
     let can = can_open (shared_of g.J.LogNames.opening) c.args.executor (Work c.args.message) c.args.self.now c.requires.opening in
-    let room : length c.args.self.now.parked < 4096 = omega (arith, can.parked) in
+    let room : length c.args.self.now.parked < 4096 = omega (arith, can.room) in
     (omega arith, room)

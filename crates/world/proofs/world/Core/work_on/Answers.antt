@@ -21,8 +21,7 @@ post_all-requires-clause-homes g c = (can_post_work c.requires.once (shared_of g
 
 pub post_all-requires-clause-room : goal.post_all-requires-clause-room
 post_all-requires-clause-room g c =
-    let can = can_open (shared_of g.J.LogNames.opening) c.args.executor (Work c.args.message) c.args.self.now c.requires.opening in
-    omega (arith, can.room, (can_post_work c.requires.once (shared_of g.J.LogNames.opening) c.args.executor c.args.message c.args.self.now c.requires.opening c.work.new.self c.work.ensures.takes).1)
+    omega (arith, (can_post_work c.requires.once (shared_of g.J.LogNames.opening) c.args.executor c.args.message c.args.self.now c.requires.opening c.work.new.self c.work.ensures.takes).1)
 
 pub returns-clause-works : goal.returns-clause-works
 returns-clause-works g c = (c.work.new.self, (c.work.ensures.takes, c.post_all.ensures))

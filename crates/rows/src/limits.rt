@@ -1,0 +1,23 @@
+//! How many there may be of what orders, transactions, a database and a run of it are made of, each
+//! limit once for all crates.
+
+/// The fewest lines of an order.
+pub const FEWEST_LINES: usize = 5;
+
+/// The most lines of an order.
+pub const MOST_LINES: usize = 15;
+
+/// The number of the last of that many lines, which are numbered from 1.
+pub const LAST_LINE: u32 = 15;
+
+/// The most lines of a district's 20 latest orders.
+pub const RECENT_LINES: usize = 20 * MOST_LINES;
+
+/// The most warehouses of a database.
+pub const MOST_WAREHOUSES: u32 = 64;
+
+/// The most entries of a log.
+pub const MOST_ENTRIES: usize = 16_777_216;
+
+/// The messages that the inbox of an executor has room for.
+pub const INBOX: usize = 1024;
