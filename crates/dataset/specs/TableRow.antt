@@ -167,7 +167,7 @@ row_of scale Lines (w_id, (d_id, (o_id, (number, (i_id, (supply_w_id, (delivery_
       dist_info = dist_info;
     })
 
--- the same from the fields themselves; the value of a faulty field does not matter
+-- the same from the fields themselves; the value of a faulty field is irrelevant
 abbrev pub row_read : (scale : Sizes) (table : Table) → List (List ℕ) → TableRow
 row_read scale table fields = row_of scale table (read_columns (record_columns scale table) (record { left = fields; fault = None })).0
 

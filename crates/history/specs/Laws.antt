@@ -18,7 +18,7 @@ use Rattle.history.specs.Fits.{Fits}
 abbrev pub EmptyHistoryFits : Type 0
 EmptyHistoryFits = (opening : Database) → Consistent opening → Fits opening [] [] opening 0 []
 
--- the order in which the transactions without an answer are listed does not matter
+-- the order in which the transactions without an answer are listed is irrelevant
 abbrev pub UnansweredInAnyOrder : Type 0
 UnansweredInAnyOrder =
     (opening : Database) (history : List Step) (log : List Entry) (tables : Database) (admitted : ℕ) (pending other : List UnansweredTransaction)

@@ -7,7 +7,7 @@ pub fn empty_history_fits()
     ensures { EmptyHistoryFits }
 {}
 
-/// The order in which the unanswered transactions are listed does not matter.
+/// The order in which the unanswered transactions are listed is irrelevant.
 pub fn unanswered_in_any_order()
     ensures { UnansweredInAnyOrder }
 {}

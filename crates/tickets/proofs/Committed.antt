@@ -71,7 +71,7 @@ to_middle : (xs ys : List ClaimView) (x : ClaimView) → IsPermutation (x ∷ (x
 to_middle xs ys x = subst (λ zs. IsPermutation (x ∷ (xs ++ ys)) zs) (append_assoc xs (x ∷ []) ys) (IsPermutation-append_left ys (x ∷ xs) (xs ++ x ∷ []) (IsPermutation-sym (xs ++ x ∷ []) (x ∷ xs) (IsPermutation-to_front xs x)))
 
 module _ (here : Group → Bool) where
-  -- the order of the claims doesn't matter
+  -- the order of the claims is irrelevant
   pub AreCommitted-permutation : (tables : Group → Content) (slice : GroupsOfSlice) (xs ys : List ClaimView) → IsPermutation xs ys → AreCommitted here tables slice xs → AreCommitted here tables slice ys
   AreCommitted-permutation tables slice xs ys moved h = record {
     tickets = λ group near. ap (λ n. n + slice.free group) (sum_by-IsPermutation (tickets_of group) xs ys moved) ∙ h.tickets group near;

@@ -67,7 +67,7 @@ pub record GroupsOfSlice : Type 0 where
 -- These tables are the committed ones in the groups that are here, those of one slice, while these claims are out.
 -- Each of a group's eight tickets is out or at home. Each claim records what the tables have in its group. The rows
 -- of an exclusive claim's group are what the claim left. In a group with no exclusive claim the rows are what is
--- committed. Claims on groups elsewhere may be among the claims, and don't matter here.
+-- committed. Claims on groups elsewhere may be among the claims, and are ignored here.
 pub record AreCommitted (here : Group → Bool) (tables : Group → Content) (slice : GroupsOfSlice) (claims : List ClaimView) : Type 0 where
   pub tickets : (group : Group) → IsTrue (here group) → tickets_out group claims + slice.free group ≡ 8
   pub recorded : All (RecordsHere here tables) claims

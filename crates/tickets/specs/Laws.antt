@@ -39,7 +39,7 @@ IsElsewhere here claim = here claim.group ≡ false
 
 -- ---- what each step does
 
--- The order of the claims doesn't matter.
+-- The order of the claims is irrelevant.
 abbrev pub OrderDoesNotMatter : Type 0
 OrderDoesNotMatter =
     (here : Group → Bool) (tables : Group → Content) (slice : GroupsOfSlice) (claims others : List ClaimView)

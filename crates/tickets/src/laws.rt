@@ -6,7 +6,7 @@ pub fn order_does_not_matter()
     ensures { OrderDoesNotMatter }
 {}
 
-/// A claim on a group of another slice doesn't matter for this slice, and a change of that claim changes
+/// A claim on a group of another slice is irrelevant for this slice, and a change of that claim changes
 /// nothing here.
 pub fn claims_elsewhere_say_nothing()
     ensures claims { ClaimElsewhereSaysNothing }
