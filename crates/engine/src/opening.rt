@@ -124,7 +124,7 @@ pub fn open<'a, J: ServeNames, G: Gate + Drop>(
         room,
         interactive as u32,
     )?;
-    open_posts(alloc, &mut executors, &routing, slices)?;
+    open_shards(alloc, &mut executors, &routing, slices)?;
     begin_sessions(&mut executors, &routing, scripts)?;
     let moves = Moves::new(moves);
     if let Some(order) = moves.begin_next() {
@@ -173,7 +173,7 @@ fn requests_in(scripts: &[Script]) -> usize {
 }
 
 // Gives each executor the shards of its warehouses.
-fn open_posts<J: ServeNames>(
+fn open_shards<J: ServeNames>(
     alloc: Global,
     executors: &mut Vec<Executor<J>>,
     routing: &Routing,

@@ -41,7 +41,7 @@ use Rattle.tickets.proofs.Apart.{apart}
 use Rattle.indexes.specs.LatestOrder.{is_order_by, order_numbers}
 use Rattle.indexes.specs.LatestOrder as latest
 use Rattle.indexes.specs.LatestIndex.{FitsLatestBy}
-use Rattle.slices.specs.declared.kept.UndoRecord.TheVariants as k
+use Rattle.slices.specs.declared.undo_record.UndoRecord.TheVariants as k
 use Rattle.slices.specs.Undo.{CanTakeBackDelivery, ChangesGroup, IsStep, with_order_delivered, with_order_undelivered}
 use Rattle.slices.proofs.Orders.{row_here, row_elsewhere}
 use Rattle.slices.proofs.Steps.{changes_to}

@@ -20,7 +20,7 @@ use Rattle.local_locks.specs.LockTableView.{AreStandsOf, HeldClaim, LockTableVie
 use Rattle.local_locks.proofs.Keeping.{returns_keep}
 use Rattle.local_locks.proofs.Left.{others_left}
 use Rattle.local_locks.proofs.Members.{contains_here}
-use Rattle.slices.specs.declared.kept.UndoRecord.{UndoRecord}
+use Rattle.slices.specs.declared.undo_record.UndoRecord.{UndoRecord}
 use Rattle.slices.specs.UndoLogs.{UndoLogView, slice_view, AreUndoLogsOf, IsUndoLogOf, IsSlice}
 use Rattle.slices.specs.SliceView.{at_home, free_at, standing, SliceKeeps}
 use Rattle.slices.specs.Undo.{all_put_back_in, AreKept, ChangesGroup, IsStep}

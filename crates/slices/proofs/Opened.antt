@@ -16,7 +16,7 @@ use Rattle.tickets.specs.Openings.{OpenedGroup, box_beside}
 use Rattle.tickets.specs.Places.{IsGroupOf, place_of}
 use Rattle.tickets.specs.Unset.{no_table}
 use Rattle.tickets.proofs.OnePlace.{place_injective, place_inside}
-use Rattle.slices.specs.declared.kept.UndoRecord.{UndoRecord}
+use Rattle.slices.specs.declared.undo_record.UndoRecord.{UndoRecord}
 use Rattle.slices.specs.UndoLogs.{UndoLogView, undo_log_view, IsUndoLogOf, IsSlice}
 use Rattle.slices.specs.Openings.{AreOpenedFor, IsBoxOf, AreHomeBoxesOf, OpenedGroupsHaveBoxes}
 

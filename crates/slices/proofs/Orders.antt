@@ -31,7 +31,7 @@ use Rattle.groups.specs.Laws.{StandInOne, order_in, new_order_in, line_in}
 use Rattle.groups.proofs.Parts.{rows_of-insert_own, rows_of-insert_other, rows_of-remove_own, rows_of-remove_other}
 use Rattle.groups.proofs.RowsInGroups.{each_row_stands_in_one_group, same_row}
 use Rattle.tickets.proofs.Apart.{apart}
-use Rattle.slices.specs.declared.kept.UndoRecord.TheVariants as k
+use Rattle.slices.specs.declared.undo_record.UndoRecord.TheVariants as k
 use Rattle.slices.specs.Undo.{AreOrdersWithin, CanTakeBackOrder, ChangesGroup, IsStep, with_order_more, with_order_back}
 use Rattle.slices.proofs.Steps.{changes_to}
 

@@ -30,8 +30,8 @@ use Rattle.groups.specs.Laws.{ChangesOneGroup, with_warehouse, with_district, wi
 use Rattle.groups.proofs.Parts.{get-insert_here}
 use Rattle.groups.proofs.RowsInGroups.{each_row_stands_in_one_group}
 use Rattle.groups.proofs.RowsPut.{each_put_changes_one_group}
-use Rattle.slices.specs.declared.kept.UndoRecord.{UndoRecord}
-use Rattle.slices.specs.declared.kept.UndoRecord.TheVariants as k
+use Rattle.slices.specs.declared.undo_record.UndoRecord.{UndoRecord}
+use Rattle.slices.specs.declared.undo_record.UndoRecord.TheVariants as k
 use Rattle.slices.specs.Undo.{group_of_kept, put_back_in, all_put_back_in, AreKept, AreNamesAt, CanPutBack, ChangesGroup, IsStep, with_payment_more, with_payment_fewer}
 
 pub All-last : {X : Type 0} (P : X → Type 0) (xs : List X) (x : X) → All P (xs ++ x ∷ []) → P x

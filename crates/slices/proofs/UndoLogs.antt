@@ -15,7 +15,7 @@ use Rattle.tickets.specs.Unset.{nothing}
 use Rattle.local_locks.specs.Asking.{kept_after, left_after}
 use Rattle.local_locks.specs.LockTableView.{AreStandsOf, Stand, back_in, left_in}
 use Rattle.local_locks.proofs.Covering.{one_group}
-use Rattle.slices.specs.declared.kept.UndoRecord.{UndoRecord}
+use Rattle.slices.specs.declared.undo_record.UndoRecord.{UndoRecord}
 use Rattle.slices.specs.UndoLogs.{UndoLogView, undo_log_view, IsUndoLogOf, AreUndoLogsOf}
 use Rattle.slices.specs.Undo.{put_back_in, all_put_back_in, AreKept, ChangesGroup, IsStep}
 use Rattle.slices.proofs.Homes.{place_known}

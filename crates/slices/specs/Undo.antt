@@ -26,8 +26,8 @@ use Rattle.groups.specs.Groups.{group_of_warehouse, group_of_district, group_of_
 use Rattle.groups.specs.Content.{Content, content}
 use Rattle.groups.specs.Content.Content.{OfOrders, OfHistory}
 use Rattle.groups.specs.Laws.{ChangesOneGroup, warehouse_in, district_in, customer_in, order_in, new_order_in, line_in, history_in, stock_in, with_warehouse, with_district, with_customer, with_stock}
-use Rattle.slices.specs.declared.kept.UndoRecord.{UndoRecord}
-use Rattle.slices.specs.declared.kept.UndoRecord.TheVariants.{Warehouse, District, Stock, Customer, NoPayment, Order, Delivery}
+use Rattle.slices.specs.declared.undo_record.UndoRecord.{UndoRecord}
+use Rattle.slices.specs.declared.undo_record.UndoRecord.TheVariants.{Warehouse, District, Stock, Customer, NoPayment, Order, Delivery}
 
 -- the contents of a district's list with one more payment at its end
 abbrev pub with_payment_more : History → Content → Content

@@ -3,7 +3,7 @@ use Rattle.std.specs.Prelude.{◌≡◌, ℕ, ◌<◌, List, length, slice_index
 use Rattle.partitions.specs.Parts.{Part}
 use Rattle.groups.specs.Content.{content}
 use Rattle.local_locks.specs.LockTableView.{LockTableView, Stand}
-use Rattle.slices.specs.declared.kept.UndoRecord.{UndoRecord}
+use Rattle.slices.specs.declared.undo_record.UndoRecord.{UndoRecord}
 use Rattle.slices.specs.SliceView.{SliceView}
 use Rattle.slices.specs.Undo.{all_put_back_in, AreKept}
 

@@ -11,13 +11,13 @@
 mod changes;
 mod cutting;
 mod indexed;
-mod kept;
 mod laws;
 mod opening;
 mod row_steps;
 mod slice;
 mod step;
 mod undo_log;
+mod undo_record;
 
 pub use cutting::{cut, whole};
 pub use laws::{

@@ -10,8 +10,8 @@ ghost use Rattle.slices.specs.Undo.{AreNamesAt, IsOrderFor, with_order_delivered
 ghost use Rattle.slices.specs.HomeRows.{home_of_warehouse, home_of_district, home_of_stock, home_of_customer, home_of_order};
 
 use crate::indexed::IndexedRows;
-use crate::kept::UndoRecord;
 use crate::step::Step;
+use crate::undo_record::UndoRecord;
 use schema::{
     CarrierId, Customer, CustomerKey, District, DistrictKey, History, Moment, NoMemory, Order,
     OrderKey, OrderLine, Stock, StockKey, Warehouse,

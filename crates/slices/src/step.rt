@@ -5,7 +5,7 @@ ghost use Rattle.groups.specs.Groups.{warehouse_of};
 ghost use Rattle.slices.specs.Undo.{IsStep};
 
 use crate::indexed::IndexedRows;
-use crate::kept::UndoRecord;
+use crate::undo_record::UndoRecord;
 use schema::NoMemory;
 
 /// One step of a transaction in a group, under an exclusive claim on it.

@@ -5,7 +5,7 @@ ghost use Rattle.groups.specs.Content.{content};
 ghost use Rattle.slices.specs.Undo.{all_put_back_in, AreKept, ChangesGroup};
 
 use crate::indexed::IndexedRows;
-use crate::kept::{UndoRecord, put_all_back};
+use crate::undo_record::{UndoRecord, put_all_back};
 use schema::NoMemory;
 use std::alloc::Global;
 use std::marker::Model;

@@ -25,8 +25,8 @@ new-log-requires-clause-opening g c =
     subst (λ (t : Database). SeatsRecord (content t) c.in_ok-boxes.seats) (sym c.requires.named.tables_are)
     (seats_record c.args.tables c.args.opening.groups.items c.in_ok-boxes.seats c.requires.named.opened in_place boxed.contents)
 
-pub open_posts-requires : goal.open_posts-requires
-open_posts-requires g c =
+pub open_shards-requires : goal.open_shards-requires
+open_shards-requires g c =
     let slices = c.in_ok-catalog.slices.items in
     subst (λ (t : Database). All (IsToOpen t) slices) (sym c.requires.named.tables_are)
     (subst (All (IsToOpen c.args.tables)) (sym c.in_ok-catalog.ensures.slices) (cut_to_open c.args.tables (warehouse_ids c.args.tables.scale)))

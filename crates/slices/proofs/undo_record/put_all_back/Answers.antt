@@ -1,6 +1,6 @@
 use Rattle.std.proofs.Common.{rules, ◌≡◌, []}
 use Rattle.slices.proofs.Steps.{all_left, last_can, one_fewer, none_left_over}
-use Rattle.slices.proofs.kept.put_all_back.Goals as goal
+use Rattle.slices.proofs.undo_record.put_all_back.Goals as goal
 
 pub loop-kept-init : goal.loop-kept-init
 loop-kept-init c = λ group are. all_left group c.args.undo.now.items c.args.rows.now are

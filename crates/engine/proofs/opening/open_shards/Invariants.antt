@@ -1,7 +1,7 @@
 -- The slices that are left are to be opened.
 use Rattle.std.specs.Prelude.{All}
 use Rattle.engine.specs.Opening.{IsToOpen}
-use Rattle.engine.proofs.opening.open_posts.Given as goal
+use Rattle.engine.proofs.opening.open_shards.Given as goal
 
 abbrev pub invariant-loop-slice : goal.invariant-loop-slice
 invariant-loop-slice g l = record {

@@ -7,14 +7,14 @@ use Rattle.groups.specs.Groups.{group_of_order}
 use Rattle.groups.specs.Content.{content}
 use Rattle.groups.proofs.RowsInGroups.{each_row_stands_in_one_group}
 use Rattle.indexes.specs.NameOrder.{last_of, first_of}
-use Rattle.slices.specs.declared.kept.UndoRecord.{UndoRecord}
-use Rattle.slices.specs.declared.kept.UndoRecord.TheVariants as k
+use Rattle.slices.specs.declared.undo_record.UndoRecord.{UndoRecord}
+use Rattle.slices.specs.declared.undo_record.UndoRecord.TheVariants as k
 use Rattle.slices.specs.Undo.{group_of_kept, CanPutBack, CanTakeBackDelivery, CanTakeBackOrder}
 use Rattle.slices.proofs.Steps.{warehouse_changes, district_changes, stock_changes, customer_changes, no_payment_changes}
 use Rattle.partitions.specs.declared.delivery_rows.BeforeDelivery.{BeforeDelivery}
 use Rattle.slices.proofs.Delivered.{delivery_back_changes}
 use Rattle.slices.proofs.Orders.{part_without_order, order_back_changes}
-use Rattle.slices.proofs.kept.UndoRecord.put_back.Goals as goal
+use Rattle.slices.proofs.undo_record.UndoRecord.put_back.Goals as goal
 
 -- what is asked of an order that is taken back
 can_take_back : (p : Part) (kept : UndoRecord) (key : OrderKey) (replaced : Replaced) → kept ≡ k.Order key replaced → CanPutBack p.tables.scale kept (content p.tables (group_of_kept kept))

@@ -2,7 +2,7 @@ use Rattle.std.proofs.Common.{rules, ◌≡◌, ◌∷◌, subst}
 use Rattle.std.specs.Prelude.{All}
 use Rattle.std.proofs.lemmas.List.Elements.{All-tail}
 use Rattle.engine.specs.Opening.{IsToOpen}
-use Rattle.engine.proofs.opening.open_posts.Goals as goal
+use Rattle.engine.proofs.opening.open_shards.Goals as goal
 
 pub loop-slice-preserved : goal.loop-slice-preserved
 loop-slice-preserved g c =

@@ -3,7 +3,7 @@ use Rattle.requests.specs.declared.group.Group.{Group}
 use Rattle.groups.specs.Content.{content}
 use Rattle.slices.specs.Undo.{AreKept}
 use Rattle.slices.proofs.Steps.{AreLeft}
-use Rattle.slices.proofs.kept.put_all_back.Given as goal
+use Rattle.slices.proofs.undo_record.put_all_back.Given as goal
 
 -- what is left to be put back makes what all would have made
 abbrev pub invariant-loop-kept : goal.invariant-loop-kept
