@@ -9,13 +9,13 @@ use Rattle.tpcc.specs.EarlyEnds.{IsOfChecking}
 use Rattle.tpcc.specs.Faults.{Reports, status_of}
 use Rattle.tpcc.proofs.EarlyTellings.{ends_early}
 
-module _ (s : CheckSettings) (source : Option (List ℕ)) (lasts : Type 0) (before after : Option (List ℕ)) (reported told' : Option (List CommandFault)) where
+module _ (s : CheckSettings) (source : Option (List ℕ)) (lasts : Type 0) (before after : Option (List ℕ)) (reported reported' : Option (List CommandFault)) where
   no_condition : (condition : ℕ) → IsOfChecking s source lasts (fault.NotConsistent condition) → ⊥
   no_condition condition (inl a) = a
   no_condition condition (inr a) = a
 
-  pub check_ends_early : (of : CommandFault) (ended : Status) → ended ≡ status_of of → ChecksSome s.fresh source before after → IsOfChecking s source lasts of → Reports reported told' of
-      → CheckEnds s source lasts before after reported told' ended
+  pub check_ends_early : (of : CommandFault) (ended : Status) → ended ≡ status_of of → ChecksSome s.fresh source before after → IsOfChecking s source lasts of → Reports reported reported' of
+      → CheckEnds s source lasts before after reported reported' ended
   check_ends_early of ended is some said reports =
-      ends_early (IsOfChecking s source lasts) reported told' (CheckEnds s source lasts before after reported told') no_condition
+      ends_early (IsOfChecking s source lasts) reported reported' (CheckEnds s source lasts before after reported reported') no_condition
       (λ early. (some, early)) (λ early. (some, early)) (λ early. (some, early)) of ended is said reports

@@ -19,14 +19,14 @@ use Rattle.tpcc.specs.Replay.{ReportsReplay, ReplayEnds, ReplaysSome}
 use Rattle.tpcc.proofs.EarlyTellings.{ends_early}
 
 module _ {F : Type 0} (contents : F → Option (List ℕ)) (file : Option F) (s : ReplaySettings) (source : Option (List ℕ)) (source_lasts : Type 0) (log : Option (List ℕ)) (log_lasts : Type 0)
-    (before after : Option (List ℕ)) (named named' : Option (List (Option (List ℕ)))) (reported told' : Option (List CommandFault)) where
+    (before after : Option (List ℕ)) (named named' : Option (List (Option (List ℕ)))) (reported reported' : Option (List CommandFault)) where
   pub replay_ends : (opening : Database) (entries : List Entry) (replay : Replay) (ended : Status) → Gives source (AreRecords opening) → Gives log (IsLog entries) → IsReplayOf opening entries replay
-      → ReportsReplay contents file before after named named' entries replay ended → told' ≡ reported → ReplayEnds contents file s source source_lasts log log_lasts before after named named' reported told' ended
+      → ReportsReplay contents file before after named named' entries replay ended → reported' ≡ reported → ReplayEnds contents file s source source_lasts log log_lasts before after named named' reported reported' ended
   replay_ends opening entries (Equal last) ended is_dataset is_log is_replay reports same =
-      subst (ReplayEnds contents file s source source_lasts log log_lasts before after named named' reported told') (sym reports.0)
+      subst (ReplayEnds contents file s source source_lasts log log_lasts before after named named' reported reported') (sym reports.0)
       (last, record { entries = entries; is_replayed = record { opening = opening; is_dataset = is_dataset; is_log = is_log; is_replay = is_replay }; printed = reports.1; no_fault = same }, reports.2)
   replay_ends opening entries (Differs place) ended is_dataset is_log is_replay reports same =
-      subst (ReplayEnds contents file s source source_lasts log log_lasts before after named named' reported told') (sym reports.0)
+      subst (ReplayEnds contents file s source source_lasts log log_lasts before after named named' reported reported') (sym reports.0)
       (place, record { entries = entries; is_replayed = record { opening = opening; is_dataset = is_dataset; is_log = is_log; is_replay = is_replay }; printed = reports.1; no_fault = same }, reports.2)
 
   no_condition : (condition : ℕ) → IsOfReplaying s source source_lasts log log_lasts (fault.NotConsistent condition) → ⊥
@@ -40,8 +40,8 @@ module _ {F : Type 0} (contents : F → Option (List ℕ)) (file : Option F) (s 
       none (Some path) a = a
 
   -- the same, where it ends early
-  pub replay_ends_early : (of : CommandFault) (ended : Status) → ended ≡ status_of of → IsOfReplaying s source source_lasts log log_lasts of → Reports reported told' of → named' ≡ named → ReplaysSome source log before after
-      → ReplayEnds contents file s source source_lasts log log_lasts before after named named' reported told' ended
+  pub replay_ends_early : (of : CommandFault) (ended : Status) → ended ≡ status_of of → IsOfReplaying s source source_lasts log log_lasts of → Reports reported reported' of → named' ≡ named → ReplaysSome source log before after
+      → ReplayEnds contents file s source source_lasts log log_lasts before after named named' reported reported' ended
   replay_ends_early of ended is said reports same some =
-      ends_early (IsOfReplaying s source source_lasts log log_lasts) reported told' (ReplayEnds contents file s source source_lasts log log_lasts before after named named' reported told') no_condition
+      ends_early (IsOfReplaying s source source_lasts log log_lasts) reported reported' (ReplayEnds contents file s source source_lasts log log_lasts before after named named' reported reported') no_condition
       (λ early. (same, some, early)) (λ early. (same, some, early)) (λ early. (same, some, early)) of ended is said reports

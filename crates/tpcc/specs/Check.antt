@@ -30,7 +30,7 @@ module _ (fresh : Bool) where
   abbrev pub ChecksSome : Option (List ℕ) → Option (List ℕ) → Option (List ℕ) → Type 0
   ChecksSome «data» before after = (after ≡ before) ⊎ ((answers : List Bool) × IsChecked «data» answers × Begins before after (verdicts_text answers))
 
-module _ (fresh : Bool) («data» before after : Option (List ℕ)) (reported told' : Option (List CommandFault)) where
+module _ (fresh : Bool) («data» before after : Option (List ℕ)) (reported reported' : Option (List CommandFault)) where
   -- the verdict on each condition of the source's tables was printed, line by line, and no fault was reported; `broken` says whether a
   -- condition is broken
   pub record Checks (broken : Bool) : Type 0 where
@@ -38,12 +38,12 @@ module _ (fresh : Bool) («data» before after : Option (List ℕ)) (reported to
     pub is_checked : IsChecked «data» answers
     pub printed : Appends before after (verdicts_text fresh answers)
     pub any_broken : broken ≡ list_any (λ verdict. is_broken verdict.found) (verdicts_of fresh 1 answers)
-    pub no_fault : told' ≡ reported
+    pub no_fault : reported' ≡ reported
 
-module _ (s : CheckSettings) («data» : Option (List ℕ)) (lasts : Type 0) (before after : Option (List ℕ)) (reported told' : Option (List CommandFault)) where
+module _ (s : CheckSettings) («data» : Option (List ℕ)) (lasts : Type 0) (before after : Option (List ℕ)) (reported reported' : Option (List CommandFault)) where
   -- By the exit status. Success: no condition is broken. NotConsistent: one is. Otherwise a fault was reported, of the dataset or of
   -- printing, and at most a beginning of the lines was printed.
   abbrev pub CheckEnds : Status → Type 0
-  CheckEnds status.Success = Checks s.fresh «data» before after reported told' false
-  CheckEnds status.NotConsistent = Checks s.fresh «data» before after reported told' true
-  CheckEnds ended = ChecksSome s.fresh «data» before after × EndsEarly (IsOfChecking s «data» lasts) reported told' ended
+  CheckEnds status.Success = Checks s.fresh «data» before after reported reported' false
+  CheckEnds status.NotConsistent = Checks s.fresh «data» before after reported reported' true
+  CheckEnds ended = ChecksSome s.fresh «data» before after × EndsEarly (IsOfChecking s «data» lasts) reported reported' ended

@@ -97,12 +97,12 @@ reported_line of = codes "tpcc: " ++ (reported_text of ++ (10 ∷ []))
 
 -- if it is known which faults were reported, this one was reported after them
 abbrev pub Reports : Option (List CommandFault) → Option (List CommandFault) → CommandFault → Type 0
-Reports None told' fault = Unit {0}
-Reports (Some faults) told' fault = told' ≡ Some (faults ++ fault ∷ [])
+Reports None reported' fault = Unit {0}
+Reports (Some faults) reported' fault = reported' ≡ Some (faults ++ fault ∷ [])
 
 -- a command ended early with a fault of which `IsSaid` holds: it was reported, and the exit status is the fault's
-pub record EndsEarly (IsSaid : CommandFault → Type 0) (reported told' : Option (List CommandFault)) (status : Status) : Type 0 where
+pub record EndsEarly (IsSaid : CommandFault → Type 0) (reported reported' : Option (List CommandFault)) (status : Status) : Type 0 where
   pub fault : CommandFault
   pub said : IsSaid fault
-  pub reports : Reports reported told' fault
+  pub reports : Reports reported reported' fault
   pub ends : status ≡ status_of fault

@@ -13,7 +13,7 @@ use Rattle.command_line.specs.declared.settings.populate.PopulateSettings.{Popul
 use Rattle.tpcc.specs.Faults.{IsOfWriting, EndsEarly}
 
 module _ {F : Type 0} (contents : F → Option (List ℕ)) (scale : Scale) (seed now : ℕ) (file : F)
-    (named named' : Option (List (Option (List ℕ)))) (reported told' : Option (List CommandFault)) where
+    (named named' : Option (List (Option (List ℕ)))) (reported reported' : Option (List CommandFault)) where
   -- the file has got its name and contains the records of the benchmark's initial tables of that scale, seed and moment, and no fault was
   -- reported
   pub record Populates : Type 0 where
@@ -22,10 +22,10 @@ module _ {F : Type 0} (contents : F → Option (List ℕ)) (scale : Scale) (seed
     pub text : Option (List ℕ)
     pub written : Writes (contents file) text (AreRecords tables)
     pub shelved : Shelves named named' text
-    pub no_fault : told' ≡ reported
+    pub no_fault : reported' ≡ reported
 
-module _ {F : Type 0} (contents : F → Option (List ℕ)) (s : PopulateSettings) (file : F) (named named' : Option (List (Option (List ℕ)))) (reported told' : Option (List CommandFault)) where
+module _ {F : Type 0} (contents : F → Option (List ℕ)) (s : PopulateSettings) (file : F) (named named' : Option (List (Option (List ℕ)))) (reported reported' : Option (List CommandFault)) where
   -- By the exit status. Success: the file has its name. Otherwise it has not, and a fault of the file was reported.
   abbrev pub PopulateEnds : Status → Type 0
-  PopulateEnds status.Success = Populates contents s.scale s.seed s.now file named named' reported told'
-  PopulateEnds ended = (named' ≡ named) × EndsEarly (IsOfWriting s.file.now) reported told' ended
+  PopulateEnds status.Success = Populates contents s.scale s.seed s.now file named named' reported reported'
+  PopulateEnds ended = (named' ≡ named) × EndsEarly (IsOfWriting s.file.now) reported reported' ended

@@ -48,11 +48,11 @@ pub record IsReplayed («data» log : Option (List ℕ)) (entries : List Entry) 
 
 module _ («data» log before after : Option (List ℕ)) where
   -- the log was replayed, the result was printed, and no fault was reported
-  pub record Replays (reported told' : Option (List CommandFault)) (replay : Replay) : Type 0 where
+  pub record Replays (reported reported' : Option (List CommandFault)) (replay : Replay) : Type 0 where
     pub entries : List Entry
     pub is_replayed : IsReplayed «data» log entries replay
     pub printed : Appends before after (lines_text (found_text (found_of entries replay) ∷ []))
-    pub no_fault : told' ≡ reported
+    pub no_fault : reported' ≡ reported
 
   -- nothing was printed; or the log was replayed, and a beginning of the line of its result was printed
   abbrev pub ReplaysSome : Type 0
@@ -61,11 +61,11 @@ module _ («data» log before after : Option (List ℕ)) where
       ⊎ ((entries : List Entry) × (replay : Replay) × IsReplayed «data» log entries replay × Begins before after (lines_text (found_text (found_of entries replay) ∷ [])))
 
 module _ {F : Type 0} (contents : F → Option (List ℕ)) (file : Option F) (s : ReplaySettings) («data» : Option (List ℕ)) (data_lasts : Type 0) (log : Option (List ℕ)) (log_lasts : Type 0)
-    (before after : Option (List ℕ)) (named named' : Option (List (Option (List ℕ)))) (reported told' : Option (List CommandFault)) where
+    (before after : Option (List ℕ)) (named named' : Option (List (Option (List ℕ)))) (reported reported' : Option (List CommandFault)) where
   -- By the exit status. Success: every entry is equal, and the file, if there is one, has got its name with the records of the machine's last
   -- tables. NotConsistent: an entry differs, and no file has got a name. Otherwise no file has got a name, a fault of the dataset, the log or
   -- an output was reported, and at most a beginning of the line was printed.
   abbrev pub ReplayEnds : Status → Type 0
-  ReplayEnds status.Success = (last : Database) × Replays «data» log before after reported told' (Equal last) × NamesFile contents file named named' (AreRecords last)
-  ReplayEnds status.NotConsistent = (place : ℕ) × Replays «data» log before after reported told' (Differs place) × (named' ≡ named)
-  ReplayEnds ended = (named' ≡ named) × ReplaysSome «data» log before after × EndsEarly (IsOfReplaying s «data» data_lasts log log_lasts) reported told' ended
+  ReplayEnds status.Success = (last : Database) × Replays «data» log before after reported reported' (Equal last) × NamesFile contents file named named' (AreRecords last)
+  ReplayEnds status.NotConsistent = (place : ℕ) × Replays «data» log before after reported reported' (Differs place) × (named' ≡ named)
+  ReplayEnds ended = (named' ≡ named) × ReplaysSome «data» log before after × EndsEarly (IsOfReplaying s «data» data_lasts log log_lasts) reported reported' ended

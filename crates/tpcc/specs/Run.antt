@@ -79,10 +79,10 @@ module _ {F : Type 0} (contents : F → Option (List ℕ)) («data» : Option (L
       × HandsOutSome contents file tables before after named named' log answers)
 
   -- The scripts that the sources give were served on the tables that `data` gives, all output was made (`HandsOut`), and no fault was reported.
-  pub record Serves (reported told' : Option (List CommandFault)) : Type 0 where
+  pub record Serves (reported reported' : Option (List CommandFault)) : Type 0 where
     pub log : List Entry
     pub last : Database
     pub answers : List (List (Result ℕ Refusal))
     pub are_served : AreServed «data» sources executors moving log last answers
     pub handed_out : HandsOut contents file tables before after named named' log last answers
-    pub no_fault : told' ≡ reported
+    pub no_fault : reported' ≡ reported

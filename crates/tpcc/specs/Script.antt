@@ -79,5 +79,5 @@ module _ {F : Type 0} (contents : F → Option (List ℕ)) where
     -- By the exit status. Success: all files have their names, and no fault was reported. Otherwise at most a prefix of the files have, and a
     -- fault was reported.
     abbrev pub ScriptEnds : Option (List CommandFault) → Option (List CommandFault) → Status → Type 0
-    ScriptEnds reported told' status.Success = MakesAll settings «data» files named named' × (told' ≡ reported)
-    ScriptEnds reported told' ended = MakesSome settings «data» files named named' × EndsEarly (IsOfMaking settings «data» lasts) reported told' ended
+    ScriptEnds reported reported' status.Success = MakesAll settings «data» files named named' × (reported' ≡ reported)
+    ScriptEnds reported reported' ended = MakesSome settings «data» files named named' × EndsEarly (IsOfMaking settings «data» lasts) reported reported' ended

@@ -70,9 +70,9 @@ module _ {F : Type 0} (contents : F → Option (List ℕ)) where
         × ShowsSome executors schedule simulation log picture tables before after named named')
 
     -- The schedule that `source` gives was simulated on the tables that `data` gives, all output was made (`Shows`), and no fault was reported.
-    pub record SimulatesAll (reported told' : Option (List CommandFault)) : Type 0 where
+    pub record SimulatesAll (reported reported' : Option (List CommandFault)) : Type 0 where
       pub schedule : List Scheduled
       pub simulation : Simulation
       pub is_simulation : IsSimulation «data» source executors schedule simulation
       pub shows : Shows executors schedule simulation log picture tables before after named named'
-      pub no_fault : told' ≡ reported
+      pub no_fault : reported' ≡ reported
