@@ -10,8 +10,9 @@ ghost use Rattle.commit_log.specs.Items.{item, items_of};
 ghost use Rattle.commit_log.specs.Log.{replies_of, requests_of};
 ghost use Rattle.commit_log.specs.PassView.{after_item, after_refusal};
 
-use crate::{AppendFault, Entry, LogBook, MOST_ENTRIES, Names, Pass};
+use crate::{AppendFault, Entry, LogBook, Names, Pass};
 use requests::Reply;
+use rows::MOST_ENTRIES;
 use schema::NoMemory;
 use std::marker::Model;
 use tickets::{Claims, LogSeats};
