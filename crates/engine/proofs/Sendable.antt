@@ -10,7 +10,7 @@ use Rattle.routing.proofs.Sendable.{SharedRouting-sync}
 use Rattle.requests.proofs.Sendable.{Request-send, Script-sync}
 use Rattle.commit_log.proofs.Sendable.{Log-send, Pass-send, SessionSeat-send}
 use Rattle.executor.proofs.Sendable.{Answer-send, Act-send, GivenBack-send, Flow-send, PhaseOwner-send, Phase-send, CountedShard-send, ExecutorShards-send, SessionAnswer-send}
-use Rattle.executor.specs.contracts.shard.CountedShard as CountedShard
+use Rattle.executor.specs.contracts.counted_shard.CountedShard as CountedShard
 use Rattle.tickets.specs.declared.group_names.GroupNames.{Ghosts as GroupNames}
 use Rattle.commit_log.specs.declared.log_names.LogNames.{Ghosts as LogNames}
 use Rattle.executor.specs.declared.names.PhaseNames.{Ghosts as PhaseNames}

@@ -10,7 +10,7 @@ use Rattle.indexes.proofs.Sendable.{LatestOrders-send, NameIndex-send}
 use Rattle.local_locks.proofs.Sendable.{LockTable-send}
 use Rattle.tickets.specs.declared.group_names.GroupNames.{Ghosts as GroupNames}
 use Rattle.slices.specs.contracts.indexed.IndexedRows as IndexedRows
-use Rattle.slices.specs.contracts.kept.UndoRecord as UndoRecord
+use Rattle.slices.specs.contracts.undo_record.UndoRecord as UndoRecord
 use Rattle.slices.specs.contracts.undo_log.UndoLog as UndoLog
 use Rattle.slices.specs.contracts.slice.Slice as Slice
 

@@ -19,7 +19,7 @@ pub(crate) struct UndoLog {
 impl Model for UndoLog {
     ghost use Rattle.std.specs.Prelude.{vec_capacity};
     ghost use Rattle.std.specs.Coded.{codes};
-    ghost use Rattle.slices.specs.contracts.kept.UndoRecord as kept;
+    ghost use Rattle.slices.specs.contracts.undo_record.UndoRecord as kept;
     ghost use Rattle.slices.specs.UndoLogs.{UndoLogView, undo_log_view};
 
     ghost Value = { UndoLogView };
