@@ -36,13 +36,13 @@ show() {
 }
 
 # Prints the name of each library once it is proved, until this script ends.
-tell_proved() {
-    local told=" " library name
+report_proved() {
+    local printed=" " library name
     while kill -0 $$ 2> /dev/null; do
         for library in crates/*/out/rlib/*.rlib; do
             name=$(basename "$library" .rlib)
-            if [ -e "$library" ] && [[ $told != *" $name "* ]]; then
-                told+="$name "
+            if [ -e "$library" ] && [[ $printed != *" $name "* ]]; then
+                printed+="$name "
                 echo "   proved: $name, after $SECONDS s"
             fi
         done
@@ -73,11 +73,11 @@ echo "   Next, every crate that tpcc stands on is proved, and then tpcc itself. 
 echo "   processors, longer beside other work, and seconds if it was done before. The first line comes after some minutes."
 echo "   Ctrl-C ends the script; the proofs that are finished by then are kept."
 SECONDS=0
-tell_proved &
-teller=$!
+report_proved &
+reporter=$!
 (cd crates/tpcc && rt run -- run ../../examples/one-warehouse.csv ../../examples/mixed-session.csv \
     ../../examples/names-session.csv --log "../../$made/log.csv") > "$made/shown/1-run"
-kill "$teller"
+kill "$reporter"
 
 say "PROVED: the same job with crates/tpcc/out/tpcc, which stays"
 show 1-run

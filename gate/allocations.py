@@ -72,8 +72,8 @@ def has_kept_its_log(command, ends):
 
 def library(room):
     """Builds the library that refuses an allocation, with the toolchain's clang. Returns its path."""
-    told = subprocess.run(["rt", "doc"], stdout=subprocess.PIPE, text=True, check=True).stdout
-    tools, built = f"{os.path.dirname(told.strip())}/toolchain/bin", f"{room}/refuse.so"
+    output = subprocess.run(["rt", "doc"], stdout=subprocess.PIPE, text=True, check=True).stdout
+    tools, built = f"{os.path.dirname(output.strip())}/toolchain/bin", f"{room}/refuse.so"
     words = ["--target=x86_64-unknown-linux-gnu", "-shared", "-fPIC", "-O1", "-nostdlib", f"-fuse-ld={tools}/ld.lld"]
     subprocess.run([f"{tools}/clang", *words, f"{ROOT}/gate/refuse_allocation.c", "-o", built], check=True)
     return built
@@ -142,8 +142,8 @@ class Sweep:
         under its temporary name."""
         left = self.left(folder)
         if left == [OTHER_NAME]:
-            told = self.call(folder, "replay", self.dataset, OTHER_NAME)
-            return None if told.returncode == 0 else f"the log under its temporary name is not whole: {told.stdout.strip() or told.stderr.strip()}"
+            replay = self.call(folder, "replay", self.dataset, OTHER_NAME)
+            return None if replay.returncode == 0 else f"the log under its temporary name is not whole: {replay.stdout.strip() or replay.stderr.strip()}"
         return f"no log, but printed {ran.stdout.strip()!r} and left {left}" if left or ran.stdout else None
 
     def replayed(self, folder, done, has_tables):

@@ -42,8 +42,8 @@ def instructions(words, folder):
         return None
     out = os.path.join(folder, "callgrind.out")
     words = ["valgrind", "--tool=callgrind", f"--callgrind-out-file={out}", *words]
-    told = subprocess.run(words, stdin=subprocess.DEVNULL, capture_output=True, text=True, check=True)
-    return int(re.search(r"Collected : (\d+)", told.stderr).group(1))
+    counted = subprocess.run(words, stdin=subprocess.DEVNULL, capture_output=True, text=True, check=True)
+    return int(re.search(r"Collected : (\d+)", counted.stderr).group(1))
 
 
 def compare(commands, runs):

@@ -67,7 +67,7 @@ def steps(folder, edits):
             yield file, text[: text.index(old)], texts[file]
 
 
-def turned(folder, edits):
+def edited(folder, edits):
     """Returns the files that these edits change, each with its text after them."""
     return {file: text for file, _, text in steps(folder, edits)}
 
@@ -100,7 +100,7 @@ def read(folder, crate, path):
         fault = fault or "it does not name the function that refuses it"
     edit = Edit(crate, path, changes, function, fault)
     try:
-        turned(folder, [edit])
+        edited(folder, [edit])
     except ValueError as error:
         edit = edit._replace(fault=fault or str(error))
     return edit
@@ -111,7 +111,7 @@ def fits(folder, group, edit):
     if not all(is_within(folder, it) for it in [*group, edit]) or last_of(edit.function) in {last_of(it.function) for it in group}:
         return False
     try:
-        turned(folder, [*group, edit])
+        edited(folder, [*group, edit])
     except ValueError:
         return False
     return True
@@ -172,9 +172,9 @@ class Prover:
             how = {"stdin": subprocess.DEVNULL, "stdout": subprocess.PIPE, "stderr": subprocess.STDOUT, "errors": "replace"}
             with subprocess.Popen(words, cwd=room, **how) as ran:
                 self.running.add(ran)
-                told = ran.communicate()[0]
+                output = ran.communicate()[0]
                 self.running.discard(ran)
-        return ran.returncode, told
+        return ran.returncode, output
 
     @classmethod
     def stop(cls):
@@ -182,10 +182,10 @@ class Prover:
             ran.kill()
 
 
-def lacking(told):
+def unproved(output):
     """Returns the functions that the prover's output reports without a proof, each with the reasons of its own. The list of reasons
     is empty if the function only calls another one without a proof."""
-    found = re.findall(r"^fn (\S+): (?!proved|could not tell)(?:no proof: |not proved; )?(.*)", told, re.MULTILINE)
+    found = re.findall(r"^fn (\S+): (?!proved|could not tell)(?:no proof: |not proved; )?(.*)", output, re.MULTILINE)
     return {name: [it for it in why.split("; ") if not it.startswith("it calls ")] for name, why in found}
 
 
@@ -194,18 +194,18 @@ def named_in(edit, functions):
     return any(f"::{it}".endswith(f"::{edit.function}") for it in functions)
 
 
-def refuses(edit, status, told):
+def refuses(edit, status, output):
     """Returns whether a check refuses the edit at the function that it names, and a message."""
-    if status == 1 and told.rstrip().rpartition("\n")[2].startswith("only="):
-        if named_in(edit, lacking(told)):
+    if status == 1 and output.rstrip().rpartition("\n")[2].startswith("only="):
+        if named_in(edit, unproved(output)):
             return True, f"refused by {edit.function}"
-        return False, f"NOT REFUSED by {edit.function}, but by {', '.join(lacking(told))}"
-    return False, "NOT REFUSED" if status == 0 else f"NOT TRIED, the check's status is {status}: {told[-1000:]}"
+        return False, f"NOT REFUSED by {edit.function}, but by {', '.join(unproved(output))}"
+    return False, "NOT REFUSED" if status == 0 else f"NOT TRIED, the check's status is {status}: {output[-1000:]}"
 
 
-def refuses_beside(edit, status, told):
+def refuses_beside(edit, status, output):
     """Returns whether a check of several edits refuses this one, for its function's own reasons."""
-    return refuses(edit, status, told)[0] and named_in(edit, [name for name, own in lacking(told).items() if own])
+    return refuses(edit, status, output)[0] and named_in(edit, [name for name, own in unproved(output).items() if own])
 
 
 class Trials:
@@ -236,9 +236,9 @@ class Trials:
 
     def prove_as_it_stands(self, prover, name, edits):
         base = f"{self.room.name}/{name}"
-        status, told = prover.check(name, {}, sorted({it.function for it in edits}), base)
+        status, output = prover.check(name, {}, sorted({it.function for it in edits}), base)
         if status:
-            self.say(f"{name}: not all functions that its edits name are proved in the unchanged crate: {told[-1000:]}")
+            self.say(f"{name}: not all functions that its edits name are proved in the unchanged crate: {output[-1000:]}")
             return 0
         for group in groups_of(prover.crates[name].folder, edits):
             self.pending.append(self.lanes.submit(self.try_together, prover, group, base))
@@ -248,13 +248,13 @@ class Trials:
         """Tries these edits in one check. Returns how many it refuses. The others of several edits are tried again later, alone."""
         name, over = edits[0].crate, f"{base}.{edits[0].path.replace(os.sep, '.')}"
         shutil.copytree(base, over)
-        status, told = prover.check(name, turned(prover.crates[name].folder, edits), [it.function for it in edits], over)
+        status, output = prover.check(name, edited(prover.crates[name].folder, edits), [it.function for it in edits], over)
         shutil.rmtree(over)
         if len(edits) == 1:
-            well, why = refuses(edits[0], status, told)
-            self.say(f"{edits[0]}: {why}")
-            return int(well)
-        refused = [it for it in edits if refuses_beside(it, status, told)]
+            is_refused, message = refuses(edits[0], status, output)
+            self.say(f"{edits[0]}: {message}")
+            return int(is_refused)
+        refused = [it for it in edits if refuses_beside(it, status, output)]
         for edit in refused:
             self.say(f"{edit}: refused by {edit.function}")
         for edit in edits:
@@ -281,9 +281,9 @@ def main():
     with Trials(edits, lambda text: print(text, flush=True)) as trials:
         for name in names:
             trials.begin(root, name)
-        well, ill = trials.end()
-    print(f"{well} refused, {ill} not")
-    return 1 if ill else 0
+        refused, others = trials.end()
+    print(f"{refused} refused, {others} not")
+    return 1 if others else 0
 
 
 if __name__ == "__main__":

@@ -140,7 +140,7 @@ class Run:
         if self.ran.wait():
             self.verdict = self.verdict[0], max(self.verdict[1], 1)
 
-    def is_under_way(self):
+    def is_running(self):
         return self.reader.is_alive()
 
 
@@ -149,7 +149,7 @@ def ahead(chain, others):
     passed and failed in the runs that have ended."""
     with chain, others:
         while True:
-            ended = [it.verdict for it in (chain, others) if not it.is_under_way()]
+            ended = [it.verdict for it in (chain, others) if not it.is_running()]
             passed, failed = (sum(counts) for counts in zip((0, 0), *ended))
             if len(ended) == 2 or failed or chain.progress.is_done_again:
                 return passed, failed
@@ -158,8 +158,8 @@ def ahead(chain, others):
 
 def words_for(anew):
     """Returns the arguments of `rt ci`: --anew if everything is to be repeated and this toolchain's `rt ci` has the option."""
-    told = subprocess.run(["rt", "help"], stdin=subprocess.DEVNULL, capture_output=True, text=True, errors="replace", check=False)
-    keeps = "--anew" in told.stdout + told.stderr
+    ran = subprocess.run(["rt", "help"], stdin=subprocess.DEVNULL, capture_output=True, text=True, errors="replace", check=False)
+    keeps = "--anew" in ran.stdout + ran.stderr
     if anew and not keeps:
         say("this toolchain's rt ci keeps nothing of earlier runs, so --anew changes nothing")
     return ["--anew"] if anew and keeps else []
@@ -223,8 +223,8 @@ def run(anew, whole):
 
 def commit():
     """Returns the short name of the current commit, or an empty string if git reports none."""
-    told = subprocess.run(["git", "rev-parse", "--short", "HEAD"], cwd=ROOT, capture_output=True, text=True, check=False)
-    return told.stdout.strip()
+    ran = subprocess.run(["git", "rev-parse", "--short", "HEAD"], cwd=ROOT, capture_output=True, text=True, check=False)
+    return ran.stdout.strip()
 
 
 def main():

@@ -97,8 +97,8 @@ def read_file(scenario, name):
     changes = folder / (name + ".changes")
     if not changes.is_file():
         return None
-    dataset, *told = lines_of(changes)[:-1]
-    return changed(read_file(scenario, dataset), told)
+    dataset, *lines = lines_of(changes)[:-1]
+    return changed(read_file(scenario, dataset), lines)
 
 
 # ---- Scenarios ------------------------------------------------------------------------------------------------
@@ -115,7 +115,7 @@ class Run:
         self.line = MARK.sub("", line, 1)
         self.words = [bytes_shown(word) for word in self.line.split()]
         self.records, self.record, self.number = records, record, number
-        self.printed, self.told, self.status = "", "", "status 0"
+        self.printed, self.messages, self.status = "", "", "status 0"
 
     def needs_program(self):
         return self.mark not in ("", "any order")
@@ -146,7 +146,7 @@ class Run:
             if self.mark == "interrupted":
                 self.interrupt(ran, folder)
             try:
-                printed, told = ran.communicate(timeout=seconds)
+                printed, messages = ran.communicate(timeout=seconds)
             except subprocess.TimeoutExpired:
                 ran.kill()
                 self.status = f"no end within {seconds} s"
@@ -155,8 +155,8 @@ class Run:
             os.close(more["stdout"])
         if self.mark == "terminal":
             os.close(more["stderr"])
-            told = read_terminal(master)
-        self.printed, self.told = (printed or b"").decode("latin-1"), told.decode("latin-1")
+            messages = read_terminal(master)
+        self.printed, self.messages = (printed or b"").decode("latin-1"), messages.decode("latin-1")
         self.status = f"status {ran.returncode}"
 
     def interrupt(self, ran, folder):
@@ -210,10 +210,10 @@ class Run:
         `*` replaces what depends on the clock."""
         printed = self.printed.removesuffix("\n").split("\n") if self.printed else []
         kept = ("tpcc: ", "error: ", *(["  "] if self.mark == "terminal" else []))
-        told = re.sub(r"\r([^\r\n]* MB (read|written))(?=[\r\n])", r"\1\n", self.told)
-        told = [line for line in told.split("\n") if line.startswith(kept)]
-        told = [re.sub(r"[\d.]*\d(?= (s|requests|New-Orders|us)\b)", "*", line) if line.startswith("tpcc: time: ") else line for line in told]
-        lines = printed + ["! " + line for line in told] + [self.status]
+        messages = re.sub(r"\r([^\r\n]* MB (read|written))(?=[\r\n])", r"\1\n", self.messages)
+        messages = [line for line in messages.split("\n") if line.startswith(kept)]
+        messages = [re.sub(r"[\d.]*\d(?= (s|requests|New-Orders|us)\b)", "*", line) if line.startswith("tpcc: time: ") else line for line in messages]
+        lines = printed + ["! " + line for line in messages] + [self.status]
         if lines[-1] == "status 0":
             lines.pop()
         return lines
@@ -226,7 +226,7 @@ def bytes_shown(word):
 
 def read_terminal(master):
     """Returns what was written to the terminal, with plain line ends."""
-    told = b""
+    written = b""
     while True:
         try:
             more = os.read(master, 4096)
@@ -234,8 +234,8 @@ def read_terminal(master):
             more = b""
         if not more:
             os.close(master)
-            return told.replace(b"\r\n", b"\n")
-        told += more
+            return written.replace(b"\r\n", b"\n")
+        written += more
 
 
 def name_of(path):

@@ -60,21 +60,21 @@ def run_unproved(scenarios, folder):
     words = ["rt", "try", "--seconds", str(MOST_SECONDS), "--cases", str(folder / "cases")]
     with open(folder / "printed", "wb") as printed:
         building = subprocess.Popen(words, cwd=TOP / "crates" / "tpcc", stdout=printed, stderr=subprocess.PIPE)
-        told, ended = [], 0
+        messages, ended = [], 0
         for line in building.stderr:
-            told.append(line.decode("latin-1"))
-            case = re.match(r"case=(\d+) run=(\S+)(?: (status)=(\d+))?", told[-1])
+            messages.append(line.decode("latin-1"))
+            case = re.match(r"case=(\d+) run=(\S+)(?: (status)=(\d+))?", messages[-1])
             if case is None:
                 continue
             run = runs[case[1]]
-            run.told = "".join(told[:-1])
-            run.status = f"status {case[4]}" if case[2] == "ended" else told[-1].rstrip("\n")
-            told, ended = [], ended + 1
+            run.messages = "".join(messages[:-1])
+            run.status = f"status {case[4]}" if case[2] == "ended" else messages[-1].rstrip("\n")
+            messages, ended = [], ended + 1
             if ended % 100 == 0:
                 say(f"{ended} of {len(runs)} commands have run")
         building.wait()
     if ended != len(runs):
-        sys.exit("scenarios: not all commands were run:\n" + "".join(told))
+        sys.exit("scenarios: not all commands were run:\n" + "".join(messages))
     for line in (folder / "printed").read_bytes().decode("latin-1").splitlines(keepends=True):
         if line.startswith("== "):
             run = runs[line[3:].rstrip("\n")]
@@ -100,11 +100,11 @@ def missing_commands(paths):
 
 
 def main():
-    told = (
+    purpose = (
         "Runs scenarios, and compares the results with the expected ones. Without --program one scenario takes a few minutes "
         "at most, except for the long lists in scenarios/faults/; because of these, all scenarios take over an hour."
     )
-    parser = argparse.ArgumentParser(prog="dev scenarios", description=told)
+    parser = argparse.ArgumentParser(prog="dev scenarios", description=purpose)
     parser.add_argument("--program", metavar="PATH", help="a built program; without it the program is built without proofs")
     parser.add_argument("--accept", action="store_true", help="write the results of the named scenarios as the expected ones")
     named = "a scenario, such as sim/full_inbox, or a folder of scenarios, such as sim; without names all are run"
@@ -148,8 +148,8 @@ def main():
     for name, mistake in failed.items():
         say(f"{name}: {mistake}")
     missing = list(missing_commands(paths))
-    for told in missing:
-        say(told)
+    for message in missing:
+        say(message)
     if failed or missing:
         say(f"{len(failed)} of {len(chosen)} scenarios failed")
         sys.exit(1)
