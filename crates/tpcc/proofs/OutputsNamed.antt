@@ -95,4 +95,4 @@ module _ (n : ℕ) where
 pub outputs_named : (opening : Database) (executors : ℕ) (schedule : List Scheduled) (s : Simulation) → Simulates Brand opening executors schedule s → NameEntries s.log.items s.outputs.items
 outputs_named opening executors schedule s simulates =
     reported_of_all (length s.log.items) executors schedule s.outputs.items simulates.steps simulates.plays
-    (subst (λ log. All (λ x. IsLoggedBelow (length log) x.answer) simulates.steps) (sym simulates.log) simulates.fits.reported.named)
+    (subst (λ log. All (λ x. IsLoggedBelow (length log) x.answer) simulates.steps) (sym simulates.log) simulates.fits.recorded.named)
