@@ -15,7 +15,6 @@ mod serving;
 mod slice;
 mod sources;
 mod values;
-mod worlds;
 
 // A payment in district (1, 1) by customer 1 there, on 2024-05-01 at noon.
 fn payment(amount: u32) -> Request {
