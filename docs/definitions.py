@@ -1,14 +1,13 @@
 #!/usr/bin/env python3
 """Shows the definitions in which contracts are stated.
 
-    docs/definitions.py NAME ..                 each definition of this name, whole, and who cites it
-    docs/definitions.py --cites NAME ..         what it cites, too
-    docs/definitions.py --list [--crate CRATE]  each public definition, with the first sentence of its comment
+    docs/definitions.py NAME ..                 shows each definition of this name, and who cites it
+    docs/definitions.py --cites NAME ..         shows also what it cites
+    docs/definitions.py --list [--crate CRATE]  lists the public definitions, each with the first sentence of its comment
 
-A definition stands in a file of a crate's specs/, under a comment that says what it means. Functions cite it in the clauses of their
-contracts, which stand in brackets behind the function where they have names, and types in what they show to contracts (`ghost view`).
-Where no definition has the name, those are listed whose names have it as a part, in small or capital letters. The exit status is 1
-where nothing is found.
+A definition is in a file of a crate's specs/, below a comment that states its meaning. Functions cite it in the clauses of their
+contracts; the names of these clauses follow the function in brackets. Types cite it in their ghost items, such as `ghost view`. If no
+definition has the name, those whose names contain it are listed, in lower or upper case. The exit status is 1 if nothing is found.
 """
 import argparse
 import pathlib
@@ -19,11 +18,12 @@ import textwrap
 from typing import NamedTuple
 
 TOP = pathlib.Path(__file__).resolve().parent.parent
-# A definition's first line, and what may stand in its place.
+# The first line of a definition, and lines that look like one.
 HEADER = re.compile(r"(?:abbrev |unfoldable )*(?P<public>pub )?(?:record |data )?(?P<name>[^\s:(){}=]+)(?=\s|:|$)")
 NO_HEADER = re.compile(r"(?:pub )?(?:use|mod) [^:]")
 IMPORT = re.compile(r"^ *(?:pub )?(?:ghost )?use Rattle\.(\w+)\.specs\.([\w.]+?)(?:\.\{([^}]*)\}| as (\w+));?$", re.MULTILINE)
-# Names, each with what is taken of it, as x.home; what binds names; comments, the names of fields, and their names where they are set.
+# Names, with their fields, such as x.home; what binds names; and parts of a text that cite nothing: comments, the declared names of
+# fields, and the names of fields that are set.
 WORD = re.compile(r"[^\s(){}\[\];,:]+")
 BINDERS = re.compile(r"\(([^():]+) : |\{([^(){}:=]+) : |λ ([^.]+)\.")
 NO_NAMES = re.compile(r"--.*|^ +(?:pub )?\w+ : |(?<=[{;])\s*\w+ = ", re.MULTILINE)
@@ -33,7 +33,8 @@ GHOST = re.compile(r"(?:pub(?:\([^)]*\))? )?ghost (?!use\b)(\w+)")
 
 
 class Definition(NamedTuple):
-    """A definition: its crate, its file within specs/, its line, the modules that it stands in, the comment over it, and its text."""
+    """A definition: its crate, its file within specs/, its line, its name, whether it is public, the modules around it, its comment,
+    and its text with the comment."""
 
     crate: str
     file: str
@@ -57,7 +58,7 @@ class Definition(NamedTuple):
 
 
 def crates():
-    """Returns the names of crates.txt."""
+    """Returns the names of the crates in crates.txt."""
     lines = (TOP / "crates.txt").read_text(encoding="utf-8").splitlines()
     return [line.split(":")[0].split()[0] for line in lines if line.strip() and not line.startswith("#")]
 
@@ -67,7 +68,7 @@ def indent_of(line):
 
 
 def definitions_of(crate, file, text):
-    """Yields the definitions of a file of specs/. A blank line ends one, and so does the head of the next one."""
+    """Yields the definitions of a file of specs/. A definition ends at a blank line or at the first line of the next one."""
     modules, comment, block, begun, heading = [], [], [], None, None
 
     def ended():
@@ -102,7 +103,7 @@ def definitions_of(crate, file, text):
                 block.append(line)
                 continue
             if begun is not None:
-                # (the comment over it was taken for a part of the one before)
+                # The comment above this definition was added to the one before.
                 over = []
                 while block[-1].strip().startswith("--"):
                     over.insert(0, block.pop())
@@ -112,7 +113,7 @@ def definitions_of(crate, file, text):
 
 
 def all_definitions(names):
-    """Returns the definitions of these crates, in the order of crates and files."""
+    """Returns the definitions of these crates, ordered by crate and file."""
     found = []
     for crate in names:
         folder = TOP / f"crates/{crate}/specs"
@@ -122,7 +123,7 @@ def all_definitions(names):
 
 
 class Scope:
-    """What the names of a file's imports are: definitions, or the modules that have them."""
+    """The names that a file imports, or has itself: of definitions, and of modules of definitions."""
 
     def __init__(self, known, text, own=()):
         self.names, self.modules = {it.name: it.key for it in own}, {}
@@ -130,7 +131,7 @@ class Scope:
             *above, last = path.split(".")
             file, within = path.replace(".", "/"), None
             if (crate, file) not in known:
-                # (the constructors of a data type have its name before them)
+                # An import of constructors has the name of their data type as its last part.
                 file, within = "/".join(above), last
             of = known.get((crate, file), {})
             if module:
@@ -144,12 +145,12 @@ class Scope:
                     self.names[other or name] = key
 
     def cited_by(self, definition):
-        """Returns what a definition cites beside itself. Names on the left of its equations are bound, but for those of constructors."""
+        """Returns what a definition cites other than itself. Names on the left of its equations are bound, except constructors."""
         lefts = re.findall(rf"^{re.escape(definition.name)} (.*?)(?<!\S)=(?!\S)", definition.text, re.MULTILINE)
         return self.cited(definition.text, re.findall(r"\b[a-z_][\w']*", " ".join(lefts))) - {definition.key}
 
     def cited(self, text, bound=()):
-        """Returns what this text cites, but for names that are bound in it."""
+        """Returns what this text cites. Names that are bound in it cite nothing."""
         bound = {*bound, *" ".join("".join(it) for it in BINDERS.findall(text)).split()}
         found = set()
         for word in WORD.findall(NO_NAMES.sub("", text)):
@@ -162,7 +163,7 @@ class Scope:
 
 
 def known_names(definitions):
-    """Returns what each file of specs/ has, by the names under which it is imported: its own definitions, and those that it hands on."""
+    """Returns for each file of specs/ the definitions that others can import from it, by name: its own, and those that it re-exports."""
     known = {}
     for it in definitions:
         known.setdefault((it.crate, it.file), {})[it.name] = it.key
@@ -174,7 +175,7 @@ def known_names(definitions):
 
 
 def type_of(kind, words):
-    """Returns the name of the type that an impl is of, or that of a struct, a trait or a module."""
+    """Returns the name of the type of an impl, or that of a struct, a trait or a module."""
     words = words.partition("{")[0].partition(" where ")[0]
     while "<" in words:
         plain = re.sub(r"<[^<>]*>", "", words.replace("->", ""))
@@ -186,8 +187,8 @@ def type_of(kind, words):
 
 
 def contracts_of(text):
-    """Yields the parts of the contracts in a file of src/: the function, or the type where it is what one shows to contracts, the name
-    of the clause, the parameters and the clause's text. Files are laid out: what stands in a block is indented by four more."""
+    """Yields the clauses and ghost items in a file of src/: the function or the type, the name of the clause, the parameters, and the
+    clause's text. The file must be laid out by `rt fmt`, which indents a block by four more columns."""
     lines, around, at = text.splitlines(), [], 0
     while at < len(lines):
         line, indent = lines[at], indent_of(lines[at])
@@ -235,13 +236,13 @@ def contracts_of(text):
 
 
 def module_of(crate, path):
-    """Returns the module that a file of src/ is."""
+    """Returns the name of the module in a file of src/."""
     parts = path.relative_to(TOP / f"crates/{crate}/src").with_suffix("").parts
     return "::".join([crate, *(it for it in parts if it not in ("lib", "main", "mod"))])
 
 
 def citing(definition, known, definitions):
-    """Returns who cites a definition: the functions by module, each with its clauses, and the definitions by file."""
+    """Returns what cites a definition: the functions by module, each with its clauses, and the definitions by file."""
     functions, others = {}, {}
     for crate in crates():
         for path in sorted((TOP / f"crates/{crate}/src").rglob("*.rt")):
@@ -260,7 +261,7 @@ def citing(definition, known, definitions):
 
 
 def scope_of(definition, known, definitions, text):
-    """Returns what names are where a definition stands: those of its file, and those that this imports."""
+    """Returns the names that a definition can use: those of its file, and those that the file imports."""
     return Scope(known, text, [it for it in definitions if (it.crate, it.file) == (definition.crate, definition.file)])
 
 
@@ -273,7 +274,7 @@ def listed(definitions):
 
 
 def shown(definition, known, definitions, cites):
-    """Returns the text of a definition, where it stands, and who cites it."""
+    """Returns the text of a definition, its place, and what cites it. With `cites` also what it cites."""
     parts = [f"{definition}: {definition.name}\n"]
     parts += [f"in {it}" for it in definition.modules]
     parts += [definition.text, ""]
@@ -293,15 +294,15 @@ def shown(definition, known, definitions, cites):
 
 def main():
     parser = argparse.ArgumentParser(prog="docs/definitions.py", description=__doc__, formatter_class=argparse.RawDescriptionHelpFormatter)
-    parser.add_argument("names", nargs="*", metavar="NAME", help="the name of a definition, or a part of one")
-    parser.add_argument("--crate", metavar="CRATE", choices=crates(), help="look in the specs/ of this crate alone; citing is looked for in all")
-    parser.add_argument("--cites", action="store_true", help="tell also what the definition itself cites of the crates' specs/")
-    parser.add_argument("--list", action="store_true", help="list the public definitions, a line each")
-    parser.add_argument("--uncommented", action="store_true", help="list the public definitions with no comment; the status is 1 where there are any")
+    parser.add_argument("names", nargs="*", metavar="NAME", help="the name of a definition, or a part of a name")
+    parser.add_argument("--crate", metavar="CRATE", choices=crates(), help="search only the specs/ of this crate (what cites a definition is searched for in all crates)")
+    parser.add_argument("--cites", action="store_true", help="show also the definitions that the definition itself cites")
+    parser.add_argument("--list", action="store_true", help="list the public definitions, one on each line")
+    parser.add_argument("--uncommented", action="store_true", help="list the public definitions without a comment; the exit status is 1 if there are any")
     words = parser.parse_args()
     signal.signal(signal.SIGPIPE, signal.SIG_DFL)
     if bool(words.names) + words.list + words.uncommented != 1:
-        parser.error("give names, or --list, or --uncommented")
+        parser.error("give one of: names, --list, --uncommented")
     definitions = all_definitions(crates())
     among = [it for it in definitions if words.crate in (None, it.crate)]
     public = [it for it in among if it.is_public]
@@ -320,9 +321,9 @@ def main():
         if exact:
             print("\n".join(shown(it, known, definitions, words.cites) for it in exact))
         elif similar:
-            print(f"definitions: none {where} is called {name}; did you mean:\n{listed(similar)}\n")
+            print(f"definitions: no definition {where} has the name {name}; did you mean:\n{listed(similar)}\n")
         else:
-            print(f"definitions: none {where} is called {name}, and none has this in its name", file=sys.stderr)
+            print(f"definitions: no definition {where} has the name {name}, or a name that contains it", file=sys.stderr)
             missing = True
     return 1 if missing else 0
 

@@ -3,13 +3,13 @@
 
     docs/quotes.py [--update]
 
-A quote is a block that is fenced by ``` and whose first line, a comment, names the file and what is quoted of it:
+A quote is a block fenced by ```. Its first line is a comment with the file and the names that are quoted:
 
     -- crates/commit_log/specs/Log.antt: requests_of IsLegal
 
-A name is that of a definition in a file of specs/, or of a function, a struct, an enum or a trait in a file of src/. A
-definition goes as far as the next blank line, a function as far as its body. Without --update the exit status is 1 where a quote is
-stale; with it stale quotes are written anew.
+A name is that of a definition in a file of specs/, or that of a function, a struct, an enum or a trait in a file of src/. A
+definition is quoted up to the next blank line, and a function up to its body. If a quote is stale, the exit status is 1.
+With --update stale quotes are rewritten instead.
 """
 import argparse
 import pathlib
@@ -26,11 +26,11 @@ TYPE = r"^( *)pub (?:struct|enum|trait) {name}\b.*?^\1\}}\n"
 
 
 class Missing(Exception):
-    """What a document quotes is not there."""
+    """The quoted file or name does not exist."""
 
 
 def quoted(file, name):
-    """Returns what this file has under this name."""
+    """Returns the text that this file has under this name. Raises Missing if there is none."""
     path = TOP / file
     if not path.is_file():
         raise Missing(f"there is no file {file}")
@@ -39,12 +39,12 @@ def quoted(file, name):
         found = re.search(form.format(name=re.escape(name)), path.read_text(), re.MULTILINE | re.DOTALL)
         if found:
             return textwrap.dedent(found[0]).rstrip() + "\n"
-    raise Missing(f"{file} has no {name}")
+    raise Missing(f"{file} does not contain {name}")
 
 
 def main():
     parser = argparse.ArgumentParser(description="Compares the definitions that the documents quote with their files.")
-    parser.add_argument("--update", action="store_true", help="write stale quotes anew")
+    parser.add_argument("--update", action="store_true", help="rewrite stale quotes")
     update = parser.parse_args().update
     stale, count = [], 0
     for document in sorted(HERE.glob("*.md")):
@@ -66,9 +66,9 @@ def main():
         if update and written != text:
             document.write_text(written)
     for what in stale:
-        print(f"quotes: {'written anew' if update else 'stale'}: {what}")
+        print(f"quotes: {'rewritten' if update else 'stale'}: {what}")
     if stale and not update:
-        sys.exit("quotes: see what has changed, mend the words around it, and then docs/quotes.py --update")
+        sys.exit("quotes: look at what has changed, edit the text around the quotes, and run docs/quotes.py --update")
     print(f"quotes: {count} compared")
 
 

@@ -1,6 +1,6 @@
 #!/usr/bin/env bash
-# Shows the main job of tpcc twice: after a minute or two by a program that is built without its proofs, and then by the
-# proved one, as far as it is let. What is written stays in examples/out.
+# Shows the main job of tpcc twice: first with a program that is built without its proofs in a minute or two, and then with
+# the proved one. The files that it writes stay in examples/out. Ctrl-C ends the script at any time.
 set -euo pipefail
 cd "$(dirname "${BASH_SOURCE[0]}")/.."
 top=$PWD
@@ -19,30 +19,30 @@ say() {
     printf '\n== %s\n' "$*"
 }
 
-# Shows what a command has printed and written.
+# Prints a command with its output and the file that it wrote.
 show() {
     say "tpcc ${words[$1]}"
     cat "$made/shown/$1"
     case $1 in
     1-run)
-        say "The log, $made/log.csv: what was carried out, in order"
+        say "The log, $made/log.csv: the requests that were carried out, in order, with their replies"
         cat "$made/log.csv"
         ;;
     2-replay)
-        say "The tables at its end, $made/tables.csv, where they differ from examples/one-warehouse.csv"
+        say "The tables at the end, $made/tables.csv: the lines that differ from examples/one-warehouse.csv"
         diff examples/one-warehouse.csv "$made/tables.csv" || true
         ;;
     esac
 }
 
-# Tells of each library once it is proved, until this script ends.
-tell_proved() {
-    local told=" " library name
+# Prints the name of each library once it is proved, until this script ends.
+report_proved() {
+    local printed=" " library name
     while kill -0 $$ 2> /dev/null; do
         for library in crates/*/out/rlib/*.rlib; do
             name=$(basename "$library" .rlib)
-            if [ -e "$library" ] && [[ $told != *" $name "* ]]; then
-                told+="$name "
+            if [ -e "$library" ] && [[ $printed != *" $name "* ]]; then
+                printed+="$name "
                 echo "   proved: $name, after $SECONDS s"
             fi
         done
@@ -50,7 +50,7 @@ tell_proved() {
     done
 }
 
-say "Building tpcc without its proofs, which takes a minute or two"
+say "Building tpcc without its proofs, which takes a minute or two on a free machine"
 for name in "${names[@]}"; do
     : > "$made/cases/$name"
     for word in ${words[$name]}; do
@@ -69,17 +69,17 @@ for name in "${names[@]}"; do
 done
 
 say "NOTHING IS PROVED of the program that has just run: it was built to be seen soon, with checks as it runs, and is gone."
-echo "   Now every crate is proved that tpcc stands on, and last tpcc itself: more than an hour on four processors,"
-echo "   longer beside other work, and seconds once it is done. The first line comes after some minutes. Ctrl-C ends it;"
-echo "   what was proved by then is kept."
+echo "   Next, every crate that tpcc stands on is proved, and then tpcc itself. This takes more than an hour on four"
+echo "   processors, longer beside other work, and seconds if it was done before. The first line comes after some minutes."
+echo "   Ctrl-C ends the script; the proofs that are finished by then are kept."
 SECONDS=0
-tell_proved &
-teller=$!
+report_proved &
+reporter=$!
 (cd crates/tpcc && rt run -- run ../../examples/one-warehouse.csv ../../examples/mixed-session.csv \
     ../../examples/names-session.csv --log "../../$made/log.csv") > "$made/shown/1-run"
-kill "$teller"
+kill "$reporter"
 
-say "PROVED: the same by crates/tpcc/out/tpcc, which stays"
+say "PROVED: the same job with crates/tpcc/out/tpcc, which stays"
 show 1-run
 for name in 2-replay 3-check; do
     # shellcheck disable=SC2086

@@ -1,12 +1,18 @@
-"""Refuses each allocation of the program in turn: gate/allocations.py PROGRAM
+"""Makes each allocation of the program fail in turn: gate/allocations.py PROGRAM
 
-`tpcc run` and `tpcc sim` serve a few requests on a small set, `run` while the warehouse moves, `sim` also where an action waits,
-once for each of their allocations, with that one refused.
-Each must end with status 4 and `tpcc: no memory`, or with answers that are all done or refused for want of memory (12) or as
-died (11); then `replay` and `check` of what was written must agree with it. A log is there whole or not at all. Where it is
-there all answers are printed, also where there is no memory for the tables, which has to be among the runs; where it is not no
-answer is printed, or the log stands whole under its other name. The first run in which no allocation is left to refuse ends the
-sweep.
+`tpcc run` and `tpcc sim` serve a few requests on a small dataset while its warehouse moves, and `sim` also plays a schedule in
+which an action waits. Each command is run once for each of its allocations, with that allocation refused. A run must end in one of
+these ways:
+
+- Status 0. Each request is answered done, or refused for lack of memory (12) or as died (11). `replay` of the log prints `equal`
+  and the number of done requests, and gives the tables that were written; `check` of them succeeds.
+- Status 4 and `tpcc: no memory`, with a log. The answers and the log are as above, and the tables may be missing. At least one run
+  of each command must end so, for lack of memory for the tables.
+- Status 4 and `tpcc: no memory`, without a log. No answer is printed and no file is left; or the whole log is left under its
+  temporary name.
+- Status 1 and `tpcc: no thread`, from `tpcc run`. No file is left.
+
+The sweep ends with the first run that makes too few allocations to be refused one.
 """
 
 import os
@@ -20,8 +26,8 @@ from itertools import count
 ROOT = os.path.dirname(os.path.dirname(os.path.abspath(__file__)))
 POPULATION = ["--warehouses", "1", "--items", "10", "--customers", "3"]
 MOMENT = "2024-05-01T12:00:00"
-# A payment by number, a customer's last order and a payment by last name, and a payment that is rolled back; an order whose
-# second line takes from the same stock as its first, one of an item that isn't there, how much is low, and a delivery.
+# A payment by number, a query of a customer's last order, a payment by last name, a payment that is rolled back, an order whose
+# second line takes from the same row of stock as its first, an order of an unknown item, a query of low stock, and a delivery.
 REQUESTS = [
     f"P,1,1,1,1,#1,100,{MOMENT}",
     "O,1,1,BARBARBAR",
@@ -34,7 +40,7 @@ REQUESTS = [
 ]
 # A schedule in which an action of an order waits for a younger reader.
 WAITING = f"{ROOT}/scenarios/sim/new_order_waits/schedule.csv"
-# The name under which the log is written.
+# The temporary name under which the log is written.
 OTHER_NAME = "log.csv.tpcc-0"
 AT_ONCE = 4 * (os.cpu_count() or 1)
 
@@ -45,7 +51,7 @@ def write(path, records):
 
 
 def read(path):
-    """Returns the text of a file, or nothing where there is none."""
+    """Returns the text of a file, or an empty string if there is no file."""
     if not os.path.exists(path):
         return ""
     with open(path, encoding="utf-8") as file:
@@ -53,20 +59,21 @@ def read(path):
 
 
 def has_a_log(folder):
-    """Whether there is a log under its own name."""
+    """Returns whether there is a log under its own name."""
     return os.path.exists(f"{folder}/log.csv")
 
 
 def has_kept_its_log(command, ends):
-    """Whether a run without memory for its tables had its log. `tpcc sim` makes them before the log is written and the first record
-    is printed, which takes memory too."""
+    """Returns whether a run without memory for its tables left a log. `ends` has for each run in turn what `Sweep.one` returns of its
+    log. `tpcc sim` makes the tables before it writes the log and prints the first record, which takes memory too. So a later run of
+    it must end without a log."""
     return True in ends and (command == "run" or False in ends[ends.index(True) :])
 
 
 def library(room):
-    """Builds what refuses an allocation, by the toolchain's clang."""
-    told = subprocess.run(["rt", "doc"], stdout=subprocess.PIPE, text=True, check=True).stdout
-    tools, built = f"{os.path.dirname(told.strip())}/toolchain/bin", f"{room}/refuse.so"
+    """Builds the library that refuses an allocation, with the toolchain's clang. Returns its path."""
+    output = subprocess.run(["rt", "doc"], stdout=subprocess.PIPE, text=True, check=True).stdout
+    tools, built = f"{os.path.dirname(output.strip())}/toolchain/bin", f"{room}/refuse.so"
     words = ["--target=x86_64-unknown-linux-gnu", "-shared", "-fPIC", "-O1", "-nostdlib", f"-fuse-ld={tools}/ld.lld"]
     subprocess.run([f"{tools}/clang", *words, f"{ROOT}/gate/refuse_allocation.c", "-o", built], check=True)
     return built
@@ -85,8 +92,8 @@ class Sweep:
         return subprocess.run([self.program, *words], cwd=folder, capture_output=True, text=True, check=False, **more)
 
     def one(self, number):
-        """Runs the command with this allocation refused. Returns whether there was one, whether the run ended for want of memory
-        with a whole log, or without one (None, where it went on), and what is wrong, or None.
+        """Runs the command with this allocation refused. Returns whether the run made so many allocations; whether it left a log, if
+        it ended with status 4, or else None; and what is wrong with it, or None.
         """
         folder = f"{self.room}/{self.command}-{number}"
         os.mkdir(folder)
@@ -100,7 +107,7 @@ class Sweep:
         return was_refused, has_log, wrong
 
     def fault(self, folder, ran):
-        """Returns what is wrong with how a run ended, or None."""
+        """Returns what is wrong with the end of a run, or None."""
         if ran.returncode == 4 and ran.stderr == "tpcc: no memory\n":
             return self.answered(folder, ran, False) if has_a_log(folder) else self.refused(folder, ran)
         if ran.returncode == 1 and ran.stderr == "tpcc: no thread\n" and self.command == "run":
@@ -110,9 +117,9 @@ class Sweep:
         return self.answered(folder, ran, True)
 
     def answered(self, folder, ran, has_tables):
-        """Returns what is wrong with the answers and the log of a run whose log is whole, or None."""
+        """Returns what is wrong with the answers and the log of a run that left a log, or None."""
         if any(".tpcc-" in name for name in self.left(folder)):
-            return f"left under another name: {self.left(folder)}"
+            return f"files left under temporary names: {self.left(folder)}"
         answers = self.answers(ran.stdout)
         bad = [it for it in answers if it[0] != "done" and it[:2] not in (["refused", "11"], ["refused", "12"])]
         if bad or len(answers) != self.requests:
@@ -120,7 +127,7 @@ class Sweep:
         return self.replayed(folder, sum(it[0] == "done" for it in answers), has_tables)
 
     def answers(self, printed):
-        """Returns, of each answer that was printed, what follows its session and number."""
+        """Returns the fields of each printed answer that follow its session and number."""
         records = [line.split(",") for line in printed.splitlines()]
         if self.command == "sim":
             return [it[3:] for it in records if it[0] == "answered"]
@@ -131,25 +138,27 @@ class Sweep:
         return sorted(set(os.listdir(folder)) - {"refused"})
 
     def refused(self, folder, ran):
-        """Without a log no answer is printed and nothing is left, or the log stands whole under its other name."""
+        """Returns what is wrong with a run that left no log, or None. It must print no answer and leave no file, or leave the whole log
+        under its temporary name."""
         left = self.left(folder)
         if left == [OTHER_NAME]:
-            told = self.call(folder, "replay", self.dataset, OTHER_NAME)
-            return None if told.returncode == 0 else f"the log that was left is not whole: {told.stdout.strip() or told.stderr.strip()}"
+            replay = self.call(folder, "replay", self.dataset, OTHER_NAME)
+            return None if replay.returncode == 0 else f"the log under its temporary name is not whole: {replay.stdout.strip() or replay.stderr.strip()}"
         return f"no log, but printed {ran.stdout.strip()!r} and left {left}" if left or ran.stdout else None
 
     def replayed(self, folder, done, has_tables):
-        """Replays the log; it must be equal, have as many entries as requests were done, and lead to what was written."""
+        """Returns what is wrong with the replay of the log, or None. It must be equal, with as many entries as requests were done, and
+        give the tables that were written, if any."""
         ran = self.call(folder, "replay", self.dataset, "log.csv", "--tables", "replayed.csv")
         if ran.stdout != f"equal {done}\n":
-            return f"{done} done, but replay says {ran.stdout.strip() or ran.stderr.strip()}"
+            return f"{done} done, but replay prints {ran.stdout.strip() or ran.stderr.strip()}"
         if has_tables and read(f"{folder}/tables.csv") != read(f"{folder}/replayed.csv"):
             return "the tables are not those of the replay"
         ran = self.call(folder, "check", "replayed.csv")
-        return None if ran.returncode == 0 else f"check says {ran.stdout.strip()}"
+        return None if ran.returncode == 0 else f"check prints {ran.stdout.strip()}"
 
     def whole(self):
-        """Refuses each allocation in turn. Returns whether all was well."""
+        """Refuses each allocation in turn. Returns whether every run ended as it must."""
         well, ends = True, []
         with ThreadPoolExecutor(AT_ONCE) as pool:
             for first in count(1, AT_ONCE):
@@ -161,7 +170,7 @@ class Sweep:
                     ends.append(has_log)
                     if not was_refused:
                         if not has_kept_its_log(self.command, ends):
-                            print(f"allocations: tpcc {self.command}: no log where there was no memory for the tables")
+                            print(f"allocations: tpcc {self.command}: no run without memory for its tables left a log")
                             well = False
                         print(f"allocations: tpcc {self.command}: each of {number - 1} allocations refused in turn", flush=True)
                         return well
@@ -173,7 +182,7 @@ def main():
         refuser, dataset, script, schedule = library(room), f"{room}/dataset.csv", f"{room}/script.csv", f"{room}/schedule.csv"
         subprocess.run([program, "populate", dataset, *POPULATION], check=True)
         write(script, [*REQUESTS, f"END,{len(REQUESTS)}"])
-        # With each request the warehouse goes to the other executor.
+        # With each request the warehouse moves to the other executor.
         events = [it for number, request in enumerate(REQUESTS) for it in (f"S,0,{number},{request}", f"M,1,1,{(number + 1) % 2}", "R")]
         write(schedule, [*events, f"END,{len(events)}"])
         moves = f"{room}/moves.csv"

@@ -1,13 +1,13 @@
 #!/usr/bin/env python3
-"""Measures what reading and populating datasets cost, by turns beside another program.
+"""Measures what reading and populating datasets cost, in turns with another program.
 
     python3 -B gate/datasets.py PROGRAM [--beside NAME CHECK POPULATE] [--warehouses 1,2,4] [--runs 5] [--record]
 
-PROGRAM is `tpcc`. NAME is what the other program is called in the table; CHECK and POPULATE are its commands, in which
-`{file}` stands for a dataset and `{warehouses}` for their number. Both read the same files, which PROGRAM populated, and look
-at the twelve conditions; both write what they populate. Told are the least processor time of some runs by turns, in the
-program and in the system together, the most memory that a process had (MB of 1,048,576 bytes), and for one warehouse the
-instructions in the program, by callgrind where there is valgrind. With --record the table stands in docs/COSTS.md.
+PROGRAM is `tpcc`. NAME is the name of the other program in the table. CHECK and POPULATE are its commands, in which `{file}`
+stands for a dataset and `{warehouses}` for the number of warehouses. Both programs read the same files, which PROGRAM populated,
+and check the twelve conditions. Both write what they populate. The table has the least processor time of several runs, in the
+program and in the system together; the most memory of a process (MB of 1,048,576 bytes); and for one warehouse the instructions
+in the program, counted by callgrind if valgrind is installed. With --record the table is written into docs/COSTS.md.
 """
 
 import argparse
@@ -27,7 +27,7 @@ MB = 1_048_576
 
 
 def run(words):
-    """Runs a command, and returns its processor seconds and the most bytes that it had."""
+    """Runs a command. Returns its processor seconds, and the most memory that it had, in bytes. Exits if the command fails."""
     quiet = subprocess.DEVNULL
     child = subprocess.Popen(words, stdin=quiet, stdout=quiet, stderr=quiet)
     _, status, used = os.wait4(child.pid, 0)
@@ -37,17 +37,17 @@ def run(words):
 
 
 def instructions(words, folder):
-    """Returns how many instructions a command takes, or None where there is no valgrind."""
+    """Returns how many instructions a command takes, or None without valgrind."""
     if shutil.which("valgrind") is None:
         return None
     out = os.path.join(folder, "callgrind.out")
     words = ["valgrind", "--tool=callgrind", f"--callgrind-out-file={out}", *words]
-    told = subprocess.run(words, stdin=subprocess.DEVNULL, capture_output=True, text=True, check=True)
-    return int(re.search(r"Collected : (\d+)", told.stderr).group(1))
+    counted = subprocess.run(words, stdin=subprocess.DEVNULL, capture_output=True, text=True, check=True)
+    return int(re.search(r"Collected : (\d+)", counted.stderr).group(1))
 
 
 def compare(commands, runs):
-    """Returns of each command the least seconds and the most bytes of so many runs, by turns."""
+    """Runs the commands in turns, each so many times. Returns for each the least seconds and the most bytes."""
     seen = [[] for _ in commands]
     for _ in range(runs):
         for command, results in zip(commands, seen):
@@ -56,7 +56,7 @@ def compare(commands, runs):
 
 
 def row(warehouses, work, unit, values, form):
-    """Returns a row of the table, with how many times the other program's the first value is."""
+    """Returns a row of the table: the values, and the ratio of the first to the second."""
     if len(values) < 2:
         values = [*values, None]
     if any(value is None for value in values):
@@ -92,7 +92,7 @@ def measure(program, beside, warehouses, runs):
 
 
 def record(table):
-    """Puts the table in its place in docs/COSTS.md."""
+    """Replaces the table in docs/COSTS.md."""
     with open(COSTS, encoding="utf-8") as file:
         text = file.read()
     start, end = text.index(BEGIN) + len(BEGIN), text.index(END)
@@ -101,7 +101,7 @@ def record(table):
 
 
 def main():
-    """Measures, tells, and where it is asked for records."""
+    """Measures, prints the table, and with --record writes it into docs/COSTS.md."""
     parser = argparse.ArgumentParser(description=__doc__, formatter_class=argparse.RawDescriptionHelpFormatter)
     parser.add_argument("program")
     parser.add_argument("--beside", nargs=3, metavar=("NAME", "CHECK", "POPULATE"))

@@ -1,16 +1,17 @@
-"""The wrong programs of the crates: edits of a crate's code that the prover must refuse. As a program: edits.py CRATE.. tries all of these
-crates, over the libraries that `rt` has built here.
+"""Tries wrong programs: edits of a crate's code that the prover must refuse.
 
-Those of `must-fail/` are tried in each run of the gate, those of `wrong-programs/`, which are written alike, with --whole too. The
-last line of each tells the function that has no proof then: `# refused by: CLAUSE of FUNCTION`, or `CLAUSE of CALLEE in FUNCTION`,
-the function as the prover prints it, or the end of its name. The prover is asked for that function, and for those that it calls,
-over the libraries that `rt ci` has built. That takes seconds, where a check of the whole crate takes minutes; and first it has to
-prove the same functions of the crate as it stands, so that an edit is refused for what it turns.
+    gate/edits.py CRATE ..    tries all edits of these crates, over the libraries that `rt` has built here
 
-Most of such a check is reading libraries. So edits of one crate that each turn the body of the function that they name, and of
-which no two name the same, are tried in one check: no proof of a function rests on the body of another one. Of which function that
-has not a proof then for reasons of its own, and not only since it calls one that has none, its edit is refused; any other edit is
-tried once more, alone.
+Each run of the gate tries the edits of `must-fail/`, and with --whole also those of `wrong-programs/`, which have the same form.
+The last line of an edit names the function that must lose its proof: `# refused by: CLAUSE of FUNCTION`, or `CLAUSE of CALLEE in
+FUNCTION`. FUNCTION is the name as the prover prints it, or the end of that name. The prover checks that function and those that it
+calls, over the libraries that `rt ci` has built. That takes seconds; a check of the whole crate takes minutes. The prover must
+first prove the same functions of the unchanged crate, so that an edit is refused for its change alone.
+
+Most of such a check is reading libraries. So one check tries several edits of a crate together, if each changes only the body of
+the function that it names and no two name the same function. No proof of a function depends on the body of another one. An edit is
+refused by such a check if its function has no proof for reasons of its own, and not only because it calls a function without a
+proof. Any other edit is tried again, alone.
 """
 
 import os
@@ -25,13 +26,13 @@ from typing import NamedTuple, Optional
 
 KINDS = ["must-fail", "wrong-programs"]
 LANES = min(4, len(os.sched_getaffinity(0)))
-# With less free memory, in bytes, no check begins beside another.
+# No check starts beside another one with less free memory than this, in bytes.
 LEAST_FREE = 6_000_000_000
 
 
 class Edit(NamedTuple):
-    """An edit: its crate, its path in the crate's folder, what it changes, each a file, an old text and the new one, the function that
-    refuses it, and what keeps it from being tried, if anything does."""
+    """An edit: its crate; its path in the crate's folder; its changes, each a file, an old text and a new one; the function that must
+    refuse it; and the fault that keeps it from being tried, or None."""
 
     crate: str
     path: str
@@ -54,31 +55,31 @@ def last_of(function):
 
 
 def steps(folder, edits):
-    """Yields of each change that these edits make, in turn, its file, what stands there before the old text, and the text that the
-    file has then. The old text has to stand there exactly once."""
+    """Makes the changes of these edits in turn, in memory. Yields for each the file, the text before the old text, and the file's
+    text after the change. Raises ValueError if the file does not contain the old text exactly once."""
     texts = {}
     for edit in edits:
         for file, old, new in edit.changes:
             text = texts.get(file) or text_of(f"{folder}/{file}")
             if text.count(old) != 1:
-                raise ValueError(f"an old text is in {file} {text.count(old)} times")
+                raise ValueError(f"an old text must occur once in {file}, and occurs {text.count(old)} times")
             texts[file] = text.replace(old, new)
             yield file, text[: text.index(old)], texts[file]
 
 
-def turned(folder, edits):
-    """Returns the texts that these edits leave of the files that they turn."""
+def edited(folder, edits):
+    """Returns the files that these edits change, each with its text after them."""
     return {file: text for file, _, text in steps(folder, edits)}
 
 
 def is_within(folder, edit):
-    """Returns whether the edit turns the body of the function that it names, and nothing else."""
+    """Returns whether the edit changes only the body of the function that it names."""
     return all(re.findall(r"\bfn (\w+)", before)[-1:] == [last_of(edit.function)] for _, before, _ in steps(folder, [edit]))
 
 
 def read(folder, crate, path):
-    """Returns the edit at that path of the crate's folder. It has a fault where it doesn't turn just what it names, at a line that nothing
-    reads, say, or an old text that doesn't stand in its file exactly once; and where it names no function."""
+    """Returns the edit at that path of the crate's folder. It has a fault if it has an unknown line, no change, or an old text without
+    a new one; if a file does not contain an old text exactly once; or if it names no function."""
     file, old, changes, function, fault = None, None, [], "", None
     for line in text_of(f"{folder}/{path}").splitlines():
         word, _, rest = line.partition(" ")
@@ -92,32 +93,32 @@ def read(folder, crate, path):
         elif line.startswith("# refused by: "):
             function = line.split()[-1]
         elif not line.startswith("#"):
-            fault = fault or f"nothing reads the line: {line}"
+            fault = fault or f"unknown line: {line}"
     if not changes or old is not None:
-        fault = fault or "it turns nothing, or an old text has no new one"
+        fault = fault or "it has no change, or an old text without a new one"
     if not function:
-        fault = fault or "it doesn't tell the function that refuses it"
+        fault = fault or "it does not name the function that refuses it"
     edit = Edit(crate, path, changes, function, fault)
     try:
-        turned(folder, [edit])
+        edited(folder, [edit])
     except ValueError as error:
         edit = edit._replace(fault=fault or str(error))
     return edit
 
 
 def fits(folder, group, edit):
-    """Returns whether the edit can be tried in one check with these."""
+    """Returns whether the edit can be tried in one check with this group."""
     if not all(is_within(folder, it) for it in [*group, edit]) or last_of(edit.function) in {last_of(it.function) for it in group}:
         return False
     try:
-        turned(folder, [*group, edit])
+        edited(folder, [*group, edit])
     except ValueError:
         return False
     return True
 
 
 def groups_of(folder, edits):
-    """Returns the edits in groups, each of which can be tried in one check."""
+    """Returns the edits in groups. Each group can be tried in one check."""
     groups = []
     for edit in edits:
         group = next((it for it in groups if fits(folder, it, edit)), None)
@@ -141,21 +142,21 @@ def free_memory():
 
 
 class Prover:
-    """Asks the prover for functions of the crates below a folder in which `rt ci` has built their libraries."""
+    """Has the prover check functions of crates, below a folder in which their libraries are built."""
 
-    # The checks that are under way, of all.
+    # The checks that are running, of all provers.
     running = set()
 
     def __init__(self, root):
-        # The library of `rt` knows what words a check of a crate takes.
+        # The library of `rt` makes the command line of a crate's check.
         sys.path.insert(0, os.path.dirname(os.path.realpath(shutil.which("rt"))))
         import rtlib
 
         self.rt, self.crates = rtlib, {it.name: it for it in rtlib.crates_below(root)}
 
     def check(self, name, texts, functions, kept):
-        """Returns the status of a check of these functions, with these texts in the place of the crate's own, and what it prints. It begins
-        with what lies in the folder kept, and leaves there what it proves."""
+        """Checks these functions of the crate, with these texts in place of its own. Returns the exit status and the output. The check
+        starts with the proofs in the folder `kept`, and adds its own to them."""
         crate = self.crates[name]
         while self.running and free_memory() < LEAST_FREE:
             time.sleep(1)
@@ -171,9 +172,9 @@ class Prover:
             how = {"stdin": subprocess.DEVNULL, "stdout": subprocess.PIPE, "stderr": subprocess.STDOUT, "errors": "replace"}
             with subprocess.Popen(words, cwd=room, **how) as ran:
                 self.running.add(ran)
-                told = ran.communicate()[0]
+                output = ran.communicate()[0]
                 self.running.discard(ran)
-        return ran.returncode, told
+        return ran.returncode, output
 
     @classmethod
     def stop(cls):
@@ -181,35 +182,35 @@ class Prover:
             ran.kill()
 
 
-def lacking(told):
-    """Returns the functions that have no proof, by what the prover prints, each with the reasons of its own: it has none where it only
-    calls another one that has no proof."""
-    found = re.findall(r"^fn (\S+): (?!proved|could not tell)(?:no proof: |not proved; )?(.*)", told, re.MULTILINE)
+def unproved(output):
+    """Returns the functions that the prover's output reports without a proof, each with the reasons of its own. The list of reasons
+    is empty if the function only calls another one without a proof."""
+    found = re.findall(r"^fn (\S+): (?!proved|could not tell)(?:no proof: |not proved; )?(.*)", output, re.MULTILINE)
     return {name: [it for it in why.split("; ") if not it.startswith("it calls ")] for name, why in found}
 
 
 def named_in(edit, functions):
-    """Returns whether one of these functions is that which the edit names."""
+    """Returns whether the edit names one of these functions."""
     return any(f"::{it}".endswith(f"::{edit.function}") for it in functions)
 
 
-def refuses(edit, status, told):
-    """Returns whether a check refuses the edit in the function that it names, and what to say."""
-    if status == 1 and told.rstrip().rpartition("\n")[2].startswith("only="):
-        if named_in(edit, lacking(told)):
+def refuses(edit, status, output):
+    """Returns whether a check refuses the edit at the function that it names, and a message."""
+    if status == 1 and output.rstrip().rpartition("\n")[2].startswith("only="):
+        if named_in(edit, unproved(output)):
             return True, f"refused by {edit.function}"
-        return False, f"NOT REFUSED by {edit.function}, but by {', '.join(lacking(told))}"
-    return False, "NOT REFUSED" if status == 0 else f"NOT TRIED, the check's status is {status}: {told[-1000:]}"
+        return False, f"NOT REFUSED by {edit.function}, but by {', '.join(unproved(output))}"
+    return False, "NOT REFUSED" if status == 0 else f"NOT TRIED, the check's status is {status}: {output[-1000:]}"
 
 
-def refuses_beside(edit, status, told):
-    """Returns whether a check with other edits refuses this one for reasons of the function that it names."""
-    return refuses(edit, status, told)[0] and named_in(edit, [name for name, own in lacking(told).items() if own])
+def refuses_beside(edit, status, output):
+    """Returns whether a check of several edits refuses this one, for its function's own reasons."""
+    return refuses(edit, status, output)[0] and named_in(edit, [name for name, own in unproved(output).items() if own])
 
 
 class Trials:
-    """Tries the edits of crates in lanes of their own, beside the proofs of the crates above and behind them in turn: those of a crate once
-    its libraries are built. It is entered and left; left early, what is under way ends."""
+    """Tries edits in threads of its own, beside the proofs of the crates above and at the lowest priority. The edits of a crate are
+    tried once its libraries are built. A context manager: leaving it early ends the running checks."""
 
     def __init__(self, edits, say):
         self.say, self.provers, self.of, self.pending, self.count = say, {}, {}, [], len(edits)
@@ -227,7 +228,7 @@ class Trials:
         self.room.cleanup()
 
     def begin(self, root, name):
-        """Begins with the edits of that crate, whose libraries are built below this folder."""
+        """Starts to try the edits of this crate, whose libraries are built below the folder `root`."""
         edits = self.of.pop(name, None)
         if edits:
             prover = self.provers[root] = self.provers.get(root) or Prover(root)
@@ -235,25 +236,25 @@ class Trials:
 
     def prove_as_it_stands(self, prover, name, edits):
         base = f"{self.room.name}/{name}"
-        status, told = prover.check(name, {}, sorted({it.function for it in edits}), base)
+        status, output = prover.check(name, {}, sorted({it.function for it in edits}), base)
         if status:
-            self.say(f"{name}: the functions that refuse its edits aren't proved as they stand: {told[-1000:]}")
+            self.say(f"{name}: not all functions that its edits name are proved in the unchanged crate: {output[-1000:]}")
             return 0
         for group in groups_of(prover.crates[name].folder, edits):
             self.pending.append(self.lanes.submit(self.try_together, prover, group, base))
         return 0
 
     def try_together(self, prover, edits, base):
-        """Tries these edits in one check, and then those alone that it doesn't tell of. Returns how many it refuses."""
+        """Tries these edits in one check. Returns how many it refuses. The others of several edits are tried again later, alone."""
         name, over = edits[0].crate, f"{base}.{edits[0].path.replace(os.sep, '.')}"
         shutil.copytree(base, over)
-        status, told = prover.check(name, turned(prover.crates[name].folder, edits), [it.function for it in edits], over)
+        status, output = prover.check(name, edited(prover.crates[name].folder, edits), [it.function for it in edits], over)
         shutil.rmtree(over)
         if len(edits) == 1:
-            well, why = refuses(edits[0], status, told)
-            self.say(f"{edits[0]}: {why}")
-            return int(well)
-        refused = [it for it in edits if refuses_beside(it, status, told)]
+            is_refused, message = refuses(edits[0], status, output)
+            self.say(f"{edits[0]}: {message}")
+            return int(is_refused)
+        refused = [it for it in edits if refuses_beside(it, status, output)]
         for edit in refused:
             self.say(f"{edit}: refused by {edit.function}")
         for edit in edits:
@@ -262,10 +263,10 @@ class Trials:
         return len(refused)
 
     def end(self):
-        """Waits until all that has begun is tried, and returns how many edits were refused, and how many not."""
+        """Waits for all trials. Returns how many edits were refused, and how many not."""
         refused = 0
         while self.pending:
-            # (a crate's first check adds its edits before it ends)
+            # A trial appends further trials to the list before it ends.
             refused += self.pending.pop().result()
         return refused, self.count - refused
 
@@ -280,9 +281,9 @@ def main():
     with Trials(edits, lambda text: print(text, flush=True)) as trials:
         for name in names:
             trials.begin(root, name)
-        well, ill = trials.end()
-    print(f"{well} refused, {ill} not")
-    return 1 if ill else 0
+        refused, others = trials.end()
+    print(f"{refused} refused, {others} not")
+    return 1 if others else 0
 
 
 if __name__ == "__main__":

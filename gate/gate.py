@@ -1,20 +1,25 @@
-"""Passes the tests: ./dev gate [--anew] [--whole] [--record NAME]
+"""Runs all tests: ./dev gate [--anew] [--whole] [--record NAME]
 
-First come the definitions that documents quote, a look at crates.txt, and one at each wrong program. Then `rt ci` proves every
-crate and its tests from nothing, and runs the tests and the stored run; where it keeps what it has proved, the longest
-chain of crates goes first. Beside it, over what it has built so far, the prover has to refuse the wrong programs of
-must-fail/, each at the function that it names. Last, all scenarios are run by the program that was proved, and each of
-its allocations is refused in turn. The last line is as `rt ci`'s: N passed, 0 failed, of the crates and the wrong
-programs. The exit status is 0 where all is well.
+First the gate compares the definitions that documents quote with the files, checks the order of crates.txt, and checks
+the form of every wrong program. Three parts follow:
 
-With --whole the further wrong programs, those of wrong-programs/, have to be refused too.
+1. `rt ci` proves every crate and its tests from nothing, and runs the tests and the stored run. If it keeps its results
+   and memory suffices, the longest chain of crates goes first. Meanwhile the prover must refuse the wrong programs of
+   must-fail/, each at the function that it names, over the libraries that are built by then.
+2. The proved program runs all scenarios.
+3. Each allocation of that program is made to fail in turn.
 
-Where the toolchain's `rt ci` keeps what it passed before on this machine, it does not do that again, of the same files over the
-same libraries; with --anew it does. Where it keeps nothing it does all in every run, and --anew asks for nothing more. (It keeps
-something where `rt help` names --anew.)
+The last line is `N passed, M failed`, as that of `rt ci`. It counts crates and wrong programs; any other check that
+fails counts as one failure. The exit status is 0 if nothing failed.
 
-What the run has cost so far, and its ten most costly parts, is told every 20 minutes and as it ends, also where it is ended
-early, by Ctrl-C or SIGTERM. With --record a run that came to its end writes its costs into docs/COSTS.md, under NAME.
+With --whole the prover must also refuse the further wrong programs, those of wrong-programs/.
+
+If the toolchain's `rt ci` keeps its results on this machine (then `rt help` lists --anew), it does not repeat what passed
+before with the same files over the same libraries; with --anew it repeats everything. Otherwise every run does all, and
+--anew changes nothing.
+
+The cost so far and the ten most costly parts are printed every 20 minutes and at the end, also after Ctrl-C or SIGTERM.
+With --record a run that is not interrupted writes its costs into docs/COSTS.md, under NAME.
 """
 
 import argparse
@@ -34,11 +39,11 @@ from edits import KINDS, Trials, edits_of, free_memory
 
 ROOT = os.path.dirname(os.path.dirname(os.path.abspath(__file__)))
 PROGRAM = "crates/tpcc/out/tpcc"
-# The crate whose proof takes longest. `rt ci` gives a proof its processors as it begins, and this one would begin beside others with one:
-# so a run of this crate and of those below comes first, and beside it, for what it leaves free, one of all that don't stand on this
-# crate. The run that judges takes what these two have proved, and proves the rest.
+# The crate whose proof takes longest. `rt ci` assigns processors to a proof when it starts, and this proof would start beside others
+# and get one processor. So a run of this crate and those below it goes first. Beside it, at a lower priority, goes a run of all crates
+# that do not stand on this one. The main run reuses what these two have proved, and proves the rest.
 TOP = "engine"
-# The free memory, in bytes, with which two runs go side by side.
+# Two runs go side by side only with more free memory than this, in bytes.
 ENOUGH_FOR_TWO = 16_000_000_000
 VERDICT = re.compile(r"(\d+) passed, (\d+) failed")
 START = time.monotonic()
@@ -50,24 +55,24 @@ def say(text):
 
 
 def crates():
-    """Returns the names of crates.txt, in its order, and what each stands on."""
+    """Returns the crates of crates.txt, in its order, each with the crates that it stands on."""
     with open(f"{ROOT}/crates.txt", encoding="utf-8") as file:
         lines = [line.partition(":") for line in file if line.strip() and not line.startswith("#")]
     return {name.strip(): stands_on.split() for name, _, stands_on in lines}
 
 
 def misplaced():
-    """Returns why crates.txt is not lowest first: each crate that comes before one that it stands on."""
+    """Returns a message for each crate of crates.txt that comes before one that it stands on."""
     named, earlier, faults = crates(), set(), []
     for name, stands_on in named.items():
         later = [it for it in stands_on if it in named and it not in earlier]
-        faults += [f"crates.txt is not lowest first: {name} has to come after {it}, which it stands on" for it in later]
+        faults += [f"crates.txt is not lowest first: {name} must come after {it}, on which it stands" for it in later]
         earlier.add(name)
     return faults
 
 
 def with_all_below():
-    """Returns of each crate its name and those of all crates that it stands on, whatever their order in crates.txt."""
+    """Returns for each crate the set of itself and all crates below it, in whatever order crates.txt lists them."""
     named, found = crates(), {}
 
     def below(name):
@@ -80,9 +85,9 @@ def with_all_below():
 
 
 class Progress:
-    """Says of each part of `rt ci` how many of how many crates have passed it, and tells `proved` of each crate that is, once, and
-    of the folder in which its library is built. It knows whether a crate was proved once more, which `rt ci` does where it keeps
-    nothing."""
+    """Follows the output of `rt ci`. Prints how many crates have passed each part. Calls `proved` once for each proved crate, with
+    the folder below which its library is built. Records in `is_done_again` whether a crate was proved twice; that happens only if
+    `rt ci` keeps nothing."""
 
     def __init__(self, proved):
         named = crates()
@@ -108,7 +113,7 @@ class Progress:
 
 
 class Run:
-    """A run of `rt ci` in a folder. It is entered and left; left early it ends, and with it the provers that it has started."""
+    """A run of `rt ci` in a folder, as a context manager. Leaving it early ends the run and the provers that it has started."""
 
     def __init__(self, folder, words, progress, priority=0):
         self.folder, self.progress, self.verdict = folder, progress, (0, 1)
@@ -135,16 +140,16 @@ class Run:
         if self.ran.wait():
             self.verdict = self.verdict[0], max(self.verdict[1], 1)
 
-    def is_under_way(self):
+    def is_running(self):
         return self.reader.is_alive()
 
 
 def ahead(chain, others):
-    """Waits until these two runs have ended, or one has failed, or what one has proved is not kept for the other. Returns how many
-    passed and failed."""
+    """Waits until both runs have ended, one of them has failed, or a crate was proved twice because nothing is kept. Returns how many
+    passed and failed in the runs that have ended."""
     with chain, others:
         while True:
-            ended = [it.verdict for it in (chain, others) if not it.is_under_way()]
+            ended = [it.verdict for it in (chain, others) if not it.is_running()]
             passed, failed = (sum(counts) for counts in zip((0, 0), *ended))
             if len(ended) == 2 or failed or chain.progress.is_done_again:
                 return passed, failed
@@ -152,18 +157,17 @@ def ahead(chain, others):
 
 
 def words_for(anew):
-    """Returns the words that follow `rt ci`: --anew where all is to be done, and this toolchain's `rt ci` would else leave
-    out what it keeps."""
-    told = subprocess.run(["rt", "help"], stdin=subprocess.DEVNULL, capture_output=True, text=True, errors="replace", check=False)
-    keeps = "--anew" in told.stdout + told.stderr
+    """Returns the arguments of `rt ci`: --anew if everything is to be repeated and this toolchain's `rt ci` has the option."""
+    ran = subprocess.run(["rt", "help"], stdin=subprocess.DEVNULL, capture_output=True, text=True, errors="replace", check=False)
+    keeps = "--anew" in ran.stdout + ran.stderr
     if anew and not keeps:
-        say("this toolchain's rt ci keeps nothing of earlier runs, and does all without --anew")
+        say("this toolchain's rt ci keeps nothing of earlier runs, so --anew changes nothing")
     return ["--anew"] if anew and keeps else []
 
 
 @contextlib.contextmanager
 def without_edits(names):
-    """Gives a folder with a copy of these crates, which has what `rt ci` reads, but no wrong programs."""
+    """Yields a folder with a copy of these crates: everything that `rt ci` reads, except the wrong programs."""
     names = set(names)
     with tempfile.TemporaryDirectory(prefix="gate-") as room:
         for name in names:
@@ -175,22 +179,22 @@ def without_edits(names):
 
 
 def passes(what, *words):
-    """Runs a part that is a command of its own, and returns whether it passed."""
+    """Runs a part that is a separate command. Returns whether it passed."""
     say(what)
     return subprocess.run([sys.executable, "-B", *words], cwd=ROOT, check=False).returncode == 0
 
 
 def run(anew, whole):
-    """Runs all parts, up to the first that fails. Returns how many passed and failed."""
-    if not passes("the definitions that the documents quote", "docs/quotes.py"):
+    """Runs the parts. A failure before the scenarios ends the run. Returns how many passed and failed."""
+    if not passes("comparing the definitions that documents quote", "docs/quotes.py"):
         return 0, 1
-    say("that crates.txt is lowest first, and that each wrong program turns what it names")
+    say("checking the order of crates.txt and the form of the wrong programs")
     faults = misplaced() + [f"crates/{it}: {it.fault}" for it in edits_of(ROOT, crates(), KINDS) if it.fault]
     if faults:
         print("\n".join(faults))
         return 0, 1
     edits = edits_of(ROOT, crates(), KINDS if whole else KINDS[:1])
-    say(f"part 1 of 3: every crate and its tests proved from nothing, and {len(edits)} wrong programs refused; the tests")
+    say(f"part 1 of 3: proving every crate and its tests, running the tests, and trying {len(edits)} wrong programs")
     below = with_all_below()
     with contextlib.ExitStack() as held:
         copy_of = lambda names: held.enter_context(without_edits(names))
@@ -212,20 +216,20 @@ def run(anew, whole):
         shutil.copy(f"{room}/{PROGRAM}", f"{ROOT}/{PROGRAM}")
     if failed:
         return passed, failed
-    failed += not passes("part 2 of 3: all scenarios by the program that was proved", "scenarios/scenarios.py", "--program", PROGRAM)
-    failed += not passes("part 3 of 3: each allocation of that program refused in turn", "gate/allocations.py", PROGRAM)
+    failed += not passes("part 2 of 3: running all scenarios with the proved program", "scenarios/scenarios.py", "--program", PROGRAM)
+    failed += not passes("part 3 of 3: making each allocation of that program fail in turn", "gate/allocations.py", PROGRAM)
     return passed, failed
 
 
 def commit():
-    """Returns the name of the commit that stands here, or nothing where git tells none."""
-    told = subprocess.run(["git", "rev-parse", "--short", "HEAD"], cwd=ROOT, capture_output=True, text=True, check=False)
-    return told.stdout.strip()
+    """Returns the short name of the current commit, or an empty string if git reports none."""
+    ran = subprocess.run(["git", "rev-parse", "--short", "HEAD"], cwd=ROOT, capture_output=True, text=True, check=False)
+    return ran.stdout.strip()
 
 
 def main():
     words = argparse.ArgumentParser(prog="dev gate", description=__doc__, formatter_class=argparse.RawDescriptionHelpFormatter)
-    words.add_argument("--anew", action="store_true", help="do also what the toolchain keeps of earlier runs on this machine")
+    words.add_argument("--anew", action="store_true", help="repeat also what passed before on this machine")
     words.add_argument("--whole", action="store_true", help="have the prover refuse the further wrong programs too")
     words.add_argument("--record", metavar="NAME", help="write the costs of this run into docs/COSTS.md under this name")
     words = words.parse_args()
@@ -234,7 +238,7 @@ def main():
         with Costs(say) as costs:
             passed, failed = run(words.anew, words.whole)
     except KeyboardInterrupt:
-        say("ended early, and nothing is passed")
+        say("interrupted: no verdict")
         return 130
     verdict = f"{passed} passed, {failed} failed"
     if words.record:

@@ -1,6 +1,6 @@
-/* Loaded into a program by LD_PRELOAD, refuses one of its allocations: that of the number in REFUSE_ALLOCATION, counted
-   from 1. When it does, it makes the file that REFUSED_FILE names, so whoever runs the program sees that it has had so
-   many. It is built by the toolchain's clang, without the headers of a C library. */
+/* A library for LD_PRELOAD that refuses one allocation of a program: the one whose number, counted from 1, is in the
+   variable REFUSE_ALLOCATION. It then creates the file that the variable REFUSED_FILE names, which shows that the program
+   made so many allocations. The toolchain's clang builds it, without the headers of a C library. */
 
 typedef unsigned long size;
 
@@ -18,7 +18,7 @@ enum { NO_MEMORY = 12 };
 
 static long asked, refused;
 
-/* The settings are there before the program's first allocation. */
+/* Runs before `main`. Allocations before it are not counted, and none of them is refused. */
 __attribute__((constructor)) static void read_settings(void) {
     const char *number = getenv("REFUSE_ALLOCATION");
     asked = 0;

@@ -1,4 +1,4 @@
-"""A scenario: its files, what came of its commands, and the first difference from what is expected."""
+"""A scenario: its files, the results of its commands, and the first difference from the expected results."""
 import difflib
 import os
 import pathlib
@@ -12,23 +12,24 @@ import time
 HERE = pathlib.Path(__file__).resolve().parent
 TOP = HERE.parent
 
-# How the words of a command end that are files.
+# The endings of the words of a command that are files.
 FILES = (".csv", ".svg")
 
-# How `commands` marks a command: its scripts may be logged in any order; or what it meets, or that it is large, which
-# takes a built program.
+# The marks of a command in `commands`: its scripts may be logged in any order; or it runs under a condition, or is large, and then
+# needs a built program.
 MARK = re.compile(r"(any order|no room|closed|room \d+|interrupted|terminal|large): ")
 
-# Or it is run once for each record of a list, also on a terminal.
+# A further mark: the command is run once for each record of a list, possibly on a terminal.
 EACH = re.compile(r"(terminal: )?each of (\S+): ")
 
-# What stands for the record in the files of a command that is run for each record of a list.
+# The record's placeholder in the words and files of such a command.
 RECORD = "{record}"
+# What the transcript shows after the words of a command with a mark.
 SHOWN = {"terminal": "   # on a terminal", "no room": " > /dev/full", "closed": " | true", "interrupted": "   # and Ctrl-C", "room": "   # where files have room for {}"}
 
 
 class Mistake(Exception):
-    """What came is not what is expected, or something in the scenario's files is wrong."""
+    """A result differs from the expected one, or the scenario's files are wrong."""
 
 
 # ---- Files ----------------------------------------------------------------------------------------------------
@@ -44,7 +45,8 @@ def write_lines(path, lines):
 
 
 def changed(records, changes):
-    """The records after the changes: `- RECORD` goes, `+ RECORD` comes, `  RECORD` stays and only tells the place."""
+    """Returns the records after the changes: `- RECORD` deletes a record, `+ RECORD` inserts one, and `  RECORD` marks the place of a
+    record that stays."""
     after, at = [], 0
     for change in changes:
         mark, record = change[:2], change[2:]
@@ -60,7 +62,7 @@ def changed(records, changes):
 
 
 def each_record(record):
-    """The record, or one for each number where it has `{FIRST..LAST}` for a field."""
+    """Returns the record, or one for each number if it contains `{FIRST..LAST}`."""
     numbers = re.search(r"\{(\d+)\.\.(\d+)\}", record)
     if numbers is None:
         return [record]
@@ -69,7 +71,7 @@ def each_record(record):
 
 
 def changes_between(before, after):
-    """The changes that make of the records before those after."""
+    """Returns changes that turn the records `before` into the records `after`."""
     changes = []
     matcher = difflib.SequenceMatcher(None, before, after, autojunk=False)
     for kind, begin, end, new_begin, new_end in matcher.get_opcodes():
@@ -79,14 +81,14 @@ def changes_between(before, after):
             changes += ["- " + record for record in before[begin:end]]
             changes += ["+ " + record for record in after[new_begin:new_end]]
     if changed(before, changes) != after:
-        raise Mistake("the changes can't be told by their records")
+        raise Mistake("the places of the changes are not determined by their records")
     return changes
 
 
 def read_file(scenario, name):
-    """The lines of a file of the scenario, of `datasets/` or of `examples/`, or what NAME.changes makes of its dataset.
+    """Returns the lines of a file of the scenario, of `datasets/` or of `examples/`; or those that NAME.changes makes of its dataset.
 
-    None where there is neither: a command is to write the file, or shows that it isn't there."""
+    Returns None if there is neither: a command writes the file, or shows that it is missing."""
     folder = {"datasets": HERE, "examples": TOP}.get(name.split("/")[0], scenario)
     if name.startswith("examples/out/"):
         return None
@@ -95,16 +97,16 @@ def read_file(scenario, name):
     changes = folder / (name + ".changes")
     if not changes.is_file():
         return None
-    dataset, *told = lines_of(changes)[:-1]
-    return changed(read_file(scenario, dataset), told)
+    dataset, *lines = lines_of(changes)[:-1]
+    return changed(read_file(scenario, dataset), lines)
 
 
 # ---- Scenarios ------------------------------------------------------------------------------------------------
 
 
 class Run:
-    """One run of the program: its words, how it is marked, and what came of it; where it is one of several that are run
-    for each record of a list, the list, that record and its number."""
+    """One run of the program: its words, its mark, and its results. If it is one of the runs for a list, also the name of the list,
+    the record, and the record's number from 1 on."""
 
     def __init__(self, line, records="", record=None, number=0):
         mark = MARK.match(line)
@@ -113,7 +115,7 @@ class Run:
         self.line = MARK.sub("", line, 1)
         self.words = [bytes_shown(word) for word in self.line.split()]
         self.records, self.record, self.number = records, record, number
-        self.printed, self.told, self.status = "", "", "status 0"
+        self.printed, self.messages, self.status = "", "", "status 0"
 
     def needs_program(self):
         return self.mark not in ("", "any order")
@@ -125,7 +127,7 @@ class Run:
         return [str(folder / word) if word.endswith(FILES) else word for word in self.words]
 
     def carry_out(self, program, folder, seconds):
-        """Runs it by a built program."""
+        """Runs the command with a built program. Ends it after so many seconds."""
         words = [word.encode("latin-1") for word in [program, *self.words_in(folder)]]
         more = {"cwd": folder, "stdout": subprocess.PIPE, "stderr": subprocess.PIPE}
         if self.mark == "no room":
@@ -144,7 +146,7 @@ class Run:
             if self.mark == "interrupted":
                 self.interrupt(ran, folder)
             try:
-                printed, told = ran.communicate(timeout=seconds)
+                printed, messages = ran.communicate(timeout=seconds)
             except subprocess.TimeoutExpired:
                 ran.kill()
                 self.status = f"no end within {seconds} s"
@@ -153,12 +155,12 @@ class Run:
             os.close(more["stdout"])
         if self.mark == "terminal":
             os.close(more["stderr"])
-            told = read_terminal(master)
-        self.printed, self.told = (printed or b"").decode("latin-1"), told.decode("latin-1")
+            messages = read_terminal(master)
+        self.printed, self.messages = (printed or b"").decode("latin-1"), messages.decode("latin-1")
         self.status = f"status {ran.returncode}"
 
     def interrupt(self, ran, folder):
-        """Has it read from a pipe that gives nothing, until it has made the files that it writes; then comes Ctrl-C."""
+        """Opens the pipe from which the program reads, and writes nothing. Sends Ctrl-C once the program has made its output files."""
         until, pipe = time.monotonic() + 60, None
         while pipe is None and ran.poll() is None and time.monotonic() < until:
             try:
@@ -174,8 +176,8 @@ class Run:
         os.remove(folder / "never.csv")
 
     def take_files(self, scenario, folder):
-        """Copies the files of the scenario that its words name. The record of the run takes its place in the words, and in
-        the files, which are then in a folder of the run's number."""
+        """Copies the files of the scenario that the words name. Replaces the record's placeholder in the words and in the files. A file
+        that contains it is copied to a folder with the number of the record."""
         for place, name in enumerate(self.words):
             if self.record is not None and RECORD in name:
                 self.words[place] = name.replace(RECORD, bytes_shown(self.record))
@@ -190,12 +192,12 @@ class Run:
                 write_lines(folder / name, lines)
 
     def row(self, folder):
-        """Of a run for a record of a list, what came of it in one line."""
+        """Returns the results of a run for a record of a list, in one line."""
         lines = [line.replace(f"{folder}/", "").replace(f" {self.number}/", " ") for line in self.outcome()]
         return [f"{self.record}   -> {' / '.join(lines)}".rstrip()]
 
     def transcript(self, folder):
-        """As a shell session; of a command that is run for each record of a list, the words and then a line for each."""
+        """Returns the run as lines of a shell session. The runs for a list have the words once, and then a line each."""
         shown = SHOWN.get(self.mark.split(" ")[0] if self.mark.startswith("room") else self.mark, "").format(self.mark[5:])
         if self.record is not None:
             head = [f"$ tpcc {self.line}   # with each of {self.records}{shown.replace('   #', ',')}"] if self.number == 1 else []
@@ -204,27 +206,27 @@ class Run:
         return ["$ tpcc " + words + shown] + [line.replace(f"{folder}/", "") for line in self.outcome()]
 
     def outcome(self):
-        """What was printed, the messages, and the status, where it isn't 0. Of the standard error only the messages are
-        told, and not the usage after them; `*` stands for what depends on the clock."""
+        """Returns the standard output, the messages on the standard error without the usage after them, and the status if it is not 0.
+        `*` replaces what depends on the clock."""
         printed = self.printed.removesuffix("\n").split("\n") if self.printed else []
         kept = ("tpcc: ", "error: ", *(["  "] if self.mark == "terminal" else []))
-        told = re.sub(r"\r([^\r\n]* MB (read|written))(?=[\r\n])", r"\1\n", self.told)
-        told = [line for line in told.split("\n") if line.startswith(kept)]
-        told = [re.sub(r"[\d.]*\d(?= (s|requests|New-Orders|us)\b)", "*", line) if line.startswith("tpcc: time: ") else line for line in told]
-        lines = printed + ["! " + line for line in told] + [self.status]
+        messages = re.sub(r"\r([^\r\n]* MB (read|written))(?=[\r\n])", r"\1\n", self.messages)
+        messages = [line for line in messages.split("\n") if line.startswith(kept)]
+        messages = [re.sub(r"[\d.]*\d(?= (s|requests|New-Orders|us)\b)", "*", line) if line.startswith("tpcc: time: ") else line for line in messages]
+        lines = printed + ["! " + line for line in messages] + [self.status]
         if lines[-1] == "status 0":
             lines.pop()
         return lines
 
 
 def bytes_shown(word):
-    """The word, with the byte of that number for each `\\x1b`."""
+    """Returns the word with each `\\x1b` replaced by the byte of that number."""
     return re.sub(r"\\x([0-9a-f]{2})", lambda it: chr(int(it[1], 16)), word)
 
 
 def read_terminal(master):
-    """What was written to the terminal, as lines."""
-    told = b""
+    """Returns what was written to the terminal, with plain line ends."""
+    written = b""
     while True:
         try:
             more = os.read(master, 4096)
@@ -232,24 +234,24 @@ def read_terminal(master):
             more = b""
         if not more:
             os.close(master)
-            return told.replace(b"\r\n", b"\n")
-        told += more
+            return written.replace(b"\r\n", b"\n")
+        written += more
 
 
 def name_of(path):
-    """The name of the scenario in that folder, as sim/full_inbox."""
+    """Returns the name of the scenario in that folder, such as sim/full_inbox."""
     return f"{path.parent.name}/{path.name}"
 
 
 def commands_of(path):
-    """How often the scenario is run, by the line `times N` if there is one, and its commands."""
+    """Returns how often the scenario is run (the N of its line `times N`, or 1), and its runs."""
     lines = [line for line in lines_of(path / "commands") if line and not line.startswith("#")]
     times = [int(line.split()[1]) for line in lines if line.startswith("times ")]
     return (times or [1])[0], [run for line in lines if not line.startswith("times ") for run in runs_of(path, line)]
 
 
 def runs_of(path, line):
-    """The run of that line, or one for each record of the list that it names."""
+    """Returns the run of that line, or one run for each record of the list that it names."""
     each = EACH.match(line)
     if each is None:
         return [Run(line)]
@@ -258,7 +260,7 @@ def runs_of(path, line):
 
 
 class Scenario:
-    """A scenario that is run once, in a folder of its own, to which all files are copied that its commands name."""
+    """One run of a scenario, in a folder of its own with copies of all files that its commands name."""
 
     def __init__(self, path, folder):
         self.path, self.folder, self.name = path, folder, name_of(path)
@@ -268,11 +270,11 @@ class Scenario:
             run.take_files(path, folder)
 
     def found(self):
-        """The files that are in its folder, by their names there."""
+        """Returns the names of the files in its folder."""
         return sorted(str(path.relative_to(self.folder)) for path in self.folder.rglob("*") if not path.is_dir())
 
     def expected_files(self):
-        """Each file of the folder `expected`, with those that are found under its name, in whatever folder."""
+        """Yields each file of the folder `expected` with each result of the same name, in whatever folder."""
         for path in sorted((self.path / "expected").glob("*")):
             if path.suffix == ".absent":
                 continue
@@ -285,17 +287,17 @@ class Scenario:
                 yield path, self.folder / name
 
     def compare_names(self):
-        """Raises the first file that is there and should not be."""
+        """Raises a Mistake for the first file that should not exist."""
         absent = [path.name.removesuffix(".absent") for path in (self.path / "expected").glob("*.absent")]
         named = {name for run in self.runs for name in run.files()} | {path.name for path in (self.path / "expected").glob("*")}
         for name in self.found():
             if name.split("/")[-1] in absent:
-                raise Mistake(f"{name} is there, and should not be")
+                raise Mistake(f"{name} exists, and should not")
             if name not in named and name.split("/")[-1] not in named:
-                raise Mistake(f"{name} was left there")
+                raise Mistake(f"{name} was left, but neither a command nor `expected` names it")
 
     def compare(self):
-        """Raises the first difference."""
+        """Raises a Mistake for the first difference from the expected results."""
         found = [(line, run.any_order) for run in self.runs for line in run.transcript(self.folder)]
         differ("transcript", lines_of(self.path / "transcript")[:-1], found)
         for run in self.runs:
@@ -310,7 +312,7 @@ class Scenario:
         self.compare_names()
 
     def accept(self):
-        """Writes what came as what is expected: the transcript, and the files that are there in `expected`."""
+        """Writes the results as the expected ones: the transcript, and the files that `expected` contains."""
         old = lines_of(self.path / "transcript") if (self.path / "transcript").is_file() else []
         lines = []
         for run in self.runs:
@@ -331,7 +333,7 @@ class Scenario:
 
 
 def is_same(wanted, found, any_order):
-    """Whether the lines are the same; where any order will do, a field `*` stands for whatever depends on it."""
+    """Returns whether the lines are the same. With `any_order` a wanted field `*` stands for any value."""
     if wanted == found or not any_order:
         return wanted == found
     fields = list(zip(wanted.split(","), found.split(",")))
@@ -339,7 +341,7 @@ def is_same(wanted, found, any_order):
 
 
 def differ(name, wanted, found):
-    """Raises the first line in which the file differs, if there is one."""
+    """Raises a Mistake for the first line in which the file differs."""
     end = "(the end of the file)"
     for number in range(max(len(wanted), len(found))):
         line = wanted[number] if number < len(wanted) else end
@@ -349,7 +351,8 @@ def differ(name, wanted, found):
 
 
 def compare_places(run, folder):
-    """Whatever the order was: the places of a session ascend, and each answer is the log's entry at its place."""
+    """Checks what holds in any order: the places of each session ascend, each answer is the log's entry at its place, and the log has
+    no other entries. Raises a Mistake otherwise."""
     log = lines_of(folder / run.words[run.words.index("--log") + 1])
     done, last = 0, {}
     for answer in run.printed.splitlines():
@@ -358,9 +361,9 @@ def compare_places(run, folder):
             continue
         place, reply = int(rest[0]), rest[1]
         if place <= last.get(session, -1):
-            raise Mistake(f"the places of session {session} don't ascend: {answer}")
+            raise Mistake(f"the places of session {session} do not ascend: {answer}")
         if not (log[place].startswith(f"{place},{session},{number},") and log[place].endswith("," + reply)):
-            raise Mistake(f"an answer isn't the entry at its place:\n  answer: {answer}\n  entry:  {log[place]}")
+            raise Mistake(f"an answer is not the entry at its place:\n  answer: {answer}\n  entry:  {log[place]}")
         done, last[session] = done + 1, place
     if log[done:] != [f"END,{done}", ""]:
-        raise Mistake(f"{done} requests are answered done, and the log has another number of entries")
+        raise Mistake(f"{done} requests are answered done, but the log has another number of entries")

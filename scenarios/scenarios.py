@@ -1,12 +1,16 @@
 #!/usr/bin/env python3
-"""Runs the scenarios by the program `tpcc`, and compares what it prints and writes with what is expected.
+"""Runs scenarios with the program `tpcc`, and compares what it prints and writes with the expected results.
 
     ./dev scenarios [--program PATH] [--accept] [NAME ...]
 
-A name is that of a scenario, as sim/full_inbox, or that of a folder, as sim, for all scenarios in it; without names all
-scenarios are run. Without `--program` the program is first built without its proofs, which takes a minute or two; it is
-slow, so each scenario is run once, also where it is to be run several times. scenarios/README.md tells what is in a
-scenario's folder.
+A name is that of a scenario, such as sim/full_inbox, or that of a folder, such as sim, for all scenarios in it. Without
+names all scenarios are run.
+
+Without `--program` the program is first built without its proofs, which takes a minute or two on a free machine. This
+program is slow, so each scenario is run once, even if its `commands` has a line `times N`. One scenario takes a few
+minutes at most, except for the long lists in scenarios/faults/. Because of these, all scenarios take over an hour.
+
+scenarios/README.md describes the files of a scenario.
 """
 import argparse
 import pathlib
@@ -21,10 +25,10 @@ from scenario import HERE, TOP, Mistake, Scenario, commands_of, lines_of, name_o
 
 DOCUMENTS = [TOP / "README.md", *sorted((TOP / "docs").glob("*.md")), TOP / "examples" / "README.md"]
 
-# How a document gives a command.
+# How a command in a document begins.
 DOCUMENTED = "crates/tpcc/out/tpcc "
 
-# Beside other work a command may get little of a processor.
+# The time limit of a command. It is long because other work may leave the command little of a processor.
 MOST_SECONDS = 600
 
 
@@ -36,14 +40,14 @@ def say(text):
 
 
 def run_program(program, scenarios):
-    """Runs all commands by that program."""
+    """Runs all commands with this program."""
     for scenario in scenarios:
         for run in scenario.runs:
             run.carry_out(program, scenario.folder, MOST_SECONDS)
 
 
 def run_unproved(scenarios, folder):
-    """Builds the program without its proofs, and runs all commands by it, in turn."""
+    """Builds the program without its proofs, and runs all commands with it, in turn."""
     runs = {}
     (folder / "cases").mkdir()
     for scenario in scenarios:
@@ -52,25 +56,25 @@ def run_unproved(scenarios, folder):
             runs[case] = run
             write_lines(folder / "cases" / case, [])
             write_lines(folder / "cases" / f"{case}.args", run.words_in(scenario.folder) + [""])
-    say("building the program without its proofs, which takes a minute or two")
+    say("building the program without its proofs, which takes a minute or two on a free machine")
     words = ["rt", "try", "--seconds", str(MOST_SECONDS), "--cases", str(folder / "cases")]
     with open(folder / "printed", "wb") as printed:
         building = subprocess.Popen(words, cwd=TOP / "crates" / "tpcc", stdout=printed, stderr=subprocess.PIPE)
-        told, ended = [], 0
+        messages, ended = [], 0
         for line in building.stderr:
-            told.append(line.decode("latin-1"))
-            case = re.match(r"case=(\d+) run=(\S+)(?: (status)=(\d+))?", told[-1])
+            messages.append(line.decode("latin-1"))
+            case = re.match(r"case=(\d+) run=(\S+)(?: (status)=(\d+))?", messages[-1])
             if case is None:
                 continue
             run = runs[case[1]]
-            run.told = "".join(told[:-1])
-            run.status = f"status {case[4]}" if case[2] == "ended" else told[-1].rstrip("\n")
-            told, ended = [], ended + 1
+            run.messages = "".join(messages[:-1])
+            run.status = f"status {case[4]}" if case[2] == "ended" else messages[-1].rstrip("\n")
+            messages, ended = [], ended + 1
             if ended % 100 == 0:
                 say(f"{ended} of {len(runs)} commands have run")
         building.wait()
     if ended != len(runs):
-        sys.exit("scenarios: not every command was run:\n" + "".join(told))
+        sys.exit("scenarios: not all commands were run:\n" + "".join(messages))
     for line in (folder / "printed").read_bytes().decode("latin-1").splitlines(keepends=True):
         if line.startswith("== "):
             run = runs[line[3:].rstrip("\n")]
@@ -78,32 +82,35 @@ def run_unproved(scenarios, folder):
             run.printed += line
 
 
-# ---- All of it ------------------------------------------------------------------------------------------------
+# ---- The scenarios --------------------------------------------------------------------------------------------
 
 
 def names_of(path):
-    """The names by which a scenario can be asked for: its own, and that of the folder in which it is."""
+    """Returns the names that select a scenario: its own, and that of the folder around it."""
     return {name_of(path), path.parent.name}
 
 
 def missing_commands(paths):
-    """The commands that a document gives and no scenario runs."""
+    """Yields a message for each command of a document that no scenario runs."""
     known = {" ".join(run.words) for path in paths for run in commands_of(path)[1]}
     for document in DOCUMENTS:
         for line in lines_of(document):
             if line.startswith(DOCUMENTED) and line.removeprefix(DOCUMENTED) not in known:
-                yield f"{document.relative_to(TOP)} gives a command that no scenario runs: {line}"
+                yield f"{document.relative_to(TOP)} contains a command that no scenario runs: {line}"
 
 
 def main():
-    told = "Runs the scenarios, and compares what comes with what is expected."
-    parser = argparse.ArgumentParser(prog="dev scenarios", description=told)
-    parser.add_argument("--program", metavar="PATH", help="a built program; without it one is built without proofs")
-    parser.add_argument("--accept", action="store_true", help="write what comes of the named scenarios as expected")
-    named = "the scenarios to run, as sim/full_inbox, or a folder of them, as sim; all, where none is named"
+    purpose = (
+        "Runs scenarios, and compares the results with the expected ones. Without --program one scenario takes a few minutes "
+        "at most, except for the long lists in scenarios/faults/; because of these, all scenarios take over an hour."
+    )
+    parser = argparse.ArgumentParser(prog="dev scenarios", description=purpose)
+    parser.add_argument("--program", metavar="PATH", help="a built program; without it the program is built without proofs")
+    parser.add_argument("--accept", action="store_true", help="write the results of the named scenarios as the expected ones")
+    named = "a scenario, such as sim/full_inbox, or a folder of scenarios, such as sim; without names all are run"
     parser.add_argument("names", metavar="NAME", nargs="*", type=lambda name: name.rstrip("/"), help=named)
     settings = parser.parse_args()
-    # A shell that starts this in the background has it ignore Ctrl-C, and so would the program that it starts.
+    # A shell that starts this in the background makes it ignore Ctrl-C, and the program that this starts would inherit that.
     signal.signal(signal.SIGINT, signal.default_int_handler)
     paths = sorted(path.parent for path in HERE.glob("*/*/commands"))
     unknown = set(settings.names) - {name for path in paths for name in names_of(path)}
@@ -116,7 +123,7 @@ def main():
         left = [path for path in chosen if any(run.needs_program() for run in commands_of(path)[1])]
         chosen = [path for path in chosen if path not in left]
         for path in left:
-            say(f"{name_of(path)} takes a built program, by --program, and is left out")
+            say(f"{name_of(path)} is left out, since it needs a built program (--program)")
 
     with tempfile.TemporaryDirectory(prefix="scenarios-") as room:
         room = pathlib.Path(room)
@@ -141,12 +148,12 @@ def main():
     for name, mistake in failed.items():
         say(f"{name}: {mistake}")
     missing = list(missing_commands(paths))
-    for told in missing:
-        say(told)
+    for message in missing:
+        say(message)
     if failed or missing:
         say(f"{len(failed)} of {len(chosen)} scenarios failed")
         sys.exit(1)
-    say(f"all {len(chosen)} scenarios went as expected")
+    say(f"all {len(chosen)} scenarios gave the expected results")
 
 
 if __name__ == "__main__":
