@@ -9,10 +9,12 @@ mod interactive;
 mod lengths;
 mod pictures;
 mod places;
+mod records;
 mod seats;
 mod serving;
 mod slice;
 mod sources;
+mod values;
 
 // A payment in district (1, 1) by customer 1 there, on 2024-05-01 at noon.
 fn payment(amount: u32) -> Request {
