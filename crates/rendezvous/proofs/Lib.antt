@@ -1,2 +1,7 @@
 pub mod Awaiting
 pub mod Sendable
+pub mod PlaceStages
+pub mod Emptying
+pub mod Keeping
+pub mod Hands
+pub mod SharedPlaces
