@@ -5,3 +5,4 @@ pub mod Emptying
 pub mod Keeping
 pub mod Hands
 pub mod SharedPlaces
+pub mod SharedSendable
