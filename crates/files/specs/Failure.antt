@@ -27,7 +27,7 @@ IsOfWriting NoMemory = Unit {0}
 IsOfWriting (Failed number) = Unit {0}
 IsOfWriting (File fault) = ⊥
 
--- a failed read or write of the record with that number, or out of memory
+-- a failed read or write at the record with that number, or out of memory
 abbrev pub IsFailureAt : ℕ → FileError → Type 0
 IsFailureAt number error = (error ≡ NoMemory) ⊎ (error ≡ Failed number)
 

@@ -38,6 +38,6 @@ ReportsFault NoMemory first = Unit {0}
 ReportsFault (Failed number) first = Unit {0}
 ReportsFault (File fault) first = first ≡ Some fault
 
--- the first fault of the text is reported, and a text is read without an error only if it has no fault
+-- without an error there is no fault, and an error reports this fault, which is the first
 abbrev pub ReportsFirst : {X : Type 0} → Result X FileError → Option FileFault → Type 0
 ReportsFirst result first = MatchResult result (λ _. first ≡ None) (λ error. ReportsFault error first)

@@ -2,10 +2,10 @@
 use Rattle.std.specs.Prelude.{◌≡◌, ◌≤◌, ◌<◌, ◌⊎◌, ◌+◌, ◌-◌, ◌^◌, ℕ, List, [], ◌∷◌, ◌++◌, Bool, true, false, Option, Some, None, drop, option_map, if◌then◌else◌}
 use Rattle.std.specs.Io.KnownBytes.{prepend_known}
 use Rattle.csv.specs.Machine.{Read, next_record}
-use Rattle.csv.proofs.ReadFacts.{Tracks}
 use Rattle.csv.specs.Reading.{AreRecords, Reached, ReadsNext, default_config, strip_bom}
 use Rattle.csv.specs.declared.parser.State.{State}
 use Rattle.csv.specs.declared.parser.State.TheVariants as state
+use Rattle.csv.proofs.ReadFacts.{Tracks}
 use Rattle.files.specs.declared.fault.FaultKind.{FaultKind}
 use Rattle.files.specs.declared.fault.FileError.{FileError}
 use Rattle.files.specs.declared.fault.FileError.TheVariants.{NoMemory, Failed, File}
@@ -27,7 +27,7 @@ input r = r.source.reader
 abbrev pub record_number : {R : Type 0} → Records R → ℕ
 record_number r = r.number
 
--- a record's number is one more than the number before it, unless that is the greatest
+-- the number is one more than the one before, unless that was the greatest
 abbrev pub IsNextNumber : ℕ → ℕ → Type 0
 IsNextNumber old new = old < 2 ^ 64 - 1 → new ≡ old + 1
 
@@ -128,7 +128,7 @@ pub record IsNext {R : Type 0} (remaining : R → Option (List ℕ)) (before : O
   pub reads : ReadsNext default_config state.StartRecord before (text_left remaining r) found (record_fields r) after
   pub is_kept : found ≡ true → IsKept (record_fields r)
 
--- the text before begins with the bytes of the record that is being read byte by byte, and then come the bytes ahead
+-- the next record of the text before is the one that is being read byte by byte, and it goes on with the bytes ahead
 abbrev pub IsUnquoting : {R : Type 0} → (R → Option (List ℕ)) → Option (List ℕ) → Records R → Type 0
 IsUnquoting remaining before r =
     Tracks default_config state.StartRecord before

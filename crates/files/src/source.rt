@@ -19,7 +19,7 @@ pub struct Source<R> {
 }
 
 impl<R: Input> Source<R> {
-    ghost use Rattle.files.specs.Source.{at_hand, ahead, unread, is_begun, EndsUnlessFull, KeepsAhead, SkipsLineEnds};
+    ghost use Rattle.files.specs.Source.{at_hand, ahead, unread, is_begun, EndsUnlessFull, KeepsAhead, KeepsNextRecord};
 
     /// All text that `reader` returns.
     pub fn new(reader: R) -> Self
@@ -111,7 +111,7 @@ impl<R: Input> Source<R> {
     /// Takes line ends up to the next record. Returns whether there is a record; its first byte is in
     /// memory then. Returns `NoMemory` if there are more line ends than can be counted.
     pub fn skip_line_ends(&mut self) -> Result<bool, Stop>
-        ensures tracks { OnOk result (SkipsLineEnds R.remaining self.old self.new) }
+        ensures tracks { OnOk result (KeepsNextRecord R.remaining self.old self.new) }
         ensures first { IfOk result (λ found. found ≡ true → BeginsRecord (at_hand self.new)) }
         ensures none { IfOk result (λ found. found ≡ false
             → (at_hand self.new ≡ []) × IsAtEnd (R.remaining self.new.reader)) }
