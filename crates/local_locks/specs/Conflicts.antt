@@ -19,8 +19,7 @@ abbrev pub shared_on : Group → List HeldClaim → ℕ
 shared_on group holdings = count_by (λ holding. is_same holding.group group && is_shared holding.mode) holdings
 
 -- A held claim conflicts with a want: its group is wanted, and one of the two is exclusive, or all eight shared
--- claims on the group are out. For two wants of which none is granted yet only the modes count: that is `Conflict` of
--- `groups`.
+-- claims on the group are out
 pub record ClaimConflicts (holdings : List HeldClaim) (holding : HeldClaim) (want : Want) : Type 0 where
   pub covered : Covers want holding.group
   pub apart : (want.mode ≡ Exclusive) ⊎ ((holding.mode ≡ Exclusive) ⊎ (8 ≤ shared_on holding.group holdings))
