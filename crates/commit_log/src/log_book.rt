@@ -124,8 +124,10 @@ impl<J: LogNames> LogBook<J> {
         ensures below { OnOk result (length self.old.entries < MOST_ENTRIES) }
         ensures spare { OnOk result (0 < self.new.spare) }
         ensures pass { OnOk result (pass.new ≡ pass.old) }
-        ensures full { IfErr result (λ fault. (fault ≡ AppendFault.LogFull) ↔ (MOST_ENTRIES ≤ length self.old.entries)) }
-        ensures refused { IfErr result (λ fault. pass.new ≡ after_refusal fault (length self.old.entries) pass.old) }
+        ensures full { IfErr result (λ fault. (fault ≡ AppendFault.LogFull)
+            ↔ (MOST_ENTRIES ≤ length self.old.entries)) }
+        ensures refused { IfErr result (λ fault.
+            pass.new ≡ after_refusal fault (length self.old.entries) pass.old) }
         ensures further { pass.old.reached ≤ pass.new.reached }
     {
         if self.entries.len() >= MOST_ENTRIES {
@@ -156,10 +158,12 @@ impl<J: LogNames> LogBook<J> {
         requires number { pass.old.asks.number ≡ number }
         requires request { pass.old.asks.request ≡ request }
         ensures book { self.new ≡ log_book_view
-            (self.old.entries ++ entry_of pass.old.session number request reply ∷ []) (self.old.spare - 1) }
+            (self.old.entries ++ entry_of pass.old.session number request reply ∷ [])
+            (self.old.spare - 1) }
         ensures later { pass.old.seen ≤ length self.old.entries }
         ensures further { pass.old.reached ≤ length self.old.entries }
-        ensures pass { pass.new ≡ after_item pass.old (item (length self.old.entries) number request reply) }
+        ensures pass { pass.new
+            ≡ after_item pass.old (item (length self.old.entries) number request reply) }
     {
         let place = self.length.entries();
         reach_one_more(&mut self.length, &mut pass.mark);

@@ -46,3 +46,7 @@ pub record MustDie (holdings : List HeldClaim) (age : ℕ) (wants : List Want) (
   pub older : oldest ≤ age
   pub first : (holding : HeldClaim) → Blocks holdings wants holding → holding.by.age ≤ age → group_cmp group holding.group ≢ Greater
   pub oldest_there : (holding : HeldClaim) → Blocks holdings wants holding → holding.group ≡ group → oldest ≤ holding.by.age
+
+-- an action of this age with these wants does not have to die
+abbrev pub NeedNotDie : List HeldClaim → ℕ → List Want → Type 0
+NeedNotDie holdings age wants = (group : Group) (oldest : ℕ) → MustDie holdings age wants group oldest → ⊥
