@@ -12,7 +12,7 @@ ghost use Rattle.commit_log.specs.PassView.{after_item, after_refusal};
 
 use crate::{AppendFault, Entry, LogBook, Names, Pass};
 use requests::Reply;
-use rows::MOST_ENTRIES;
+use rows::{MOST_ENTRIES, SESSIONS};
 use schema::NoMemory;
 use std::marker::Model;
 use tickets::{Claims, LogSeats};
@@ -58,7 +58,7 @@ impl<J: Names> Log<J> {
         ensures legal { replies_of self.now ≡ replies J.opening (requests_of self.now) }
         ensures accepted { All (λ entry. IsAccepted J.opening.scale entry.request) self.now }
         ensures most { length self.now ≤ MOST_ENTRIES }
-        ensures sessions { All (λ entry. entry.session < 64) self.now }
+        ensures sessions { All (λ entry. entry.session < SESSIONS) self.now }
     {
         self.book.entries()
     }

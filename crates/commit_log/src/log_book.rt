@@ -10,7 +10,7 @@ use crate::{Entry, LogNames, Mine, Pass, SessionSeat, UnnamedLog};
 use agreement::Seat;
 use length_word::{Length, Mark};
 use requests::{Reply, Request};
-use rows::MOST_ENTRIES;
+use rows::{MOST_ENTRIES, SESSIONS};
 use schema::NoMemory;
 use std::alloc::Global;
 use std::marker::{Model, PhantomData};
@@ -58,12 +58,12 @@ impl<J: LogNames> LogBook<J> {
         seats: UnnamedLog,
     ) -> Result<(LogBook<J>, Vec<(Pass<J>, SessionSeat<J>)>), NoMemory>
         requires length { J.length ≡ seats.length }
-        requires mine { (session : ℕ) → session < 64 → J.mine session ≡ table_of seats.mine session }
-        requires asks { (session : ℕ) → session < 64 → J.asks session ≡ table_of seats.asks session }
+        requires mine { (session : ℕ) → session < SESSIONS → J.mine session ≡ table_of seats.mine session }
+        requires asks { (session : ℕ) → session < SESSIONS → J.asks session ≡ table_of seats.asks session }
         ensures entries { IfOk result (λ opened. opened.0.entries ≡ []) }
-        ensures count { IfOk result (λ opened. vec_len opened.1 ≡ 64) }
+        ensures count { IfOk result (λ opened. vec_len opened.1 ≡ SESSIONS) }
         ensures sessions { IfOk result (λ opened.
-            (session : ℕ) → session < 64 → slice_get opened.1.items session ≡ Some (new_pass session, new_seat session)) }
+            (session : ℕ) → session < SESSIONS → slice_get opened.1.items session ≡ Some (new_pass session, new_seat session)) }
     {
         let UnnamedLog {
             length,
@@ -101,7 +101,7 @@ impl<J: LogNames> LogBook<J> {
     pub fn entries(&self) -> &[Entry]
         ensures entries { result.now ≡ self.now.entries }
         ensures most { length self.now.entries ≤ MOST_ENTRIES }
-        ensures sessions { All (λ entry. entry.session < 64) self.now.entries }
+        ensures sessions { All (λ entry. entry.session < SESSIONS) self.now.entries }
     {
         self.entries.as_slice()
     }
@@ -110,7 +110,7 @@ impl<J: LogNames> LogBook<J> {
     pub fn into_entries(self) -> Vec<Entry>
         ensures entries { result.items ≡ self.entries }
         ensures most { length self.entries ≤ MOST_ENTRIES }
-        ensures sessions { All (λ entry. entry.session < 64) self.entries }
+        ensures sessions { All (λ entry. entry.session < SESSIONS) self.entries }
     {
         self.entries
     }

@@ -1,7 +1,7 @@
 ghost use Rattle.std.specs.Prelude.{◌≡◌, ◌<◌, ◌≤◌, ◌%◌, [], ◌∷◌, All, length, IfNone, IfOk, IfSome, IsTrue, OnErr, OnOk};
 ghost use Rattle.std.specs.List.{list_all};
 ghost use Rattle.std.specs.FinMap as map;
-ghost use Rattle.rows.specs.declared.limits.TheConstants.{MOST_LINES};
+ghost use Rattle.rows.specs.declared.limits.TheConstants.{MOST_LINES, STOCK_GROUPS};
 ghost use Rattle.schema.specs.Database.{customer_of_order, is_order_id};
 ghost use Rattle.schema.specs.OrderRows.{is_line_within};
 ghost use Rattle.schema.specs.Scale.{has_customer};
@@ -248,7 +248,7 @@ impl<J: GroupNames> Slice<J> {
         key: StockKey,
         row: Stock,
     ) -> Result<(), NoMemory>
-        requires group { claim.old.group ≡ group.Stock key.w_id (key.i_id % 64) }
+        requires group { claim.old.group ≡ group.Stock key.w_id (key.i_id % STOCK_GROUPS) }
         requires exclusive { claim.old.mode ≡ Exclusive }
         requires there { IsTrue (map.contains_key self.old.tables.stocks key) }
         ensures claim { OnOk result (ClaimLeaves (with_stock key row) claim.old claim.new) }
