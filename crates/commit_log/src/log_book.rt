@@ -58,12 +58,15 @@ impl<J: LogNames> LogBook<J> {
         seats: UnnamedLog,
     ) -> Result<(LogBook<J>, Vec<(Pass<J>, SessionSeat<J>)>), NoMemory>
         requires length { J.length ≡ seats.length }
-        requires mine { (session : ℕ) → session < SESSIONS → J.mine session ≡ table_of seats.mine session }
-        requires asks { (session : ℕ) → session < SESSIONS → J.asks session ≡ table_of seats.asks session }
+        requires mine { (session : ℕ) → session < SESSIONS
+            → J.mine session ≡ table_of seats.mine session }
+        requires asks { (session : ℕ) → session < SESSIONS
+            → J.asks session ≡ table_of seats.asks session }
         ensures entries { IfOk result (λ opened. opened.0.entries ≡ []) }
         ensures count { IfOk result (λ opened. vec_len opened.1 ≡ SESSIONS) }
         ensures sessions { IfOk result (λ opened.
-            (session : ℕ) → session < SESSIONS → slice_get opened.1.items session ≡ Some (new_pass session, new_seat session)) }
+            (session : ℕ) → session < SESSIONS
+            → slice_get opened.1.items session ≡ Some (new_pass session, new_seat session)) }
     {
         let UnnamedLog {
             length,
