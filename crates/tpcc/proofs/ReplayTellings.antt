@@ -13,7 +13,7 @@ use Rattle.command_line.specs.declared.settings.replay.ReplaySettings.{ReplaySet
 use Rattle.command_line.specs.declared.status.Status.{Status}
 use Rattle.tpcc.specs.declared.command_fault.CommandFault.TheVariants as fault
 use Rattle.tpcc.specs.EarlyEnds.{IsOfReplaying}
-use Rattle.tpcc.specs.Edges.{Gives}
+use Rattle.files.specs.Place.{Gives}
 use Rattle.tpcc.specs.Faults.{IsOfWritingSome, Reports, status_of}
 use Rattle.tpcc.specs.Effects.{Change, CommandOutput}
 use Rattle.tpcc.specs.Replay.{ReportsReplay, ReplayEnds, ReplaysSome, ReplayStreams}

@@ -11,7 +11,8 @@ use Rattle.command_line.specs.declared.status.Status.{Status}
 use Rattle.command_line.specs.declared.status.Status.TheVariants as status
 use Rattle.tpcc.specs.Effects.{Change, Source}
 use Rattle.tpcc.specs.Verdicts.{verdict_text, verdicts_of, is_broken}
-use Rattle.tpcc.specs.Edges.{Gives, lines_text}
+use Rattle.files.specs.Place.{Gives}
+use Rattle.tpcc.specs.Edges.{lines_text}
 use Rattle.command_line.specs.declared.settings.check.CheckSettings.{CheckSettings}
 use Rattle.tpcc.specs.EarlyEnds.{IsOfChecking}
 use Rattle.tpcc.specs.Faults.{EndsEarly}

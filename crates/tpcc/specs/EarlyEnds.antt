@@ -23,7 +23,7 @@ use Rattle.command_line.specs.declared.settings.check.CheckSettings.{CheckSettin
 use Rattle.command_line.specs.declared.settings.replay.ReplaySettings.{ReplaySettings}
 use Rattle.command_line.specs.declared.settings.run.RunSettings.{RunSettings}
 use Rattle.command_line.specs.declared.settings.sim.SimSettings.{SimSettings}
-use Rattle.tpcc.specs.Edges.{Gives}
+use Rattle.files.specs.Place.{Gives}
 use Rattle.tpcc.specs.Faults.{IsFirst, IsOfReading, IsOfWriting, IsOfWritingSome, standard_output}
 use Rattle.tpcc.specs.Effects.{Source}
 use Rattle.tpcc.specs.Run.{GivesMoves, RunInputs}

@@ -1,12 +1,7 @@
--- The input and output of a command: sources, printed lines, and files that get names.
+-- The output of a command: printed lines, and files that get names.
 use Rattle.std.specs.Prelude.{◌≡◌, ℕ, List, [], ◌∷◌, ◌++◌, map, Option, None, Some}
-use Rattle.files.specs.Place.{IsCsv}
 use Rattle.files.specs.Sending.{Writes}
 use Rattle.tpcc.specs.OutputFiles.{NamedTexts, Shelves}
-
--- if it is known what the source gives, it is the text of records of which `AreRows` holds
-abbrev pub Gives : Option (List ℕ) → (List (List (List ℕ)) → Type 0) → Type 0
-Gives source AreRows = (text : List ℕ) → source ≡ Some text → (rows : List (List (List ℕ))) × IsCsv text rows × AreRows rows
 
 -- the text of the lines, with a line feed behind each
 abbrev pub lines_text : List (List ℕ) → List ℕ

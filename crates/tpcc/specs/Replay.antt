@@ -16,7 +16,8 @@ use Rattle.tpcc.specs.declared.command_fault.CommandFault.{CommandFault}
 use Rattle.command_line.specs.declared.status.Status.{Status}
 use Rattle.command_line.specs.declared.status.Status.TheVariants as status
 use Rattle.tpcc.specs.Effects.{Change, CommandOutput, Source}
-use Rattle.tpcc.specs.Edges.{Gives, NamesFile, lines_text}
+use Rattle.files.specs.Place.{Gives}
+use Rattle.tpcc.specs.Edges.{NamesFile, lines_text}
 use Rattle.command_line.specs.declared.settings.replay.ReplaySettings.{ReplaySettings}
 use Rattle.tpcc.specs.EarlyEnds.{IsOfReplaying}
 use Rattle.tpcc.specs.Faults.{EndsEarly}

@@ -18,7 +18,8 @@ use Rattle.tpcc.specs.declared.command_fault.CommandFault.{CommandFault}
 use Rattle.files.specs.Sending.{BeginsToWrite, OfFirst, Writes}
 use Rattle.tpcc.specs.Effects.{Change, CommandOutput, Source}
 use Rattle.tpcc.specs.OutputFiles.{NamedTexts}
-use Rattle.tpcc.specs.Edges.{Gives, NamesFile}
+use Rattle.files.specs.Place.{Gives}
+use Rattle.tpcc.specs.Edges.{NamesFile}
 
 -- each place in the answers of a session is that of an entry of the log
 abbrev pub AreAllInLog : List Entry → List (List (Result ℕ Refusal)) → Type 0

@@ -19,7 +19,8 @@ use Rattle.tpcc.specs.declared.command_fault.CommandFault.{CommandFault}
 use Rattle.tpcc.specs.Effects.{Change, CommandOutput, Source}
 use Rattle.tpcc.specs.OutputFiles.{NamedTexts, Shelves}
 use Rattle.files.specs.Sending.{BeginsToWrite, OfFirst, Writes}
-use Rattle.tpcc.specs.Edges.{Gives, NamesFile}
+use Rattle.files.specs.Place.{Gives}
+use Rattle.tpcc.specs.Edges.{NamesFile}
 
 -- what a simulation reads
 pub record SimInputs : Type 1 where

@@ -2,7 +2,7 @@ ghost use Rattle.std.specs.Prelude.{◌≡◌, is_some, IfOk, IfErr, OnErr};
 ghost use Rattle.files.specs.Sending.{Begins};
 ghost use Rattle.terminals.specs.FirstFault.{log_fault};
 ghost use Rattle.terminals.specs.LogRecord.{IsLog};
-ghost use Rattle.tpcc.specs.Edges.{Gives};
+ghost use Rattle.files.specs.Place.{Gives};
 ghost use Rattle.tpcc.specs.Effects.{change, output_of, source_of};
 ghost use Rattle.tpcc.specs.EarlyEnds.{IsOfReplaying, ReplayMayReport};
 ghost use Rattle.tpcc.specs.Faults.{IsFirst, IsOfReading};

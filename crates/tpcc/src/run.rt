@@ -4,7 +4,7 @@ ghost use Rattle.std.specs.Option.{option_map};
 ghost use Rattle.terminals.specs.Answers.{AreAnswers, AreInLog};
 ghost use Rattle.terminals.specs.Script.{IsScript};
 ghost use Rattle.files.specs.Sending.{BeginsToWrite, OfFirst, Writes};
-ghost use Rattle.tpcc.specs.Edges.{Gives};
+ghost use Rattle.files.specs.Place.{Gives};
 ghost use Rattle.tpcc.specs.Effects.{change, output_of, source_of};
 ghost use Rattle.tpcc.specs.EarlyEnds.{IsOfAnswering, IsOfMoves, IsOfRunning, IsOfScripts};
 ghost use Rattle.tpcc.specs.Faults.{IsOfWriting, standard_output, EndsEarly};

@@ -3,7 +3,7 @@ ghost use Rattle.terminals.specs.FirstFault.{schedule_fault};
 ghost use Rattle.terminals.specs.Outputs.{AreOutputs, NameEntries};
 ghost use Rattle.terminals.specs.Schedule.{IsSchedule};
 ghost use Rattle.files.specs.Sending.{BeginsToWrite, OfFirst, Writes};
-ghost use Rattle.tpcc.specs.Edges.{Gives};
+ghost use Rattle.files.specs.Place.{Gives};
 ghost use Rattle.tpcc.specs.Effects.{change, output_of, source_of};
 ghost use Rattle.tpcc.specs.EarlyEnds.{IsOfGathering, IsOfShowing, IsOfSimulating};
 ghost use Rattle.tpcc.specs.Faults.{IsFirst, IsOfReading, IsOfWriting, IsOfWritingSome, standard_output, EndsEarly};

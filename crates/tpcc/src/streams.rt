@@ -7,7 +7,8 @@ ghost use Rattle.files.specs.Sending.{Begins, Writes};
 ghost use Rattle.terminals.specs.LogRecord.{IsLog};
 ghost use Rattle.terminals.specs.Script.{IsScript};
 ghost use Rattle.tpcc.specs.OutputFiles.{Shelves};
-ghost use Rattle.tpcc.specs.Edges.{Gives, NamesFile, HasWritten, IsNamed, OfLines};
+ghost use Rattle.files.specs.Place.{Gives};
+ghost use Rattle.tpcc.specs.Edges.{NamesFile, HasWritten, IsNamed, OfLines};
 ghost use Rattle.tpcc.specs.Faults.{IsOfReading, IsOfWriting, IsOfWritingSome, standard_output};
 
 use crate::command_fault::CommandFault;
