@@ -10,7 +10,8 @@ use Rattle.engine.specs.Outcome.{IsOutcome}
 use Rattle.files.proofs.Sent.{on_any_err}
 use Rattle.tpcc.specs.declared.command_fault.CommandFault.{CommandFault}
 use Rattle.tpcc.specs.EarlyEnds.{IsOfScripts, IsOfServing}
-use Rattle.tpcc.specs.Run.{AreServed, ServesSome}
+use Rattle.tpcc.specs.Effects.{output_of}
+use Rattle.tpcc.specs.Run.{AreServed, ServesSome, run_outputs, texts_of}
 use Rattle.tpcc.proofs.AnswerRecords.{outcome_in_log, same_count}
 use Rattle.tpcc.proofs.ServeFaults.{of_tables}
 use Rattle.tpcc.proofs.run.run.Goals as goal
@@ -49,7 +50,8 @@ returns-in_err-hand_out-clause-some g c =
     let answers = c.in-Ok.outcome.answers.items in
     let Serves : List (List Request) → Type 0 = λ l. IsOutcome opening l log last answers in
     let Within : List MoveOrder → Type 0 = AreWithin opening c.args.settings.now.executors in
-    let are : AreServed (g.D.Input.remaining c.args.data) (map g.S.Input.remaining c.args.scripts.now) c.args.settings.now.executors (option_map g.S.Input.remaining c.args.moves) log last answers = record {
+    let texts = texts_of (g.D.Input.remaining c.args.data) (map g.S.Input.remaining c.args.scripts.now) (option_map g.S.Input.remaining c.args.moves) in
+    let are : AreServed c.args.settings.now.executors texts log last answers = record {
       opening = opening;
       is_dataset = c.in_ok-opening.ensures.tables;
       consistent = c.in-Ok.ensures.consistent;
@@ -60,10 +62,8 @@ returns-in_err-hand_out-clause-some g c =
       are_scripts = c.in_ok-scripts.ensures.scripts;
       outcome = subst Serves c.as_slice-2.ensures.value c.in-Ok.ensures.outcome;
     } in
-    let before = g.A.Write.contents c.args.answers.now in
-    let after = g.A.Write.contents c.hand_out.new.answers in
-    let some : ServesSome g.F.Write.contents (g.D.Input.remaining c.args.data) (map g.S.Input.remaining c.args.scripts.now) c.args.settings.now.executors (option_map g.S.Input.remaining c.args.moves)
-    c.args.log c.args.tables before after (g.N.OutputFiles.named c.args.output_files.now) (g.N.OutputFiles.named c.hand_out.new.output_files) = inr (log, last, answers, are, c.in_err-hand_out.ensures.some) in
+    let output = output_of g.A.Write.contents c.args.answers.now c.hand_out.new.answers g.N.OutputFiles.named c.args.output_files.now c.hand_out.new.output_files in
+    let some : ServesSome g.F.Write.contents c.args.settings.now.executors texts (run_outputs c.args.log c.args.tables) output = inr (log, last, answers, are, c.in_err-hand_out.ensures.some) in
     on_any_err c.from_residual-in_err-hand_out.result some
 
 pub returns-clause-serves : goal.returns-clause-serves
@@ -74,7 +74,8 @@ returns-clause-serves g c =
     let answers = c.in-Ok.outcome.answers.items in
     let Serves : List (List Request) → Type 0 = λ l. IsOutcome opening l log last answers in
     let Within : List MoveOrder → Type 0 = AreWithin opening c.args.settings.now.executors in
-    let are : AreServed (g.D.Input.remaining c.args.data) (map g.S.Input.remaining c.args.scripts.now) c.args.settings.now.executors (option_map g.S.Input.remaining c.args.moves) log last answers = record {
+    let texts = texts_of (g.D.Input.remaining c.args.data) (map g.S.Input.remaining c.args.scripts.now) (option_map g.S.Input.remaining c.args.moves) in
+    let are : AreServed c.args.settings.now.executors texts log last answers = record {
       opening = opening;
       is_dataset = c.in_ok-opening.ensures.tables;
       consistent = c.in-Ok.ensures.consistent;
