@@ -14,12 +14,14 @@ use rows::{MOST_ENTRIES, SESSIONS};
 use schema::NoMemory;
 use std::alloc::Global;
 use std::marker::{Model, PhantomData};
+use thiserror::Error;
 
 /// Why a request was not logged.
-#[derive(Clone, Copy, Debug, PartialEq, Eq)]
+#[derive(Clone, Copy, Debug, Drop, Error, PartialEq, Eq)]
 pub enum AppendFault {
+    #[error("no memory")]
     NoMemory,
-    /// The log has `MOST_ENTRIES` entries.
+    #[error("the log is full, with {most} entries", most = MOST_ENTRIES)]
     LogFull,
 }
 

@@ -17,9 +17,11 @@ use executor::Flow;
 use queues::Sender;
 use requests::{Refusal, Request, Script, check};
 use std::alloc::Global;
+use std::fmt;
 use std::marker::Model;
 use std::sync::Wait;
 use std::sync::atomic::Ordering;
+use thiserror::Error;
 use transactions::home_of_request;
 
 /// A session that asks interactively, none of whose requests is in flight.
@@ -102,12 +104,24 @@ impl<J: ServeNames> Model for Away<J> {
 }
 
 /// Why a session has no answer to a request.
-#[derive(Drop)]
+#[derive(Drop, Error)]
 pub enum AskFault<J: ServeNames> {
     /// An allocation failed: the request was not asked, and the session is unchanged.
+    #[error("no memory")]
     NoMemory(Session<J>),
     /// No answer came: the executors were stopped, or the answer was for another session. The session is lost.
+    #[error("no answer came")]
     Stopped,
+}
+
+/// Leaves out the session.
+impl<J: ServeNames> fmt::Debug for AskFault<J> {
+    fn fmt<W: fmt::Write>(&self, f: &mut fmt::Formatter<W>) -> fmt::Result {
+        match self {
+            AskFault::NoMemory(_) => f.write_str("NoMemory(..)"),
+            AskFault::Stopped => f.write_str("Stopped"),
+        }
+    }
 }
 
 /// A session that asks no more.

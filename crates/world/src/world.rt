@@ -23,6 +23,7 @@ use schema::{NoMemory, Tables};
 use slices::whole;
 use std::alloc::Global;
 use std::marker::Model;
+use thiserror::Error;
 use transactions::{Shard, claims_are_of_the_footprint};
 
 /// The state that an event works on.
@@ -109,11 +110,11 @@ impl<J: Names> Core<J> {
 }
 
 /// Why no tables can be gathered.
-#[derive(Clone, Copy, Debug, PartialEq, Eq)]
+#[derive(Clone, Copy, Debug, Drop, Error, PartialEq, Eq)]
 pub enum GatherFault {
-    /// A transaction is active, or a move is outstanding.
+    #[error("a transaction is active, or a move is outstanding")]
     NotIdle,
-    /// An allocation failed.
+    #[error("no memory")]
     NoMemory,
 }
 
