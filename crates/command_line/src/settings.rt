@@ -27,9 +27,6 @@ pub use run::RunSettings;
 pub use script::ScriptSettings;
 pub use sim::SimSettings;
 
-// The most scripts of a run, and the most files of `tpcc script`: one for each session.
-const MOST_SCRIPTS: usize = 64;
-
 /// What the command line asks the program to do.
 #[derive(Debug, Drop)]
 pub enum Settings<'a> {

@@ -1,6 +1,7 @@
 -- The state for which an engine is opened.
 use Rattle.std.specs.Prelude.{◌≡◌, ◌<◌, ◌≤◌, ℕ, ◌+◌, List, [], Some, length}
 use Rattle.std.specs.List.{slice_get}
+use Rattle.rows.specs.declared.limits.TheConstants.{SESSIONS}
 use Rattle.atomic_table.specs.Seated.{TableId}
 use Rattle.schema.specs.Database.{Database}
 use Rattle.partitions.specs.Parts.{shared_of}
@@ -26,8 +27,8 @@ pub record IsNamedFor {J : Type 0} (log : LogNames J) (groups : GroupNames J) (a
   pub warehouses : groups.warehouses ≡ tables.scale.warehouses
   pub agreements : AreNamed tables.scale.warehouses groups.committed groups.work opening.groups.items
   pub length_is : log.length ≡ opening.log.length
-  pub mine : (session : ℕ) → session < 64 → log.mine session ≡ table_of opening.log.mine session
-  pub asks : (session : ℕ) → session < 64 → log.asks session ≡ table_of opening.log.asks session
+  pub mine : (session : ℕ) → session < SESSIONS → log.mine session ≡ table_of opening.log.mine session
+  pub asks : (session : ℕ) → session < SESSIONS → log.asks session ≡ table_of opening.log.asks session
   pub agreed_phases_are : AreAgreedPhasesFrom agreed_phase 0 opening.agreed_phases.items
   pub enough : length scripts ≤ length opening.agreed_phases.items
   pub scripts_are : named ≡ scripts

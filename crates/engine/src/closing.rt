@@ -15,13 +15,14 @@ ghost use Rattle.engine.specs.Sessions.{AreAskedFrom};
 use crate::belongings::Executor;
 use crate::engine::Engine;
 use crate::place::Place;
-use crate::{Answers, CloseFault, Gate, Idle, Left, MOST_SESSIONS, Outcome, ServeNames};
+use crate::{Answers, CloseFault, Gate, Idle, Left, Outcome, ServeNames};
 use commit_log::Log;
 use executor::CountedShard;
 use groups::{Extent, Kind, Mode, Prefix, Want};
 use local_locks::Asked;
 use partitions::Catalog;
 use requests::Script;
+use rows::SESSIONS;
 use schema::NoMemory;
 use slices::{Slice, whole};
 use std::alloc::Global;
@@ -139,11 +140,11 @@ fn audit_left<J: ServeNames>(
 
 // Audits the sessions that were not used: the log has no entry of theirs.
 fn audit_idle<J: ServeNames>(log: &mut Log<J>, idle: Idle<J>)
-    ensures none { (s : ℕ) → idle.first ≤ s → s < 64 → items_of s log.old ≡ [] }
+    ensures none { (s : ℕ) → idle.first ≤ s → s < SESSIONS → items_of s log.old ≡ [] }
     ensures same { log.new ≡ log.old }
 {
     let Idle { first, mut lanes } = idle;
-    for _session in first..MOST_SESSIONS {
+    for _session in first..SESSIONS {
         let Some((mut pass, _seat)) = lanes.next() else {
             unreachable!()
         };

@@ -13,14 +13,11 @@ use crate::engine::Engine;
 use crate::executing::AtWork;
 use crate::opening::{Opened, Opening, open};
 use crate::threads::{Meanwhile, Work, work_on_each};
-use crate::{
-    Client, CloseFault, Gate, Left, MOST_SESSIONS, OpenGate, Outcome, ServeFault, ServeNames,
-    Session,
-};
+use crate::{Client, CloseFault, Gate, Left, OpenGate, Outcome, ServeFault, ServeNames, Session};
 use consistency::first_broken;
 use range_moves::MoveOrder;
 use requests::Script;
-use rows::INBOX;
+use rows::{INBOX, SESSIONS};
 use schema::Tables;
 use std::alloc::Global;
 use std::marker::Brand;
@@ -50,7 +47,7 @@ pub fn serve<R: Threads + Wait + Sync, G: Gate + Send + Sync + Drop>(
     gate: G,
 ) -> Result<Outcome, ServeFault>
     requires some { 1 ≤ length scripts.now }
-    requires most { length scripts.now ≤ MOST_SESSIONS }
+    requires most { length scripts.now ≤ SESSIONS }
     requires executors { 1 ≤ executors }
     ensures outcome { IfOk result (λ outcome. IsOutcome opening scripts.now outcome.log.items outcome.tables outcome.answers.items) }
     ensures interactive { IfOk result (λ outcome. outcome.asked.items ≡ []) }
@@ -76,7 +73,7 @@ pub fn serve_with_room<R: Threads + Wait + Sync, G: Gate + Send + Sync + Drop>(
     gate: G,
 ) -> Result<Outcome, ServeFault>
     requires some { 1 ≤ length scripts.now }
-    requires most { length scripts.now ≤ MOST_SESSIONS }
+    requires most { length scripts.now ≤ SESSIONS }
     requires executors { 1 ≤ executors }
     requires room { 0 < room }
     ensures outcome { IfOk result (λ outcome. IsOutcome opening scripts.now outcome.log.items outcome.tables outcome.answers.items) }
@@ -104,7 +101,7 @@ pub fn serve_client<R: Threads + Wait + Sync, C: Client>(
     executors: u32,
     client: &C,
 ) -> Result<Outcome, ServeFault>
-    requires most { sessions ≤ MOST_SESSIONS }
+    requires most { sessions ≤ SESSIONS }
     requires executors { 1 ≤ executors }
     ensures outcome { IfOk result (λ outcome. IsOutcome opening outcome.asked.items outcome.log.items outcome.tables outcome.answers.items) }
     ensures sessions { IfOk result (λ outcome. length outcome.asked.items ≡ sessions) }
@@ -161,7 +158,7 @@ fn serve_all<R: Threads + Wait + Sync, G: Gate + Send + Sync + Drop, C: Client>(
     gate: G,
     client: &C,
 ) -> Result<Outcome, ServeFault>
-    requires most { length scripts.now + sessions ≤ MOST_SESSIONS }
+    requires most { length scripts.now + sessions ≤ SESSIONS }
     requires executors { 1 ≤ executors }
     requires room { 0 < room }
     ensures outcome { IfOk result (λ outcome. IsOutcome opening (scripts.now ++ outcome.asked.items) outcome.log.items outcome.tables outcome.answers.items) }
@@ -218,7 +215,7 @@ fn serve_from<
     requires room { 0 < room }
     requires named { IsNamedFor J.LogNames J.GroupNames J.agreed_phase J.scripts tables scripts.now opening }
     requires some { 1 ≤ executors }
-    requires most { vec_len opening.agreed_phases ≤ 64 }
+    requires most { vec_len opening.agreed_phases ≤ SESSIONS }
     ensures outcome { IfOk result (λ outcome. IsOutcome tables (scripts.now ++ outcome.asked.items) outcome.log.items outcome.tables outcome.answers.items) }
     ensures asked { IfOk result (λ outcome. length scripts.now + length outcome.asked.items ≡ vec_len opening.agreed_phases) }
     ensures promised { IfOk result (λ outcome. C.promises client.now tables outcome.asked.items (drop (length scripts.now) outcome.answers.items)) }

@@ -1,14 +1,13 @@
-ghost use Rattle.std.specs.Prelude.{◌≡◌, IfOk, unwrap_or, replicate, max, if◌then◌else◌};
+ghost use Rattle.std.specs.Prelude.{◌≡◌, IfOk, replicate, max, if◌then◌else◌};
 ghost use Rattle.schema.specs.Consistency.{greatest};
 ghost use Rattle.partitions.specs.Slots.{AreRows, customer_slot_by};
 ghost use Rattle.indexes.specs.LatestOrder.{is_order_by, latest, order_numbers};
-ghost use Rattle.indexes.specs.LatestIndex.{FitsLatestBy, HasPlace, latest_at, with_latest, raised, number_of};
+ghost use Rattle.indexes.specs.LatestIndex.{FitsLatestBy, HasPlace, with_latest, raised, number_of};
 
 use partitions::Rows;
 use schema::{CustomerKey, NoMemory, Order, OrderKey};
 use std::alloc::Global;
 use std::marker::Model;
-use std::mem;
 
 /// The number of each customer's latest order, in the order of the customers' keys, four bytes each: of
 /// all customers, or of those of one warehouse. It still fits when rows of orders change, as long as no
@@ -56,29 +55,6 @@ impl LatestOrders {
         number_of(*self.numbers.get(slot)?)
     }
 
-    /// Records an order of that number, from 1, as the customer's latest. Returns what was recorded
-    /// before, for `take_back`. Changes nothing if the customer's row is not here. The index fits the
-    /// rows with that order if its number is larger than those of the customer's other orders
-    /// (`noted_order_fits`).
-    pub fn note_order<T: Rows>(
-        &mut self,
-        rows: &T,
-        customer: CustomerKey,
-        number: u32,
-    ) -> Option<u32>
-        ensures noted { self.new ≡ with_latest (T.slot rows.now) (T.tables rows.now).scale.customers
-            self.old customer number }
-        ensures before { result ≡ latest_at (T.slot rows.now) (T.tables rows.now).scale.customers
-            self.old customer }
-    {
-        let slot = customer_slot(rows, customer)?;
-        if slot < self.numbers.len() {
-            number_of(mem::replace(&mut self.numbers[slot], number))
-        } else {
-            None
-        }
-    }
-
     /// Raises the customer's number to that of an order, from 1, if it was less. Changes nothing if the
     /// customer's row is not here. The index fits any rows with that order if no order was stored at its
     /// key before, or one of the same customer (`raised_order_fits`).
@@ -101,17 +77,11 @@ impl LatestOrders {
         ensures { self.new ≡ with_latest (T.slot rows.now) (T.tables rows.now).scale.customers
             self.old customer (greatest (order_numbers (T.tables rows.now).orders customer)) }
     {
-        let number = greatest_number(rows, customer);
-        self.note_order(rows, customer, number);
-    }
-
-    /// Restores what `note_order` returned for that customer, when the order is undone. The index is
-    /// then as it was before (`taken_back_is_as_before`).
-    pub fn take_back<T: Rows>(&mut self, rows: &T, customer: CustomerKey, before: Option<u32>)
-        ensures { self.new ≡ with_latest (T.slot rows.now) (T.tables rows.now).scale.customers
-            self.old customer (unwrap_or before 0) }
-    {
-        self.note_order(rows, customer, before.unwrap_or(0));
+        if let Some(slot) = customer_slot(rows, customer) {
+            if slot < self.numbers.len() {
+                self.numbers[slot] = greatest_number(rows, customer);
+            }
+        }
     }
 }
 

@@ -23,6 +23,7 @@ use engine::{Answers, Outcome, serve};
 use files::Input;
 use range_moves::MoveOrder;
 use requests::Script;
+use rows::SESSIONS;
 use schema::NoMemory;
 use std::alloc::Global;
 use std::io::Write;
@@ -170,7 +171,7 @@ fn hand_out<'a, A: Write, F: Write + Drop, N: OutputFiles<F>>(
     tables: Option<F>,
     output_files: &mut N,
 ) -> Result<(), CommandFault<'a>>
-    requires few { length outcome.now.answers.items ≤ 64 }
+    requires few { length outcome.now.answers.items ≤ SESSIONS }
     requires placed { AreAllInLog outcome.now.log.items outcome.now.answers.items }
     requires log { is_some log ≡ is_some settings.now.log }
     requires tables { is_some tables ≡ is_some settings.now.tables }
@@ -239,7 +240,7 @@ fn print_answers<A: Write>(
     answers: &[Answers],
     log: &[Entry],
 ) -> Result<(), CommandFault<'static>>
-    requires few { length answers.now ≤ 64 }
+    requires few { length answers.now ≤ SESSIONS }
     requires placed { AreAllInLog log.now answers.now }
     ensures printed { OnOk result (Writes (A.contents sink.old) (A.contents sink.new) (AreAllAnswers log.now 0 answers.now)) }
     ensures begun { OnErr result (BeginsToWrite (A.contents sink.old) (A.contents sink.new) (BeginAllAnswers log.now 0 answers.now)) }

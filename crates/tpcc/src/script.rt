@@ -11,6 +11,7 @@ use crate::streams::write_requests;
 use command_line::{ScriptSettings, Status};
 use dataset::read_scale;
 use files::Input;
+use rows::SESSIONS;
 use schema::Scale;
 use std::alloc::Global;
 use std::io::Write;
@@ -103,7 +104,7 @@ fn write_scripts<'a, T: Write + Drop, N: OutputFiles<T>>(
     mut files: Vec<T>,
     output_files: &mut N,
 ) -> Result<(), CommandFault<'a>>
-    requires few { length paths.now ≤ 64 }
+    requires few { length paths.now ≤ SESSIONS }
     requires files { length files.items ≡ length paths.now }
     ensures all { OnOk result (NamesScripts T.contents workload.now 0 files.items (N.named output_files.old) (N.named output_files.new)) }
     ensures some { OnErr result (NamesFirstScripts T.contents workload.now files.items (N.named output_files.old) (N.named output_files.new)) }

@@ -1,6 +1,7 @@
 -- How one group of stock sells an order's lines, and how the lines that all groups sold are put in order.
 use Rattle.std.specs.Prelude.{◌≡◌, ◌≤◌, ◌-◌, ◌%◌, ℕ, List, [], ◌∷◌, map, slice_set, Option, Some, option_map, All, IsTrue}
 use Rattle.std.specs.FinMap as table
+use Rattle.rows.specs.declared.limits.TheConstants.{STOCK_GROUPS}
 use Rattle.schema.specs.Database.{Database}
 use Rattle.requests.specs.declared.group.Group.TheVariants as g
 use Rattle.requests.specs.declared.new_order.NewOrder.{NewOrder}
@@ -29,7 +30,7 @@ puts_done (put ∷ puts) stocks = table.insert (puts_done puts stocks) put.key p
 -- the rows are of the claim's group, and STOCK has a row at the key of each
 abbrev pub AreOfGroup : ClaimView → Stocks → List StockPut → Type 0
 AreOfGroup claim stocks puts =
-    All (λ put. (claim.group ≡ g.Stock put.key.w_id (put.key.i_id % 64)) × IsTrue (table.contains_key stocks put.key)) puts
+    All (λ put. (claim.group ≡ g.Stock put.key.w_id (put.key.i_id % STOCK_GROUPS)) × IsTrue (table.contains_key stocks put.key)) puts
 
 -- ---- lines in order
 

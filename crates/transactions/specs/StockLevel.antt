@@ -4,6 +4,7 @@ use Rattle.std.specs.Prelude.{◌≡◌, ℕ, List, [], ◌∷◌, map}
 use Rattle.std.specs.List.{range_with_len}
 use Rattle.std.specs.FinMap as table
 use Rattle.rows.specs.declared.keys.DistrictKey.{DistrictKey}
+use Rattle.rows.specs.declared.limits.TheConstants.{STOCK_GROUPS}
 use Rattle.schema.specs.Database.{Database}
 use Rattle.partitions.specs.Parts.{SharedTables}
 use Rattle.requests.specs.declared.group.Group.{Group}
@@ -49,7 +50,7 @@ pub record AreItemsFound (home : DistrictKey) (next : ℕ) (items : List ℕ) (o
 
 -- all groups of a warehouse's stock
 abbrev pub stock_of : ℕ → List Group
-stock_of w_id = map (λ residue. g.Stock w_id residue) (range_with_len 0 64)
+stock_of w_id = map (λ residue. g.Stock w_id residue) (range_with_len 0 STOCK_GROUPS)
 
 -- these are shared claims on these groups, one on each in turn
 abbrev pub AreSharedOn : List Group → List ClaimView → Type 0
@@ -74,7 +75,7 @@ home_of (CountLow s items) = s.home.w_id
 abbrev pub group_wants_of : Work → List GroupWant
 group_wants_of (ReadNext s) = sharing (g.District s.home.w_id s.home.d_id) ∷ []
 group_wants_of (ReadItems s next) = sharing (g.Orders s.home.w_id s.home.d_id) ∷ []
-group_wants_of (CountLow s items) = map (λ residue. sharing (g.Stock s.home.w_id residue)) (range_with_len 0 64)
+group_wants_of (CountLow s items) = map (λ residue. sharing (g.Stock s.home.w_id residue)) (range_with_len 0 STOCK_GROUPS)
 
 -- The work can be done: its Stock-Level is one that the check accepts.
 abbrev pub CanDo : SharedTables → Work → Type 0

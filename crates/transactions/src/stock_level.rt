@@ -15,14 +15,15 @@ use crate::progress::Gathered;
 use groups::GroupWant;
 use machine::{low_stock, recent_items};
 use requests::{Group, Reply, Shown, StockLevel, StockLevelReply};
+use rows::STOCK_GROUPS;
 use schema::{DistrictKey, NoMemory};
 use slices::Slice;
 use std::alloc::Global;
 use std::marker::Model;
 use tickets::{Claim, GroupNames};
 
-// The number of groups of a warehouse's stock.
-const STOCK_GROUPS: usize = 64;
+// The number of wants of the phase that counts: one for each group of a warehouse's stock.
+const STOCK_WANTS: usize = STOCK_GROUPS as usize;
 
 /// The work of an action of a Stock-Level.
 #[derive(Drop)]
@@ -105,7 +106,7 @@ impl Work {
         match self {
             Work::ReadNext(_) => 1,
             Work::ReadItems(_, _) => 1,
-            Work::CountLow(_, _) => STOCK_GROUPS,
+            Work::CountLow(_, _) => STOCK_WANTS,
         }
     }
 
@@ -122,7 +123,7 @@ impl Work {
                 let DistrictKey { w_id, d_id } = asked.home;
                 Some(GroupWant::shared(Group::Orders { w_id, d_id }))
             }
-            Work::CountLow(asked, _) if number < STOCK_GROUPS => Some(GroupWant::shared(
+            Work::CountLow(asked, _) if number < STOCK_WANTS => Some(GroupWant::shared(
                 Group::Stock {
                     w_id: asked.home.w_id,
                     residue: number as u32,

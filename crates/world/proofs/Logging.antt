@@ -4,6 +4,7 @@ use Rattle.std.specs.Prelude.{All, map}
 use Rattle.std.specs.List.{slice_get}
 use Rattle.std.proofs.lemmas.List.{length-map, map-append}
 use Rattle.std.proofs.lemmas.List.Elements.{All-cons, All-nil, All-head, All-tail, All-append}
+use Rattle.rows.specs.declared.limits.TheConstants.{SESSIONS}
 use Rattle.partitions.specs.Parts.{SharedTables}
 use Rattle.schema.specs.Database.{Database}
 use Rattle.requests.specs.declared.reply.Reply.{Reply}
@@ -150,7 +151,7 @@ module _ {J : Type 0} where
         let pending : hand.pending ≡ unanswered_release r ∷ [] = ap (λ u. u ∷ []) (sym is) in
         record {
           sound = releases_sound shared h.in_flight w hand false r rests (active.Committing, committing)
-              (subst (λ n. n < 64) (sym same.0) s.asked.session) (ap (λ asks. asks.number) same.1 ∙ s.asked.number) (records_no_death (groups_of (footprint r.pass.asks.request)) r.age why)
+              (subst (λ n. n < SESSIONS) (sym same.0) s.asked.session) (ap (λ asks. asks.number) same.1 ∙ s.asked.number) (records_no_death (groups_of (footprint r.pass.asks.request)) r.age why)
               s.undo s.few refl held_by_lots pending served;
           fits = λ opening history f. releases_fits opening history w hand false r below refl pending (fits_by_lots opening history f);
         }

@@ -10,6 +10,7 @@ use Rattle.requests.specs.declared.refusal.Refusal.{Refusal}
 use Rattle.requests.specs.declared.request.Request.{Request}
 use Rattle.schema.specs.declared.scale.Scale.{Scale}
 use Rattle.world.specs.declared.desk.SessionDesk.{SessionDesk}
+use Rattle.world.specs.declared.slots.TheConstants.{MOST_ACTIVE}
 use Rattle.world.specs.declared.world.Parts.{Parts}
 use Rattle.world.specs.Slots.{count_active}
 use Rattle.world.specs.Happening.{CanAsk, SubmitsAt, SubmitsInto, SubmitsUnless, can_admit, is_full, refusal_at, refuses}
@@ -46,11 +47,11 @@ module _ {J : Type 0} where
 
   -- so the desk does not refuse it
   pub unrefused : (desk : SessionDesk J) (asked : Request) (old : Parts J) (scale : Scale) (accepted : Unit {0})
-      → is_some desk.pass ≡ true → scale ≡ old.catalog.scale → Ok accepted ≡ check_of scale asked → count_active old.desk.active < 64
+      → is_some desk.pass ≡ true → scale ≡ old.catalog.scale → Ok accepted ≡ check_of scale asked → count_active old.desk.active < MOST_ACTIVE
       → refusal_at desk asked old ≡ None
   unrefused desk asked old scale accepted there same checked room =
       not_refused desk.pass (check_of old.catalog.scale asked) accepted (is_full old.desk.active) there
-      (ap (λ (s : Scale). check_of s asked) (sym same) ∙ sym checked) (lt-leb 64 (count_active old.desk.active) room)
+      (ap (λ (s : Scale). check_of s asked) (sym same) ∙ sym checked) (lt-leb MOST_ACTIVE (count_active old.desk.active) room)
 
   -- what is done with a request that is not refused
   pub submits : (has_room : Bool) (at : Option (SessionDesk J)) (desk : SessionDesk J) (session number : ℕ) (asked : Request) (old : Parts J) (answer : EventAnswer) (new : Parts J) (room : Bool)

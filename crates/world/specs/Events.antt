@@ -44,6 +44,7 @@ use Rattle.world.specs.declared.flight.Commit.{Commit}
 use Rattle.world.specs.declared.flight.SessionAnswer.{SessionAnswer}
 use Rattle.world.specs.declared.flight.Item.{Item}
 use Rattle.world.specs.declared.flight.Item.TheVariants as item
+use Rattle.world.specs.declared.slots.TheConstants.{MOST_ACTIVE}
 use Rattle.world.specs.declared.world.Parts.{Parts}
 use Rattle.world.specs.Shards.{HaveToWait}
 use Rattle.world.specs.Following.{CarriesFirst, acts_of, committing, ending, entry_of, found_in, held_in, holding, refusal_of, refused, release, releasing, putting, with_active}
@@ -170,7 +171,7 @@ module _ {J : Type 0} where
 
   -- What the reports of a phase of this transaction require.
   pub record CanMeetFor (reports : List (Report J)) (flow : Flow J) : Type 0 where
-    pub slot : flow.transaction.slot < 64
+    pub slot : flow.transaction.slot < MOST_ACTIVE
     pub room : length flow.transaction.held + length reports ≤ MOST_ACTIONS
     pub done : refusal_of None reports ≡ None → HasMet flow.progress (found_in reports)
 
@@ -211,7 +212,7 @@ module _ {J : Type 0} where
     pub asks : commit.transaction.pass.asks.request ≡ commit.transaction.request
     pub carried_out : IsCarriedOut opening commit.transaction.request (all_claims commit.transaction.held) commit.reply
     pub few : length commit.transaction.held ≤ MOST_ACTIONS
-    pub slot : commit.transaction.slot < 64
+    pub slot : commit.transaction.slot < MOST_ACTIVE
 
   -- ---- the sessions
 
@@ -238,9 +239,9 @@ module _ {J : Type 0} where
   abbrev pub CanSend : Database → Item J → Parts J → Type 0
   CanSend opening (item.Push message) w = Unit {0}
   CanSend opening (item.Report r) w =
-      (r.slot < 64) × OfPhase r.slot w (λ first slots. (first ≤ r.place) × ((slice_get slots (r.place - first) ≡ Some None)
+      (r.slot < MOST_ACTIVE) × OfPhase r.slot w (λ first slots. (first ≤ r.place) × ((slice_get slots (r.place - first) ≡ Some None)
       × ((reports : List (Report J)) → map Some reports ≡ slice_set slots (r.place - first) (Some r) → CanMeet reports × CarriesFirst reports (λ flow. flow.transaction.slot ≡ r.slot))))
-  CanSend opening (item.Ended slot) w = (slot < 64) × OfEnding slot w (λ left. 1 ≤ left)
+  CanSend opening (item.Ended slot) w = (slot < MOST_ACTIVE) × OfEnding slot w (λ left. 1 ≤ left)
   CanSend opening (item.Commit commit) w = CanCommit opening commit
   CanSend opening (item.Reply recorded) w = (desk : SessionDesk J) × (slice_get w.desk.sessions.items recorded.pass.session ≡ Some desk)
 

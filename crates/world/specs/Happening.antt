@@ -34,6 +34,7 @@ use Rattle.world.specs.declared.flight.Message.{Message}
 use Rattle.world.specs.declared.flight.Message.TheVariants as message
 use Rattle.world.specs.declared.flight.Outgoing.{Outgoing}
 use Rattle.world.specs.declared.flight.Outgoing.TheVariants as outgoing
+use Rattle.world.specs.declared.slots.TheConstants.{MOST_ACTIVE}
 use Rattle.world.specs.declared.world.Parts.{Parts}
 use Rattle.world.specs.declared.world.Core.{Core}
 use Rattle.world.specs.Events.{SendsItem, TakesMessage}
@@ -44,17 +45,17 @@ use Rattle.world.specs.Sound.{IsSessionOf}
 
 -- ---- submissions
 
--- Why the desk refuses a request at once: its session has a transaction without an answer, its check refuses it, or 64
--- transactions are active. The first that applies is the reason.
+-- Why the desk refuses a request at once: its session has a transaction without an answer, its check refuses it, or
+-- MOST_ACTIVE transactions are active. The first that applies is the reason.
 abbrev pub refuses : Option PassView → Result (Unit {0}) Refusal → Bool → Option Refusal
 refuses None checked full = Some refusal.SessionBusy
 refuses (Some pass) (Err why) full = Some why
 refuses (Some pass) (Ok accepted) true = Some refusal.Busy
 refuses (Some pass) (Ok accepted) false = None
 
--- 64 transactions are active.
+-- MOST_ACTIVE transactions are active.
 abbrev pub is_full : {X : Type 0} → List (Option X) → Bool
-is_full slots = nat_le 64 (count_active slots)
+is_full slots = nat_le MOST_ACTIVE (count_active slots)
 
 -- ---- moves
 

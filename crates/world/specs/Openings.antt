@@ -1,5 +1,6 @@
 -- What opening a world requires and gives, why it fails, and the result of a simulation.
 use Rattle.std.specs.Prelude.{◌≡◌, ◌⊎◌, ◌<◌, ℕ, zero, suc, List, [], Some, None, Result, Ok, Err, map, replicate, slice_get, length, ◌≤◌}
+use Rattle.rows.specs.declared.limits.TheConstants.{SESSIONS}
 use Rattle.schema.specs.Database.{Database}
 use Rattle.partitions.specs.Parts.{parts_of, shared_of}
 use Rattle.consistency.specs.Broken.{BreaksFirst}
@@ -19,6 +20,7 @@ use Rattle.world.specs.declared.opening.OpenFault.{OpenFault}
 use Rattle.world.specs.declared.opening.OpenFault.TheVariants.{NoMemory, BadExecutors, NotConsistent}
 use Rattle.slices.specs.SliceView.{AreSlicesOf, all_at_rest, at_rest}
 use Rattle.world.specs.declared.simulating.Simulation.{Simulation}
+use Rattle.world.specs.declared.slots.TheConstants.{MOST_ACTIVE}
 use Rattle.world.specs.declared.world.GatherFault.{GatherFault}
 use Rattle.world.specs.declared.world.GatherFault.TheVariants as gather
 use Rattle.world.specs.declared.world.Core.{Core}
@@ -35,8 +37,8 @@ pub record IsNamedFor {J : Type 0} (log : LogNames J) (groups : GroupNames J) (t
   pub warehouses : groups.warehouses ≡ tables.scale.warehouses
   pub agreements : AreNamed tables.scale.warehouses groups.committed groups.work opening.groups.items
   pub length : log.length ≡ opening.log.length
-  pub mine : (session : ℕ) → session < 64 → log.mine session ≡ table_of opening.log.mine session
-  pub asks : (session : ℕ) → session < 64 → log.asks session ≡ table_of opening.log.asks session
+  pub mine : (session : ℕ) → session < SESSIONS → log.mine session ≡ table_of opening.log.mine session
+  pub asks : (session : ℕ) → session < SESSIONS → log.asks session ≡ table_of opening.log.asks session
 
 -- NotConsistent names the least condition that these tables break.
 abbrev pub IsFaultOf : Database → OpenFault → Type 0
@@ -50,10 +52,10 @@ abbrev pub IsGathered : ℕ → Database → Result Database GatherFault → Typ
 IsGathered zero tables gathered = (gathered ≡ Ok tables) ⊎ (gathered ≡ Err gather.NoMemory)
 IsGathered (suc busy) tables gathered = gathered ≡ Err gather.NotIdle
 
--- The passes and seats of 64 sessions, by session number. They have asked, seen and logged nothing.
+-- The passes and seats of the sessions, by session number. They have asked, seen and logged nothing.
 pub record AreNewLanes (lanes : List (PassView × SessionSeatView)) : Type 0 where
-  pub many : length lanes ≡ 64
-  pub each : (session : ℕ) → session < 64 → slice_get lanes session ≡ Some (new_pass session, new_seat session)
+  pub many : length lanes ≡ SESSIONS
+  pub each : (session : ℕ) → session < SESSIONS → slice_get lanes session ≡ Some (new_pass session, new_seat session)
 
 module _ {J : Type 0} where
   -- The session at the desk, with its pass there.
@@ -63,8 +65,8 @@ module _ {J : Type 0} where
   -- A world with this many executors over these tables in which nothing has happened. Its shards have the rows of the tables,
   -- those of each warehouse in a slice of its own; no claim is held, and no action waits, at a shard or in a lock table. The
   -- slices are where the opening deals them out, no move is outstanding and nothing is parked. The queues of the executors and
-  -- the log are empty, and so are the inbox and outbox of the parts. No transaction was admitted or is active, and each of 64
-  -- sessions has its pass at the desk and has asked nothing.
+  -- the log are empty, and so are the inbox and outbox of the parts. No transaction was admitted or is active, and each
+  -- session has its pass at the desk and has asked nothing.
   pub record IsNew (tables : Database) (executors : ℕ) (w : Core J) : Type 0 where
     pub catalog : w.parts.catalog ≡ shared_of tables
     pub shards : w.parts.shards.items ≡ map shard_of (map at_rest (parts_of tables))
@@ -78,9 +80,9 @@ module _ {J : Type 0} where
     pub in_hand : (w.parts.inbox ≡ []) × (w.parts.outbox ≡ [])
     pub log : w.parts.log ≡ []
     pub admitted : w.parts.desk.admitted ≡ 0
-    pub active : w.parts.desk.active ≡ replicate 64 None
-    pub many : length w.parts.desk.sessions.items ≡ 64
-    pub each : (session : ℕ) → session < 64 → slice_get w.parts.desk.sessions.items session ≡ Some (session_with (new_pass session, new_seat session))
+    pub active : w.parts.desk.active ≡ replicate MOST_ACTIVE None
+    pub many : length w.parts.desk.sessions.items ≡ SESSIONS
+    pub each : (session : ℕ) → session < SESSIONS → slice_get w.parts.desk.sessions.items session ≡ Some (session_with (new_pass session, new_seat session))
 
 -- A world can have this many executors.
 abbrev pub CanHave : ℕ → Type 0

@@ -1,6 +1,7 @@
 -- What holds of a world and its history.
 use Rattle.std.specs.Prelude.{◌≡◌, ℕ, ◌+◌, Bool, List, [], ◌∷◌, ◌++◌, All, Contains, IsTrue, ◌<◌, ◌≤◌, ◌↔◌, Result, Err, count_by}
 use Rattle.std.specs.List.{slice_get}
+use Rattle.rows.specs.declared.limits.TheConstants.{SESSIONS}
 use Rattle.schema.specs.Database.{Database}
 use Rattle.requests.specs.declared.group.Group.{Group}
 use Rattle.requests.specs.declared.request.Request.{Request}
@@ -185,7 +186,7 @@ module _ {J : Type 0} where
 
   -- ---- what can't happen
 
-  -- A submission can't happen from a session number of 64 or above; nor, unless it is refused, if the inbox of the executor
+  -- A submission can't happen from a session number of SESSIONS or above; nor, unless it is refused, if the inbox of the executor
   -- where it would begin is full or no age is left. A move can't happen if it is impossible, if another is outstanding, or if
   -- the inbox of its destination is full. A Take or a Send can't happen if there is nothing to take or to send, or no such
   -- executor.
@@ -195,11 +196,11 @@ module _ {J : Type 0} where
   CannotHappen (Take executor) w = queue_of executor w.inboxes ≡ []
   CannotHappen (Send executor) w = queue_of executor w.outboxes ≡ []
 
-  -- A submission by one of the 64 sessions is refused with SessionBusy exactly if the session has a transaction without an
+  -- A submission by one of the sessions is refused with SessionBusy exactly if the session has a transaction without an
   -- answer.
   abbrev pub IsBusyExactly : Event → Core J → EventAnswer → Type 0
   IsBusyExactly (Submit session number asked) w answer =
-      session < 64 → (answer ≡ Answered session number (Err refusal.SessionBusy)) ↔ (1 ≤ count_by (is_of session) (flight (together w)).pending)
+      session < SESSIONS → (answer ≡ Answered session number (Err refusal.SessionBusy)) ↔ (1 ≤ count_by (is_of session) (flight (together w)).pending)
   IsBusyExactly event w answer = Unit {0}
 
   -- The action has not died: it has done its work, or there was no memory for it.

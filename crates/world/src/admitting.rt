@@ -8,6 +8,7 @@ ghost use Rattle.world.specs.Happening.{Admits, CanAsk, CanSubmit, SubmitsAt};
 use crate::beginning::Phase;
 use crate::desk::{Active, SessionDesk};
 use crate::flight::{Flow, Message, Transaction};
+use crate::slots::MOST_ACTIVE;
 use crate::world::Parts;
 use commit_log::{Names, Pass};
 use history::EventAnswer;
@@ -60,7 +61,7 @@ impl<J: Names> Parts<J> {
         number: u32,
         request: &Request,
     ) -> Result<u64, NoMemory>
-        requires below { slot < 64 }
+        requires below { slot < MOST_ACTIVE }
         requires free { slice_get self.old.desk.active slot ≡ Some None }
         requires hand { self.old.inbox ≡ [] }
         requires age { self.old.desk.admitted < 18446744073709551615 }

@@ -9,6 +9,7 @@ use crate::beginning::Phase;
 use crate::desk::Active;
 use crate::flight::{Commit, Flow, Item, Report, Transaction};
 use crate::sending::Release;
+use crate::slots::MOST_ACTIVE;
 use crate::world::Parts;
 use commit_log::Names;
 use rendezvous::Results;
@@ -48,7 +49,7 @@ impl<J: Names> Parts<J> {
     fn begin_next_phase(&mut self, alloc: Global, flow: Flow<J>)
         requires room { length self.old.outbox + (MOST_ACTIONS + 1) ≤ 4096 }
         requires held { length flow.transaction.held ≤ MOST_ACTIONS }
-        requires slot { flow.transaction.slot < 64 }
+        requires slot { flow.transaction.slot < MOST_ACTIVE }
         requires few { length (works_of flow.progress) ≤ MOST_ACTIONS }
         ensures { (self.new ≡ releasing false (refused flow.transaction Refusal.NoMemory) self.old)
             ⊎ (self.new ≡ goes_on flow.transaction (Gathered.Next flow.progress) self.old) }
@@ -67,7 +68,7 @@ impl<J: Names> Parts<J> {
     // The transaction was carried out and is to be logged.
     fn put_commit(&mut self, transaction: Transaction<J>, reply: Reply)
         requires room { length self.old.outbox + 1 ≤ 4096 }
-        requires slot { transaction.slot < 64 }
+        requires slot { transaction.slot < MOST_ACTIVE }
         ensures { self.new ≡ spec.committing transaction reply self.old }
     {
         self.desk

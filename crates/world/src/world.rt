@@ -133,8 +133,8 @@ impl<J: Names> World<J> {
     /// to a session whose transaction has no answer yet, with that transaction's number and the place of its entry in the log
     /// or the reason of its refusal.
     ///
-    /// Limits: up to 64 transactions are active at a time. A submission is refused as `Busy` exactly if 64 are active and no
-    /// earlier refusal applies.
+    /// Limits: up to `MOST_ACTIVE` transactions are active at a time. A submission is refused as `Busy` exactly if as many are
+    /// active and no earlier refusal applies.
     ///
     /// Waiting: an action in conflict waits if every conflicting holder is younger; otherwise it dies. So there is no deadlock:
     /// while a transaction is active, something can be taken or sent. If only one transaction is active, none of its actions

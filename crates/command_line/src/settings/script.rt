@@ -6,14 +6,13 @@ ghost use Rattle.command_line.specs.Settings.{HasFiles};
 ghost use Rattle.command_line.specs.Words.{all_words, AsksForScripts, IsHome, IsRemote};
 
 use crate::paths::are_one;
-use crate::settings::MOST_SCRIPTS;
 use crate::settings::arguments::{
     arguments, counted, data, moment, named, number, option, quiet, word,
 };
 use crate::settings::mix::mix;
 use crate::usage::UsageFault;
 use clap::{ArgMatches, Command};
-use rows::{MOST_ENTRIES, MOST_WAREHOUSES};
+use rows::{MOST_ENTRIES, MOST_WAREHOUSES, SESSIONS};
 use schema::Moment;
 use std::alloc::{AllocError, Global};
 use workload::Mix;
@@ -58,7 +57,7 @@ fn check_files(files: &[&str]) -> Result<(), UsageFault>
     ensures fit { OnOk result (AreFiles (map (λ file. file.now) files.now)) }
     ensures mistake { IfErr result (IsFilesFault (map (λ file. file.now) files.now)) }
 {
-    if !(1..=MOST_SCRIPTS).contains(&files.len()) {
+    if !(1..=SESSIONS).contains(&files.len()) {
         return Err(UsageFault::FileCount);
     }
     if has_twice(files) {

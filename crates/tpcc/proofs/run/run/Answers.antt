@@ -2,6 +2,7 @@ use Rattle.std.proofs.Common.{◌≡◌, ◌≤◌, ℕ, List, inl, inr, length,
 use Rattle.std.specs.Borrow.{Bor}
 use Rattle.std.specs.Option.{option_map}
 use Rattle.std.proofs.lemmas.Result.{err_from_is_err_and}
+use Rattle.rows.specs.declared.limits.TheConstants.{SESSIONS}
 use Rattle.requests.specs.declared.request.Request.{Request}
 use Rattle.range_moves.specs.declared.order.MoveOrder.{MoveOrder}
 use Rattle.engine.specs.Faults.{AreWithin, IsFaultOf}
@@ -32,7 +33,7 @@ hand_out-requires-clause-few g c =
     let asked : length answers ≡ length c.as_slice-2.result.now = same_count answers c.as_slice-2.result.now c.in-Ok.ensures.outcome.answered in
     let scripts : length c.as_slice-2.result.now ≡ length c.in_ok-scripts.scripts.items = ap length c.as_slice-2.ensures.value in
     let paths : length c.in_ok-scripts.scripts.items ≡ length c.args.settings.now.scripts.items = c.in_ok-scripts.ensures.count ∙ ap length c.deref.ensures.value in
-    let few : length c.args.settings.now.scripts.items ≤ 64 = c.requires.limits.0.1 in
+    let few : length c.args.settings.now.scripts.items ≤ SESSIONS = c.requires.limits.0.1 in
     omega arith
 
 pub hand_out-requires-clause-placed : goal.hand_out-requires-clause-placed
