@@ -22,7 +22,7 @@ use Rattle.rows.specs.declared.records.OrderLine.{OrderLine}
 use Rattle.schema.specs.declared.scale.Scale.{Scale}
 use Rattle.schema.specs.Database.{Database}
 use Rattle.files.specs.MomentText.{IsMomentText}
-use Rattle.files.specs.Place.{Rows, IsCsv}
+use Rattle.files.specs.Place.{Rows}
 use Rattle.files.specs.Sending.{OfFirst}
 use Rattle.files.specs.Word.{credit_text}
 
@@ -209,7 +209,3 @@ AreRecords t rows = AllZip AreSpelt (records t) rows
 -- these are the first records of the tables, some number of them
 abbrev pub AreFirstRecords : Database → Rows → Type 0
 AreFirstRecords t rows = OfFirst (λ (first : List (List Field)). AllZip AreSpelt first) (records t) rows
-
--- the text is CSV, and its records are those of the tables
-abbrev pub IsDatasetOf : Database → List ℕ → Type 0
-IsDatasetOf t text = (rows : Rows) × IsCsv text rows × AreRecords t rows

@@ -1,14 +1,14 @@
 ghost use Rattle.std.specs.Prelude.{◌≡◌, ◌+◌, ◌-◌, ◌^◌, ◌<◌, ℕ, List, [], length, None, IfOk, IfErr, MatchResult, OnOk};
 ghost use Rattle.std.specs.Option.{ForSome};
 ghost use Rattle.files.specs.Failure.{IsOfText, LastsThrough};
-ghost use Rattle.files.specs.Place.{Rows, input, ForRecords, HasRead, HasLeft, record_fields, record_number};
+ghost use Rattle.files.specs.Place.{Rows, input, IsCsv, ForRecords, Gives, HasRead, HasLeft, record_fields, record_number};
 ghost use Rattle.dataset.specs.Columns.{sizes};
 ghost use Rattle.dataset.specs.FirstFault.{HasNoTables, IsFault, Reports, first_fault, header_first, rows_fault};
 ghost use Rattle.dataset.specs.TakenAs.{BeginsDataset, IsDone, IsReadAs, ReachesEnd, ReportsEnd};
 ghost use Rattle.files.specs.FirstFault.{ReportsFault};
 ghost use Rattle.dataset.specs.Loading.{HasLoaded, HasEnded, HasReadHeader};
 ghost use Rattle.dataset.specs.Payments.{AreCountable};
-ghost use Rattle.dataset.specs.Records.{IsDatasetOf};
+ghost use Rattle.dataset.specs.Records.{AreRecords};
 ghost use Rattle.dataset.specs.FirstRecord.{BeginsWithHeader, HasNoHeader};
 
 use crate::header;
@@ -30,7 +30,7 @@ use std::alloc::Global;
 /// was read. Memory is allocated row by row. The numbers of the header determine only how many empty
 /// lists of payments are allocated: one for each district, at most 640.
 pub fn read<R: Input + Drop>(alloc: Global, source: R) -> Result<Tables, FileError>
-    ensures tables { IfOk result (λ tables. ForSome (R.remaining source) (IsDatasetOf tables)) }
+    ensures tables { IfOk result (λ tables. Gives (R.remaining source) (AreRecords tables)) }
     ensures first { ForRecords (R.remaining source) (λ rows. length rows < 2 ^ 64 - 1
         → MatchResult result (λ _. first_fault rows ≡ None) (λ error. Reports rows error)) }
     ensures fault { IfErr result (λ error. IsFault error
@@ -136,8 +136,8 @@ fn finish<R: Input + Drop>(mut records: Records<R>, loader: Loader) -> Result<Ta
     ensures first { IfErr result (λ error. (more : Rows) → HasLeft R.remaining more records
         → record_number records < 2 ^ 64 - 1
         → ReportsEnd error loader more (record_number records)) }
-    ensures tables { IfOk result (λ tables. (text : List ℕ)
-        → HasEnded R.remaining text loader records → IsDatasetOf tables text) }
+    ensures tables { IfOk result (λ tables. (text : List ℕ) → HasEnded R.remaining text loader records
+        → (rows : Rows) × IsCsv text rows × AreRecords tables rows) }
     ensures lasts { R.lasts (input records) → IfErr result IsOfText }
 {
     let end = records.number();
