@@ -59,7 +59,8 @@ impl LatestOrders {
     /// customer's row is not here. The index fits any rows with that order if no order was stored at its
     /// key before, or one of the same customer (`raised_order_fits`).
     pub fn raise_order<T: Rows>(&mut self, rows: &T, customer: CustomerKey, number: u32)
-        ensures { self.new ≡ raised (T.slot rows.now) (T.tables rows.now).scale.customers self.old customer number }
+        ensures { self.new ≡ raised (T.slot rows.now) (T.tables rows.now).scale.customers
+            self.old customer number }
     {
         if let Some(slot) = customer_slot(rows, customer) {
             if slot < self.numbers.len() {
@@ -73,8 +74,8 @@ impl LatestOrders {
     /// replaced by another customer's (`replaced_order_fits`), which does not happen in consistent
     /// tables. Changes nothing if the customer's row is not here.
     pub fn look_through<T: Rows>(&mut self, rows: &T, customer: CustomerKey)
-        ensures { self.new ≡ with_latest (T.slot rows.now) (T.tables rows.now).scale.customers self.old customer
-            (greatest (order_numbers (T.tables rows.now).orders customer)) }
+        ensures { self.new ≡ with_latest (T.slot rows.now) (T.tables rows.now).scale.customers
+            self.old customer (greatest (order_numbers (T.tables rows.now).orders customer)) }
     {
         if let Some(slot) = customer_slot(rows, customer) {
             if slot < self.numbers.len() {
@@ -86,7 +87,8 @@ impl LatestOrders {
 
 // Returns the place of the customer's number, `None` if the customer's row is not here.
 fn customer_slot<T: Rows>(rows: &T, customer: CustomerKey) -> Option<usize>
-    ensures slot { result ≡ customer_slot_by (T.slot rows.now) (T.tables rows.now).scale.customers customer }
+    ensures slot { result
+        ≡ customer_slot_by (T.slot rows.now) (T.tables rows.now).scale.customers customer }
     ensures rows { AreRows (T.slot rows.now) (T.districts rows.now) (T.tables rows.now) }
 {
     let customers = rows.scale().customers;
@@ -111,7 +113,8 @@ fn greatest_number<T: Rows>(rows: &T, customer: CustomerKey) -> u32
 
 // Returns the larger of the number and the order's, if the order is the customer's; else the number.
 fn grown(number: u32, customer: CustomerKey, key: OrderKey, order: &Order) -> u32
-    ensures { result ≡ (if is_order_by customer (key, order.now) then max key.o_id number else number) }
+    ensures { result
+        ≡ (if is_order_by customer (key, order.now) then max key.o_id number else number) }
 {
     let is_at = key.w_id == customer.w_id && key.d_id == customer.d_id;
     if is_at && order.c_id == customer.c_id {
@@ -138,7 +141,8 @@ fn zeros(count: usize, alloc: Global) -> Result<Vec<u32>, NoMemory>
 // Records the number for the customer, unless a larger one is recorded.
 fn raise<T: Rows>(numbers: &mut [u32], rows: &T, customer: CustomerKey, number: u32)
     requires { HasPlace (T.slot rows.now) (T.tables rows.now).scale.customers numbers.old customer }
-    ensures { numbers.new ≡ raised (T.slot rows.now) (T.tables rows.now).scale.customers numbers.old customer number }
+    ensures { numbers.new ≡ raised (T.slot rows.now) (T.tables rows.now).scale.customers
+        numbers.old customer number }
 {
     if let Some(slot) = customer_slot(rows, customer) {
         numbers[slot] = numbers[slot].max(number);

@@ -14,7 +14,7 @@ ghost use Rattle.rows.specs.Keys.{order_cmp, line_cmp, order_of_line};
 ghost use Rattle.rows.specs.declared.limits.TheConstants.{MOST_LINES};
 ghost use Rattle.schema.specs.EachRow.{EachRow};
 ghost use Rattle.schema.specs.MapRows.{map_rows, put_row, ChangesRow, MergesRows};
-ghost use Rattle.schema.specs.PackedLines.{all_lines, with_keys, AreNumbered, AreKept, IsLast, HasNone, all_lines_table, order_lines_table};
+ghost use Rattle.schema.specs.PackedLines.{all_lines, AreNumbered, AreKept, IsLast, HasNone, all_lines_table, order_lines_table};
 ghost use Rattle.schema.specs.Database.{is_order_id, rows_where, is_of_order, is_line_of_district};
 ghost use Rattle.schema.specs.OrderRows.{line_table, line_key, put_lines, lines_at, with_moment, is_in_span, HasLines, with_delivery_d, with_lines};
 

@@ -29,7 +29,8 @@ pub fn draw_script(alloc: Global, workload: &Workload, session: u32) -> Result<S
     ensures count { IfOk result (λ script. length script ≡ workload.now.requests) }
     ensures accepted { IfOk result (All (IsAccepted workload.now.scale)) }
     ensures within { IfOk result (All (IsWithin (terminal_of workload.now session))) }
-    ensures mix { IfOk result (λ script. AreDealt (cards_of workload.now.mix) (map kind_of script)) }
+    ensures mix { IfOk result
+        (λ script. AreDealt (cards_of workload.now.mix) (map kind_of script)) }
 {
     let terminal = workload.terminal(session);
     let seed = u64::from(workload.seed);
