@@ -136,7 +136,8 @@ fn finish<R: Input + Drop>(mut records: Records<R>, loader: Loader) -> Result<Ta
     ensures first { IfErr result (λ error. (more : Rows) → HasLeft R.remaining more records
         → record_number records < 2 ^ 64 - 1
         → ReportsEnd error loader more (record_number records)) }
-    ensures tables { IfOk result (λ tables. (text : List ℕ) → HasEnded R.remaining text loader records
+    ensures tables { IfOk result (λ tables. (text : List ℕ)
+        → HasEnded R.remaining text loader records
         → (rows : Rows) × IsCsv text rows × AreRecords tables rows) }
     ensures lasts { R.lasts (input records) → IfErr result IsOfText }
 {
