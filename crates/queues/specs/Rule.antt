@@ -6,6 +6,15 @@ use Rattle.queues.specs.declared.sent.Sent.{Sent}
 use Rattle.queues.specs.declared.rule.View.{View}
 use Rattle.queues.specs.Order.{of}
 
+-- What has come about at an inbox. The place of its taker; the number of senders that were made, and the place of
+-- each by its number; the messages put by all of them; and those taken.
+pub record InboxHistory (T : Type 0) : Type 0 where
+  pub taker : ℕ
+  pub senders : ℕ
+  pub seat : ℕ → ℕ
+  pub all : List (Sent T)
+  pub got : List (Sent T)
+
 module _ {T : Type 0} where
   -- the view of a sender with this number that has put these messages
   abbrev pub sender_view : ℕ → List T → View T
@@ -31,21 +40,12 @@ module _ {T : Type 0} where
   abbrev pub view_after_take : View T → Sent T → View T
   view_after_take v sent = taker_view v.senders (v.got ++ sent ∷ [])
 
-  -- What has come about at an inbox. The place of its taker; the number of senders that were made, and the place of
-  -- each by its number; the messages put by all of them; and those taken.
-  pub record InboxHistory : Type 0 where
-    pub taker : ℕ
-    pub senders : ℕ
-    pub seat : ℕ → ℕ
-    pub all : List (Sent T)
-    pub got : List (Sent T)
-
   -- these together
-  abbrev pub inbox_history : ℕ → ℕ → (ℕ → ℕ) → List (Sent T) → List (Sent T) → InboxHistory
+  abbrev pub inbox_history : ℕ → ℕ → (ℕ → ℕ) → List (Sent T) → List (Sent T) → InboxHistory T
   inbox_history taker senders seat all got = record { taker = taker; senders = senders; seat = seat; all = all; got = got }
 
   -- the view of one place, after this has come about
-  pub record IsInOrder (h : InboxHistory) (place : ℕ) (v : View T) : Type 0 where
+  pub record IsInOrder (h : InboxHistory T) (place : ℕ) (v : View T) : Type 0 where
     pub as_sender : v.sends ≡ true → (v.number < h.senders) × (h.seat v.number ≡ place) × (v.put ≡ of v.number h.all)
     pub as_taker : v.takes ≡ true → (place ≡ h.taker) × (v.senders ≡ h.senders) × (v.got ≡ h.got)
 
