@@ -3,7 +3,7 @@ ghost use Rattle.std.specs.Prelude.{◌≡◌, ◌≤◌, ◌<◌, All, IfOk, ve
 ghost use Rattle.partitions.specs.Parts.{shared_of};
 ghost use Rattle.slices.specs.Openings.{AreOpenedFor};
 ghost use Rattle.engine.specs.Interactive.{HasAskedNothing};
-ghost use Rattle.engine.specs.Opening.{AreAgreedPhasesFrom, IsNamedFor, IsToOpen};
+ghost use Rattle.engine.specs.Opening.{AreAgreedPhasesFrom, IsNamedFor, IsToOpen, session_names};
 ghost use Rattle.engine.specs.Sessions.{AreNewFrom};
 
 use crate::asking::Ready;
@@ -101,7 +101,8 @@ pub fn open<'a, J: ServeNames, G: Gate + Drop>(
     gate: G,
 ) -> Result<Opened<'a, J, G>, NoMemory>
     requires room { 0 < room }
-    requires named { IsNamedFor J.LogNames J.GroupNames J.agreed_phase J.scripts tables scripts.now opening }
+    requires named { IsNamedFor J.LogNames J.GroupNames
+        (session_names J.agreed_phase J.scripts) tables scripts.now opening }
     requires some { 1 ≤ executors }
     requires most { vec_len opening.agreed_phases ≤ SESSIONS }
     ensures catalog { IfOk result (λ opened. opened.catalog ≡ shared_of tables) }

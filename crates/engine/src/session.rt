@@ -5,7 +5,7 @@ ghost use Rattle.commit_log.specs.Items.{items_of};
 ghost use Rattle.executor.specs.Answers.{IsRecordedBy};
 ghost use Rattle.engine.specs.Asking.{known_of};
 ghost use Rattle.engine.specs.Outcome.{IsRefusal};
-ghost use Rattle.engine.specs.Served.{Served};
+ghost use Rattle.engine.specs.Served.{ServedIn};
 ghost use Rattle.engine.specs.Interactive.{Asks, HasAskedNothing, HasMet, IsBackIn};
 
 use crate::asking::says_full;
@@ -272,7 +272,8 @@ pub fn meet<J: ServeNames>(one: &mut Session<J>, other: &mut Session<J>)
 impl<J: ServeNames> Asker<J> {
     // Answers the request with a refusal.
     fn refused(self, refusal: Refusal) -> (Session<J>, Result<u32, Refusal>)
-        requires { IsRefusal J.opening.scale (known_of self.before.is_full self.before.pass.reached) self.request refusal }
+        requires { IsRefusal J.opening.scale
+            (known_of self.before.is_full self.before.pass.reached) self.request refusal }
         ensures { Asks J.opening.scale self.before self.request result.0 result.1 }
     {
         let Asker {
@@ -410,7 +411,8 @@ impl<J: ServeNames> Left<J> {
     pub(crate) fn audit(self, log: &mut Log<J>, number: usize) -> Option<(Script, Answers)>
         ensures asked { IfSome result (λ r. r.0 ≡ self.session.script) }
         ensures recorded { IfSome result (λ r. r.1 ≡ self.session.answers) }
-        ensures served { IfSome result (λ r. Served J.opening.scale self.session.script r.1 (items_of number log.old) (length log.old)) }
+        ensures served { IfSome result (λ r.
+            ServedIn J.opening.scale number log.old self.session.script r.1) }
         ensures same { log.new ≡ log.old }
     {
         let Left { session } = self;

@@ -15,6 +15,7 @@ use Rattle.requests.specs.declared.stock_level.StockLevel.{StockLevel}
 use Rattle.requests.specs.declared.stock_level.StockLevelReply.{StockLevelReply}
 use Rattle.requests.specs.Check.{IsAccepted}
 use Rattle.groups.specs.Content.{content}
+use Rattle.groups.specs.Groups.{group_of_district}
 use Rattle.groups.specs.declared.group_wants.GroupWant.{GroupWant}
 use Rattle.groups.specs.Footprint.{shared as sharing}
 use Rattle.tickets.specs.Claims.{ClaimView}
@@ -30,20 +31,20 @@ use Rattle.transactions.specs.declared.work.Work.{Work as AnyWork}
 use Rattle.transactions.specs.declared.work.Work.TheVariants as any_work
 use Rattle.transactions.specs.declared.work.Found.{Found as AnyFound}
 use Rattle.transactions.specs.declared.work.Found.TheVariants as any_found
-use Rattle.transactions.specs.Granted.{IsAsked, IsSharedOn}
+use Rattle.transactions.specs.Granted.{IsAsked, IsSharedOn, group_of_orders}
 
 -- ---- the district
 
 -- The number of the district's next order, in all tables whose content of the group is the recorded one.
 pub record IsNextFound (home : DistrictKey) (next : ℕ) (district : ClaimView) : Type 0 where
-  pub claim : IsSharedOn (g.District home.w_id home.d_id) district
+  pub claim : IsSharedOn (group_of_district home) district
   pub shown : (t : Database) → content t district.group ≡ district.recorded → next ≡ next_order (table.get t.districts home)
 
 -- ---- the lines of its last orders
 
 -- the item of each line of the district's 20 orders before this number, likewise
 pub record AreItemsFound (home : DistrictKey) (next : ℕ) (items : List ℕ) (orders : ClaimView) : Type 0 where
-  pub claim : IsSharedOn (g.Orders home.w_id home.d_id) orders
+  pub claim : IsSharedOn (group_of_orders home) orders
   pub shown : (t : Database) → content t orders.group ≡ orders.recorded → items ≡ recent_items t home next
 
 -- ---- the stock
@@ -73,8 +74,8 @@ home_of (CountLow s items) = s.home.w_id
 
 -- the wants of an action's work
 abbrev pub group_wants_of : Work → List GroupWant
-group_wants_of (ReadNext s) = sharing (g.District s.home.w_id s.home.d_id) ∷ []
-group_wants_of (ReadItems s next) = sharing (g.Orders s.home.w_id s.home.d_id) ∷ []
+group_wants_of (ReadNext s) = sharing (group_of_district s.home) ∷ []
+group_wants_of (ReadItems s next) = sharing (group_of_orders s.home) ∷ []
 group_wants_of (CountLow s items) = map (λ residue. sharing (g.Stock s.home.w_id residue)) (range_with_len 0 STOCK_GROUPS)
 
 -- The work can be done: its Stock-Level is one that the check accepts.

@@ -1,5 +1,5 @@
 -- What opening a world requires and gives, why it fails, and the result of a simulation.
-use Rattle.std.specs.Prelude.{◌≡◌, ◌⊎◌, ◌<◌, ℕ, zero, suc, List, [], Some, None, Result, Ok, Err, map, replicate, slice_get, length, ◌≤◌}
+use Rattle.std.specs.Prelude.{◌≡◌, ◌≢◌, ◌⊎◌, ◌<◌, ℕ, zero, suc, List, [], Some, None, Result, Ok, Err, map, replicate, slice_get, length, ◌≤◌}
 use Rattle.rows.specs.declared.limits.TheConstants.{SESSIONS}
 use Rattle.schema.specs.Database.{Database}
 use Rattle.partitions.specs.Parts.{parts_of, shared_of}
@@ -12,7 +12,7 @@ use Rattle.commit_log.specs.LogTables.{table_of}
 use Rattle.commit_log.specs.PassView.{PassView, SessionSeatView, new_pass, new_seat}
 use Rattle.history.specs.History.{Step}
 use Rattle.history.specs.declared.schedule.Scheduled.{Scheduled}
-use Rattle.history.specs.Schedules.{Plays}
+use Rattle.history.specs.Schedules.{EndsQuiet, Plays}
 use Rattle.world.specs.declared.desk.SessionDesk.{SessionDesk}
 use Rattle.slices.specs.Openings.{AreOpenedFor}
 use Rattle.world.specs.declared.opening.Opening.{Opening}
@@ -62,6 +62,11 @@ module _ {J : Type 0} where
   abbrev pub session_with : PassView × SessionSeatView → SessionDesk J
   session_with lane = record { seat = lane.1; pass = Some lane.0 }
 
+  -- The result of gathering the tables of this world: `IsGathered` of its tables, whatever the opening of a history that fits it.
+  abbrev pub IsGatheredFrom : Core J → Result Database GatherFault → Type 0
+  IsGatheredFrom w gathered =
+      (opening : Database) (history : List Step) → Fits opening history (together w) → IsGathered (count_busy w) (tables_now opening w.parts.log) gathered
+
   -- A world with this many executors over these tables in which nothing has happened. Its shards have the rows of the tables,
   -- those of each warehouse in a slice of its own; no claim is held, and no action waits, at a shard or in a lock table. The
   -- slices are where the opening deals them out, no move is outstanding and nothing is parked. The queues of the executors and
@@ -104,3 +109,12 @@ pub record Simulates (J : Type 0) (opening : Database) (executors : ℕ) (schedu
   pub never_stuck : IsNeverStuck last
   pub log : s.log.items ≡ last.parts.log
   pub tables : IsGathered (count_busy last) (tables_now opening s.log.items) s.tables
+
+-- A schedule was simulated in this world, as over all tables and with every number of executors for which the world is new.
+abbrev pub SimulatesFrom : {J : Type 0} → Core J → List Scheduled → Simulation → Type 0
+SimulatesFrom {J} world schedule s =
+    (opening : Database) (executors : ℕ) → IsNew opening executors world → Fits opening [] (together world) → Simulates J opening executors schedule s
+
+-- If the last output is `Quiet`, the simulation has its tables unless there was no memory for them.
+abbrev pub HasTablesIfQuiet : Simulation → Type 0
+HasTablesIfQuiet s = EndsQuiet s.outputs.items → s.tables ≢ Err gather.NotIdle

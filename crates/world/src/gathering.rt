@@ -1,8 +1,9 @@
 //! The end of a phase: all its actions have reported.
-ghost use Rattle.std.specs.Prelude.{◌≡◌, ◌⊎◌, false, ◌≤◌, ◌<◌, ◌+◌, [], length, vec_capacity, None};
+ghost use Rattle.std.specs.Prelude.{◌≡◌, ◌⊎◌, false, ◌≤◌, ◌<◌, ◌+◌, length, None};
 ghost use Rattle.world.specs.Following as spec;
-ghost use Rattle.world.specs.Following.{CarriesFirst, found_in, held_in, holding, refusal_of, refused, releasing};
+ghost use Rattle.world.specs.Following.{CarriesFirst, found_in, held_in, holding_more, refusal_of, refused, releasing};
 ghost use Rattle.transactions.specs.Progresses.{works_of};
+ghost use Rattle.transactions.specs.SortedOut.{IsReadyFor};
 ghost use Rattle.world.specs.Events.{CanMeet, MeetsAs, goes_on};
 
 use crate::beginning::Phase;
@@ -82,8 +83,8 @@ impl<J: Names> Parts<J> {
 // unless the transaction is refused.
 fn sort_out<J: Names>(mut results: Results<Report<J>>, mut sorted: Sorted) -> (Flow<J>, Sorted)
     requires can { CanMeet results }
-    requires found { sorted.refusal ≡ None → (sorted.found.items ≡ []) × (length results ≤ vec_capacity sorted.found) }
-    ensures flow { CarriesFirst results (λ flow. result.0 ≡ record flow { transaction = holding flow.transaction (held_in results) }) }
+    requires found { IsReadyFor (length results) sorted }
+    ensures flow { CarriesFirst results (λ flow. result.0 ≡ holding_more flow (held_in results)) }
     ensures refusal { result.1.refusal ≡ refusal_of sorted.refusal results }
     ensures found { result.1.refusal ≡ None → result.1.found.items ≡ found_in results }
 {

@@ -83,7 +83,8 @@ impl<J: Names> World<J> {
         ensures fits { IfOk result (λ world. Fits tables [] (together world)) }
         ensures new { IfOk result (λ world. IsNew tables executors world) }
         ensures consistent { OnOk result (Consistent tables) }
-        ensures bad_executors { IsErrAnd result (λ fault. fault ≡ OpenFault.BadExecutors) ↔ ¬ CanHave executors }
+        ensures bad_executors { IsErrAnd result (λ fault. fault ≡ OpenFault.BadExecutors)
+            ↔ ¬ CanHave executors }
         ensures fault { IfErr result (λ fault. IsFaultOf tables fault) }
     {
         if !(1..=MOST_EXECUTORS).contains(&executors) {
