@@ -45,7 +45,8 @@ impl<T: Drop> Slots<T> {
     pub fn first_free(&self) -> Option<usize>
         ensures first { result ≡ spec.first_free self.now }
         ensures free { IfSome result (λ slot. slice_get self.now slot ≡ Some None) }
-        ensures room { IfSome result (λ slot. (slot < MOST_ACTIVE) × (count_active self.now < MOST_ACTIVE)) }
+        ensures room { IfSome result
+            (λ slot. (slot < MOST_ACTIVE) × (count_active self.now < MOST_ACTIVE)) }
         ensures none { IfNone result (count_active self.now ≡ MOST_ACTIVE) }
     {
         first_free_of(&self.slots)
