@@ -6,6 +6,7 @@
 mod laws;
 mod meeting;
 mod results;
+pub mod shared;
 
 pub use laws::{
     all_are_awaited_at_first, awaited_are_at_most_the_places, awaited_have_not_reported,

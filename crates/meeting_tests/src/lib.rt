@@ -1,0 +1,5 @@
+//! Tests of meetings that threads share.
+#![tactic(auto)]
+
+#[cfg(test)]
+mod tests;
