@@ -95,7 +95,8 @@ pub fn change<V: Value, C: Change<V>>(board: &Board<V>, place: &mut Place<V>, ch
     requires place { IsPlaceAt (arc_value board.now).shared.table_id place.old }
     requires all { place.old.me.0.share ≡ place.old.me.0.count }
     ensures place { IsPlaceAt (arc_value board.now).shared.table_id place.new }
-    ensures value { place.new.me.0 ≡ set_to place.old.me.0 (C.changed change.now place.old.me.0.value) }
+    ensures value { place.new.me.0
+        ≡ set_to place.old.me.0 (C.changed change.now place.old.me.0.value) }
 {
     set::<V, C, Brand>(board, place, change);
 }

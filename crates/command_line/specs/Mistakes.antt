@@ -68,11 +68,11 @@ abbrev pub IsMixWord : Option (List ℕ) → Type 0
 IsMixWord None = Unit {0}
 IsMixWord (Some word) = (mix : Mix) × IsMixText word mix
 
--- there are 1 to 64 files, of different paths
+-- there are 1 to SESSIONS files, of different paths
 abbrev pub AreFiles : List (List ℕ) → Type 0
 AreFiles files = IsSessionCount (length files) × (HasPathTwice files → ⊥)
 
--- there are not 1 to 64 files; or there are, and two of them have one path
+-- there are not 1 to SESSIONS files; or there are, and two of them have one path
 abbrev pub IsFilesFault : List (List ℕ) → UsageFault → Type 0
 IsFilesFault files fault =
     ((fault ≡ usage.FileCount) × (IsSessionCount (length files) → ⊥))
@@ -81,7 +81,7 @@ IsFilesFault files fault =
 -- ---- mistakes of each command
 
 module _ (found : Found) where
-  -- out of memory; not 1 to 64 scripts; one path for log and tables; executors that are not 1 to 16; or else tries that are not 1 to 10,000
+  -- out of memory; not 1 to SESSIONS scripts; one path for log and tables; executors that are not 1 to 16; or else tries that are not 1 to 10,000
   abbrev pub IsRunFault : UsageFault → Type 0
   IsRunFault (usage.Words error) = kind_of error ≡ OutOfMemory
   IsRunFault usage.ScriptCount = IsSessionCount (length (all_words found (codes "SCRIPT"))) → ⊥

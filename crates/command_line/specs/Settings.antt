@@ -1,16 +1,17 @@
 -- Settings within their limits.
 use Rattle.std.specs.Prelude.{◌≤◌, ℕ, length}
+use Rattle.rows.specs.declared.limits.TheConstants.{SESSIONS}
 use Rattle.command_line.specs.declared.settings.Settings.{Settings}
 use Rattle.command_line.specs.declared.settings.Settings.TheVariants.{Run, Sim, Populate, Script, Check, Replay, Text}
 use Rattle.command_line.specs.declared.settings.run.RunSettings.{RunSettings}
 use Rattle.command_line.specs.declared.settings.script.ScriptSettings.{ScriptSettings}
 use Rattle.command_line.specs.declared.settings.sim.SimSettings.{SimSettings}
 
--- there are 1 to 64 sessions, each with a script of its own
+-- there are 1 to SESSIONS sessions, each with a script of its own
 abbrev pub IsSessionCount : ℕ → Type 0
-IsSessionCount count = (1 ≤ count) × (count ≤ 64)
+IsSessionCount count = (1 ≤ count) × (count ≤ SESSIONS)
 
--- a run has 1 to 64 scripts, one for each session
+-- a run has 1 to SESSIONS scripts, one for each session
 abbrev pub HasSessions : RunSettings → Type 0
 HasSessions run = IsSessionCount (length run.scripts.items)
 
@@ -22,7 +23,7 @@ IsRunnable run = HasSessions run × (1 ≤ run.executors) × (run.executors ≤ 
 abbrev pub HasExecutors : SimSettings → Type 0
 HasExecutors sim = (1 ≤ sim.executors) × (sim.executors ≤ 16)
 
--- there are 1 to 64 files for scripts, one for each session
+-- there are 1 to SESSIONS files for scripts, one for each session
 abbrev pub HasFiles : ScriptSettings → Type 0
 HasFiles script = IsSessionCount (length script.files.items)
 

@@ -1,5 +1,5 @@
 -- The settings that the words of the command line ask for.
-use Rattle.std.specs.Prelude.{◌≡◌, ℕ, if◌then◌else◌, Bool, true, false, List, [], map, Option, None, Some, codes, option_map, unwrap_or}
+use Rattle.std.specs.Prelude.{◌≡◌, ℕ, if◌then◌else◌, Bool, true, false, List, [], map, Option, None, Some, codes, option_copied, option_map, unwrap_or}
 use Rattle.std.specs.Fmt.{decimal}
 use Rattle.clap.specs.Words.{first_value, matched_of, one_text, raw_values}
 use Rattle.clap.specs.declared.parser.matches.Found.{Found}
@@ -62,9 +62,9 @@ module _ (found : Found) where
     pub scripts : map (λ path. path.now) s.scripts.items ≡ all_words (codes "SCRIPT")
     pub executors : IsNumber (first_value found (codes "executors")) 2 s.executors
     pub tries : IsNumber (first_value found (codes "tries")) 100 s.tries
-    pub moves : option_map (λ path. path.now) s.moves ≡ first_value found (codes "moves")
-    pub log : option_map (λ path. path.now) s.log ≡ first_value found (codes "log")
-    pub tables : option_map (λ path. path.now) s.tables ≡ first_value found (codes "tables")
+    pub moves : option_copied s.moves ≡ first_value found (codes "moves")
+    pub log : option_copied s.log ≡ first_value found (codes "log")
+    pub tables : option_copied s.tables ≡ first_value found (codes "tables")
     pub summary : IsFlag (codes "summary") s.summary
     pub quiet : IsFlag (codes "quiet") s.quiet
 
@@ -72,9 +72,9 @@ module _ (found : Found) where
     pub «data» : s.«data».now ≡ word_of (codes "DATA")
     pub schedule : s.schedule.now ≡ word_of (codes "SCHEDULE")
     pub executors : IsNumber (first_value found (codes "executors")) 2 s.executors
-    pub log : option_map (λ path. path.now) s.log ≡ first_value found (codes "log")
-    pub picture : option_map (λ path. path.now) s.picture ≡ first_value found (codes "picture")
-    pub tables : option_map (λ path. path.now) s.tables ≡ first_value found (codes "tables")
+    pub log : option_copied s.log ≡ first_value found (codes "log")
+    pub picture : option_copied s.picture ≡ first_value found (codes "picture")
+    pub tables : option_copied s.tables ≡ first_value found (codes "tables")
     pub quiet : IsFlag (codes "quiet") s.quiet
 
   pub record AsksToPopulate (s : PopulateSettings) : Type 0 where
@@ -105,6 +105,6 @@ module _ (found : Found) where
   pub record AsksToReplay (s : ReplaySettings) : Type 0 where
     pub «data» : s.«data».now ≡ word_of (codes "DATA")
     pub log : s.log.now ≡ word_of (codes "LOG")
-    pub tables : option_map (λ path. path.now) s.tables ≡ first_value found (codes "tables")
+    pub tables : option_copied s.tables ≡ first_value found (codes "tables")
     pub summary : IsFlag (codes "summary") s.summary
     pub quiet : IsFlag (codes "quiet") s.quiet

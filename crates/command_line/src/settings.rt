@@ -1,4 +1,4 @@
-ghost use Rattle.std.specs.Prelude.{◌≡◌, ◌⊎◌, map, option_map, string_bytes, IfOk, IfErr};
+ghost use Rattle.std.specs.Prelude.{◌≡◌, ◌⊎◌, map, option_copied, string_bytes, IfOk, IfErr};
 ghost use Rattle.clap.specs.Words.{fault_of, found_of, kind_of, IsAmong};
 ghost use Rattle.command_line.specs.Asked.{AsksFor, IsAsked, IsFaultOf, IsMistake, IsTextFault, IsVersion, MistakesHelp, help_asked, help_words};
 ghost use Rattle.command_line.specs.CommandLine.{alone, program, program_alone, IsCommand};
@@ -26,9 +26,6 @@ pub use replay::ReplaySettings;
 pub use run::RunSettings;
 pub use script::ScriptSettings;
 pub use sim::SimSettings;
-
-// The most scripts of a run, and the most files of `tpcc script`: one for each session.
-const MOST_SCRIPTS: usize = 64;
 
 /// What the command line asks the program to do.
 #[derive(Debug, Drop)]
@@ -66,7 +63,8 @@ pub fn read_words<'a>(alloc: Global, words: &'a [String]) -> Result<Settings<'a>
 // The text of the version, if clap was asked for it, or else the mistake that clap found.
 fn text_or_fault<'a>(alloc: Global, error: Error) -> Result<Settings<'a>, UsageFault>
     ensures limits { IfOk result IsWithinLimits }
-    ensures text { IfOk result (λ settings. IsVersion settings × (kind_of error ≡ ErrorKind.DisplayVersion)) }
+    ensures text { IfOk result
+        (λ settings. IsVersion settings × (kind_of error ≡ ErrorKind.DisplayVersion)) }
     ensures mistake { IfErr result (λ fault. IsNoMemory fault ⊎ (fault ≡ UsageFault.Words error)) }
 {
     match error.kind() {
@@ -83,7 +81,8 @@ fn settings_of<'a>(
 ) -> Result<Settings<'a>, UsageFault>
     ensures limits { IfOk result IsWithinLimits }
     ensures asked { IfOk result (AsksFor name.now (found_of found.now)) }
-    ensures mistake { IfErr result (λ fault. IsNoMemory fault ⊎ IsFaultOf name.now (found_of found.now) fault) }
+    ensures mistake { IfErr result
+        (λ fault. IsNoMemory fault ⊎ IsFaultOf name.now (found_of found.now) fault) }
 {
     match name {
         "run" => Ok(Settings::Run(run::read(alloc, found)?)),
@@ -98,7 +97,7 @@ fn settings_of<'a>(
 
 // The command of `tpcc help COMMAND`, and `--help` for `tpcc help`.
 fn help_asked<'a>(words: &'a [String]) -> Option<&'a str>
-    ensures { option_map (λ command. command.now) result ≡ help_asked (map string_bytes words.now) }
+    ensures { option_copied result ≡ help_asked (map string_bytes words.now) }
 {
     match words {
         [_, word] if word.as_str() == "help" => Some("--help"),
@@ -109,7 +108,8 @@ fn help_asked<'a>(words: &'a [String]) -> Option<&'a str>
 
 // The help text of that command.
 fn help_text(alloc: Global, command: &str) -> Result<String, UsageFault>
-    ensures text { IfOk result (λ text. IsAmong ErrorKind.DisplayHelp (fault_of program (help_words command.now))) }
+    ensures text { IfOk result
+        (λ text. IsAmong ErrorKind.DisplayHelp (fault_of program (help_words command.now))) }
     ensures mistake { IfErr result (MistakesHelp command.now) }
 {
     let words = help_words(alloc, command)?;
@@ -118,7 +118,8 @@ fn help_text(alloc: Global, command: &str) -> Result<String, UsageFault>
 
 // The help text that the words ask for.
 fn text_of<'a>(alloc: Global, words: &'a [String]) -> Result<String, UsageFault>
-    ensures text { IfOk result (λ text. IsAmong ErrorKind.DisplayHelp (fault_of program (map string_bytes words.now))) }
+    ensures text { IfOk result
+        (λ text. IsAmong ErrorKind.DisplayHelp (fault_of program (map string_bytes words.now))) }
     ensures mistake { IfErr result (IsTextFault (map string_bytes words.now)) }
 {
     match program(alloc)?.try_get_matches_from(words) {

@@ -1,7 +1,7 @@
 -- One entry more keeps what a log's book keeps.
 use Rattle.std.proofs.Common.{◌≡◌, ◌≢◌, ℕ, ◌+◌, ◌<◌, ◌==◌, Bool, List, [], ◌∷◌, ◌++◌, if◌then◌else◌, length, set, get_or, refl, sym, ap, ◌∙◌, ⊎_elim, arith, append_assoc, append-nil, length-append, length-set, eq-eqb, ne_eqb}
 use Rattle.std.proofs.lemmas.List.Elements.{All-nil, All-cons, All-append}
-use Rattle.rows.specs.declared.limits.TheConstants.{MOST_ENTRIES}
+use Rattle.rows.specs.declared.limits.TheConstants.{MOST_ENTRIES, SESSIONS}
 use mathlib.Core.Option.{some}
 use lib.ListN.{get_elem?}
 use Rattle.atomic_table.proofs.Lists.{at_set, at_index}
@@ -44,7 +44,7 @@ items_of-other session entries entry apart =
 
 pub book_more : (length_table : TableId) (mine_tables : ℕ → TableId) (entries : List Entry) (word : LengthView) (seats : List (SeatView Mine)) → IsBookOf length_table mine_tables entries word seats
     → (entry : Entry) (seat : SeatView Mine) (longer : LengthView)
-    → entry.session < 64
+    → entry.session < SESSIONS
     → length entries < MOST_ENTRIES
     → longer ≡ length_view length_table (length entries + 1)
     → seat ≡ seat_at (mine_tables entry.session) (mine_of (items_of entry.session entries ++ item (length entries) entry.number entry.request entry.reply ∷ []))
@@ -53,7 +53,7 @@ book_more length_table mine_tables entries word seats book entry seat longer sma
     let long = length-append entries (entry ∷ []) in record {
       recorded_length = grown ∙ ap (length_view length_table) (omega arith);
       most = omega arith;
-      sessions = All-append (λ (e : Entry). e.session < 64) entries (entry ∷ []) book.sessions (All-cons (λ (e : Entry). e.session < 64) entry [] small (All-nil (λ (e : Entry). e.session < 64)));
+      sessions = All-append (λ (e : Entry). e.session < SESSIONS) entries (entry ∷ []) book.sessions (All-cons (λ (e : Entry). e.session < SESSIONS) entry [] small (All-nil (λ (e : Entry). e.session < SESSIONS)));
       seat_each = length-set seats entry.session seat ∙ book.seat_each;
       each_records = λ session other at.
           ⊎_elim
@@ -68,5 +68,5 @@ book_more length_table mine_tables entries word seats book entry seat longer sma
 
 -- the value of the log's seat of a session
 pub recorded : (length_table : TableId) (mine_tables : ℕ → TableId) (entries : List Entry) (word : LengthView) (seats : List (SeatView Mine)) → IsBookOf length_table mine_tables entries word seats
-    → (session : ℕ) (seat : SeatView Mine) → session < 64 → seat ≡ get_or seats session seat → seat ≡ seat_at (mine_tables session) (mine_of (items_of session entries))
+    → (session : ℕ) (seat : SeatView Mine) → session < SESSIONS → seat ≡ get_or seats session seat → seat ≡ seat_at (mine_tables session) (mine_of (items_of session entries))
 recorded length_table mine_tables entries word seats book session seat small at = let many = book.seat_each in book.each_records session seat (at_index seats session seat (omega arith) at)

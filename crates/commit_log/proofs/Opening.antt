@@ -5,6 +5,7 @@ use Rattle.std.specs.Prelude.{All, Some, slice_get}
 use Rattle.std.proofs.lemmas.List.Elements.{All-nil, All-cons, All-append}
 use mathlib.Core.Option.{some, some-ne-none, some-injective}
 use lib.ListN.{get_elem?}
+use Rattle.rows.specs.declared.limits.TheConstants.{SESSIONS}
 use Rattle.atomic_table.specs.Seated.{TableId}
 use Rattle.agreement.specs.SeatView.{SeatView}
 use Rattle.length_word.specs.LengthView.{LengthView, length_view}
@@ -76,10 +77,10 @@ lanes_from length_table mine asks first (lane ∷ lanes) new mine_is asks_is =
           (λ k h. ap asks (omega arith) ∙ asks_is (suc k) (omega arith)),
     )
 
-pub lanes_named : (word : LengthView) (seats : List (SeatView Mine)) (lanes : List Lane) → AreLanes 64 word seats lanes → (length_table : TableId) (mine asks : ℕ → TableId)
+pub lanes_named : (word : LengthView) (seats : List (SeatView Mine)) (lanes : List Lane) → AreLanes SESSIONS word seats lanes → (length_table : TableId) (mine asks : ℕ → TableId)
     → length_table ≡ (tables_of word lanes).length
-    → ((k : ℕ) → k < 64 → mine k ≡ table_of (tables_of word lanes).mine k)
-    → ((k : ℕ) → k < 64 → asks k ≡ table_of (tables_of word lanes).asks k)
+    → ((k : ℕ) → k < SESSIONS → mine k ≡ table_of (tables_of word lanes).mine k)
+    → ((k : ℕ) → k < SESSIONS → asks k ≡ table_of (tables_of word lanes).asks k)
     → LanesFrom length_table mine asks 0 lanes
 lanes_named word seats lanes all length_table mine asks same mine_is asks_is =
     lanes_from length_table mine asks 0 lanes (subst (λ t. All (IsNewLane t) lanes) (sym same) all.new)
@@ -98,12 +99,12 @@ seats_named length_table mine asks seats lanes all same k seat e =
     seats_from length_table mine asks 0 lanes all k seat (subst (λ l. get_elem? l k ≡ some seat) same e) ∙ ap (λ n. seat_at (mine n) (mine_of [])) (omega arith)
 
 -- a book without entries, under its names
-pub book_new : (word : LengthView) (seats : List (SeatView Mine)) (lanes : List Lane) → AreLanes 64 word seats lanes → (length_table : TableId) (mine asks : ℕ → TableId)
+pub book_new : (word : LengthView) (seats : List (SeatView Mine)) (lanes : List Lane) → AreLanes SESSIONS word seats lanes → (length_table : TableId) (mine asks : ℕ → TableId)
     → length_table ≡ word.table → LanesFrom length_table mine asks 0 lanes → IsBookOf length_table mine [] word seats
 book_new word seats lanes all length_table mine asks same named = record {
   recorded_length = λ i. length_view (sym same i) (all.empty i);
   most = zero-le;
-  sessions = All-nil (λ (e : Entry). e.session < 64);
+  sessions = All-nil (λ (e : Entry). e.session < SESSIONS);
   seat_each = ap (λ (l : List (SeatView Mine)). length l) all.seats_of_log ∙ length-map lanes (λ (x : Lane). x.mine) ∙ all.many;
   each_records = seats_named length_table mine asks seats lanes named all.seats_of_log;
 }

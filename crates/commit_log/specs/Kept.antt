@@ -1,6 +1,6 @@
 -- The invariants of a log's book, a pass and a session's seat.
 use Rattle.std.specs.Prelude.{◌≡◌, ℕ, ◌<◌, ◌≤◌, List, length, All}
-use Rattle.rows.specs.declared.limits.TheConstants.{MOST_ENTRIES}
+use Rattle.rows.specs.declared.limits.TheConstants.{MOST_ENTRIES, SESSIONS}
 use mathlib.Core.Option.{some}
 use lib.ListN.{get_elem?}
 use Rattle.atomic_table.specs.Seated.{TableId}
@@ -28,19 +28,30 @@ EachRecords tables entries seats =
 pub record IsBookOf (length_table : TableId) (mine_tables : ℕ → TableId) (entries : List Entry) (word : LengthView) (seats : List (SeatView Mine)) : Type 0 where
   pub recorded_length : word ≡ length_view length_table (length entries)
   pub most : length entries ≤ MOST_ENTRIES
-  pub sessions : All (λ entry. entry.session < 64) entries
-  pub seat_each : length seats ≡ 64
+  pub sessions : All (λ entry. entry.session < SESSIONS) entries
+  pub seat_each : length seats ≡ SESSIONS
   pub each_records : EachRecords mine_tables entries seats
 
+-- the tables of the agreements of which a pass has seats: on the log's length, on what its session has logged, and on
+-- what it asks
+pub record PassTables : Type 0 where
+  pub log_length : TableId
+  pub mine : TableId
+  pub asks : TableId
+
+-- these tables together
+abbrev pub pass_tables : TableId → TableId → TableId → PassTables
+pass_tables length_table mine_table asks_table = record { log_length = length_table; mine = mine_table; asks = asks_table }
+
 -- the pass of this session has seen `seen` entries, and has this mark and these seats
-pub record IsPassOf (length_table mine_table asks_table : TableId) (session seen : ℕ) (mark : LengthView) (mine : SeatView Mine) (asks : SeatView Asking) : Type 0 where
-  pub some_session : session < 64
+pub record IsPassOf (tables : PassTables) (session seen : ℕ) (mark : LengthView) (mine : SeatView Mine) (asks : SeatView Asking) : Type 0 where
+  pub some_session : session < SESSIONS
   pub marked : seen ≤ mark.entries
-  pub mark_of_log : mark.table ≡ length_table
-  pub mine_of_session : mine ≡ seat_at mine_table mine.value
-  pub asks_of_session : asks ≡ seat_at asks_table asks.value
+  pub mark_of_log : mark.table ≡ tables.log_length
+  pub mine_of_session : mine ≡ seat_at tables.mine mine.value
+  pub asks_of_session : asks ≡ seat_at tables.asks asks.value
 
 -- the session's seat of the agreement on its request
 pub record IsSeatOf (asks_table : TableId) (session : ℕ) (asks : SeatView Asking) : Type 0 where
-  pub some_session : session < 64
+  pub some_session : session < SESSIONS
   pub asks_of_session : asks ≡ seat_at asks_table asks.value

@@ -26,5 +26,5 @@ pub use names::Names;
 pub use pass::{Pass, meet};
 pub use replaying::replay;
 pub use session_seat::SessionSeat;
-pub use unnamed_log::{SESSIONS, UnnamedLog};
+pub use unnamed_log::UnnamedLog;
 pub use verdict::Replay;

@@ -6,13 +6,13 @@ ghost use Rattle.tickets.specs.Claims.{all_claims};
 ghost use Rattle.tickets.specs.Committed.{Records};
 ghost use Rattle.tickets.specs.LogSeats.{IsRecordedIn, SeatsRecord};
 ghost use Rattle.commit_log.specs.Claimed.{claims_logged, seats_logged, IsCarriedOut};
-ghost use Rattle.commit_log.specs.Items.{item, items_of};
+ghost use Rattle.commit_log.specs.Items.{item_of, items_of};
 ghost use Rattle.commit_log.specs.Log.{replies_of, requests_of};
 ghost use Rattle.commit_log.specs.PassView.{after_item, after_refusal};
 
 use crate::{AppendFault, Entry, LogBook, Names, Pass};
 use requests::Reply;
-use rows::MOST_ENTRIES;
+use rows::{MOST_ENTRIES, SESSIONS};
 use schema::NoMemory;
 use std::marker::Model;
 use tickets::{Claims, LogSeats};
@@ -58,7 +58,7 @@ impl<J: Names> Log<J> {
         ensures legal { replies_of self.now ≡ replies J.opening (requests_of self.now) }
         ensures accepted { All (λ entry. IsAccepted J.opening.scale entry.request) self.now }
         ensures most { length self.now ≤ MOST_ENTRIES }
-        ensures sessions { All (λ entry. entry.session < 64) self.now }
+        ensures sessions { All (λ entry. entry.session < SESSIONS) self.now }
     {
         self.book.entries()
     }
@@ -85,15 +85,18 @@ impl<J: Names> Log<J> {
         requires number { pass.asks.number ≡ entry.number }
         requires request { pass.asks.request ≡ entry.request }
         requires accepted { IsAccepted J.opening.scale entry.request }
-        requires carried_out { IsCarriedOut J.opening entry.request (all_claims held.old) entry.reply }
+        requires carried_out { IsCarriedOut
+            J.opening entry.request (all_claims held.old) entry.reply }
         ensures entry { IfOk result (λ _. self.new ≡ self.old ++ entry ∷ []) }
         ensures place { IfOk result (λ done. done.0 ≡ length self.old) }
         ensures later { IfOk result (λ done. pass.seen ≤ done.0) }
-        ensures pass { IfOk result (λ done. done.1 ≡ after_item pass (item done.0 entry.number entry.request entry.reply)) }
+        ensures pass { IfOk result (λ done. done.1 ≡ after_item pass (item_of done.0 entry)) }
         ensures claims { IfOk result (λ _. held.new ≡ map (claims_logged entry.reply) held.old) }
-        ensures full { IsErrAnd result (λ refused. refused.0 ≡ AppendFault.LogFull) ↔ (MOST_ENTRIES ≤ length self.old) }
+        ensures full { IsErrAnd result (λ refused. refused.0 ≡ AppendFault.LogFull)
+            ↔ (MOST_ENTRIES ≤ length self.old) }
         ensures err { IfErr result (λ refused. (self.new ≡ self.old) × (held.new ≡ held.old)) }
-        ensures refused { IfErr result (λ refused. refused.1 ≡ after_refusal refused.0 (length self.old) pass) }
+        ensures refused { IfErr result (λ refused.
+            refused.1 ≡ after_refusal refused.0 (length self.old) pass) }
     {
         let place = match self.book.make_room(&mut pass) {
             Ok(place) => place,
@@ -132,7 +135,8 @@ impl<J: Names> Log<J> {
     /// Establishes for contracts that the claims, those of each action together, record the contents of the tables
     /// after the log's transactions. Both are unchanged.
     pub fn look(&mut self, claims: &mut [Claims<J>])
-        ensures recorded { Records (content (tables_after J.opening (requests_of self.old))) (all_claims claims.old) }
+        ensures recorded { Records
+            (content (tables_after J.opening (requests_of self.old))) (all_claims claims.old) }
         ensures same { (self.new ≡ self.old) × (claims.new ≡ claims.old) }
     {
         self.seats.look_each(claims);

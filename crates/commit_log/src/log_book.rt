@@ -10,16 +10,18 @@ use crate::{Entry, LogNames, Mine, Pass, SessionSeat, UnnamedLog};
 use agreement::Seat;
 use length_word::{Length, Mark};
 use requests::{Reply, Request};
-use rows::MOST_ENTRIES;
+use rows::{MOST_ENTRIES, SESSIONS};
 use schema::NoMemory;
 use std::alloc::Global;
 use std::marker::{Model, PhantomData};
+use thiserror::Error;
 
 /// Why a request was not logged.
-#[derive(Clone, Copy, Debug, PartialEq, Eq)]
+#[derive(Clone, Copy, Debug, Drop, Error, PartialEq, Eq)]
 pub enum AppendFault {
+    #[error("no memory")]
     NoMemory,
-    /// The log has `MOST_ENTRIES` entries.
+    #[error("the log is full, with {most} entries", most = MOST_ENTRIES)]
     LogFull,
 }
 
@@ -58,12 +60,15 @@ impl<J: LogNames> LogBook<J> {
         seats: UnnamedLog,
     ) -> Result<(LogBook<J>, Vec<(Pass<J>, SessionSeat<J>)>), NoMemory>
         requires length { J.length ≡ seats.length }
-        requires mine { (session : ℕ) → session < 64 → J.mine session ≡ table_of seats.mine session }
-        requires asks { (session : ℕ) → session < 64 → J.asks session ≡ table_of seats.asks session }
+        requires mine { (session : ℕ) → session < SESSIONS
+            → J.mine session ≡ table_of seats.mine session }
+        requires asks { (session : ℕ) → session < SESSIONS
+            → J.asks session ≡ table_of seats.asks session }
         ensures entries { IfOk result (λ opened. opened.0.entries ≡ []) }
-        ensures count { IfOk result (λ opened. vec_len opened.1 ≡ 64) }
+        ensures count { IfOk result (λ opened. vec_len opened.1 ≡ SESSIONS) }
         ensures sessions { IfOk result (λ opened.
-            (session : ℕ) → session < 64 → slice_get opened.1.items session ≡ Some (new_pass session, new_seat session)) }
+            (session : ℕ) → session < SESSIONS
+            → slice_get opened.1.items session ≡ Some (new_pass session, new_seat session)) }
     {
         let UnnamedLog {
             length,
@@ -101,7 +106,7 @@ impl<J: LogNames> LogBook<J> {
     pub fn entries(&self) -> &[Entry]
         ensures entries { result.now ≡ self.now.entries }
         ensures most { length self.now.entries ≤ MOST_ENTRIES }
-        ensures sessions { All (λ entry. entry.session < 64) self.now.entries }
+        ensures sessions { All (λ entry. entry.session < SESSIONS) self.now.entries }
     {
         self.entries.as_slice()
     }
@@ -110,7 +115,7 @@ impl<J: LogNames> LogBook<J> {
     pub fn into_entries(self) -> Vec<Entry>
         ensures entries { result.items ≡ self.entries }
         ensures most { length self.entries ≤ MOST_ENTRIES }
-        ensures sessions { All (λ entry. entry.session < 64) self.entries }
+        ensures sessions { All (λ entry. entry.session < SESSIONS) self.entries }
     {
         self.entries
     }
@@ -124,8 +129,10 @@ impl<J: LogNames> LogBook<J> {
         ensures below { OnOk result (length self.old.entries < MOST_ENTRIES) }
         ensures spare { OnOk result (0 < self.new.spare) }
         ensures pass { OnOk result (pass.new ≡ pass.old) }
-        ensures full { IfErr result (λ fault. (fault ≡ AppendFault.LogFull) ↔ (MOST_ENTRIES ≤ length self.old.entries)) }
-        ensures refused { IfErr result (λ fault. pass.new ≡ after_refusal fault (length self.old.entries) pass.old) }
+        ensures full { IfErr result (λ fault. (fault ≡ AppendFault.LogFull)
+            ↔ (MOST_ENTRIES ≤ length self.old.entries)) }
+        ensures refused { IfErr result (λ fault.
+            pass.new ≡ after_refusal fault (length self.old.entries) pass.old) }
         ensures further { pass.old.reached ≤ pass.new.reached }
     {
         if self.entries.len() >= MOST_ENTRIES {
@@ -156,10 +163,12 @@ impl<J: LogNames> LogBook<J> {
         requires number { pass.old.asks.number ≡ number }
         requires request { pass.old.asks.request ≡ request }
         ensures book { self.new ≡ log_book_view
-            (self.old.entries ++ entry_of pass.old.session number request reply ∷ []) (self.old.spare - 1) }
+            (self.old.entries ++ entry_of pass.old.session number request reply ∷ [])
+            (self.old.spare - 1) }
         ensures later { pass.old.seen ≤ length self.old.entries }
         ensures further { pass.old.reached ≤ length self.old.entries }
-        ensures pass { pass.new ≡ after_item pass.old (item (length self.old.entries) number request reply) }
+        ensures pass { pass.new
+            ≡ after_item pass.old (item (length self.old.entries) number request reply) }
     {
         let place = self.length.entries();
         reach_one_more(&mut self.length, &mut pass.mark);

@@ -49,8 +49,8 @@ pub(crate) fn note(log: &mut Seat<Mine>, pass: &mut Seat<Mine>, logs: &Logs<'_>)
     requires log { log.old ≡ seat_at log.old.agreement.table log.old.value }
     requires pass { pass.old ≡ seat_at log.old.agreement.table pass.old.value }
     ensures equal { pass.old ≡ log.old }
-    ensures log { log.new ≡ seat_at log.old.agreement.table (mine_of
-        (log.old.value.items ++ item logs.now.place logs.now.number logs.now.request.now logs.now.reply.now ∷ [])) }
+    ensures log { log.new ≡ seat_at log.old.agreement.table (mine_of (log.old.value.items
+        ++ item logs.now.place logs.now.number logs.now.request.now logs.now.reply.now ∷ [])) }
     ensures pass { pass.new ≡ log.new }
 {
     log.change_together(pass, logs);

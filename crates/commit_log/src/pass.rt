@@ -23,13 +23,14 @@ pub struct Pass<J: LogNames> {
 
 impl<J: LogNames> Model for Pass<J> {
     ghost use Rattle.commit_log.specs.PassView.{PassView, pass_view};
-    ghost use Rattle.commit_log.specs.Kept.{IsPassOf};
+    ghost use Rattle.commit_log.specs.Kept.{IsPassOf, pass_tables};
 
     ghost Value = { PassView };
 
     ghost view = { λ p. pass_view p.session p.seen p.mark.entries p.mine.value.items p.asks.value };
 
-    ghost invariant = { λ p. IsPassOf J.length (J.mine p.session) (J.asks p.session) p.session p.seen p.mark p.mine p.asks };
+    ghost invariant = { λ p. IsPassOf (pass_tables J.length (J.mine p.session) (J.asks p.session))
+        p.session p.seen p.mark p.mine p.asks };
 }
 
 impl<J: LogNames> Pass<J> {

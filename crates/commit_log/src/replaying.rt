@@ -26,7 +26,8 @@ pub fn replay(alloc: Global, opening: Tables, entries: &[Entry]) -> Result<Repla
 // carried out the request.
 fn repeats(plain: &mut Plain, entry: &Entry) -> Result<bool, NoMemory>
     ensures does { IfOk result (λ same. same ≡ true → IsReplied plain.old entry.now) }
-    ensures done { IfOk result (λ same. same ≡ true → plain.new ≡ (transaction plain.old entry.now.request).tables) }
+    ensures done { IfOk result (λ same. same ≡ true
+        → plain.new ≡ (transaction plain.old entry.now.request).tables) }
     ensures differs { IfOk result (λ same. same ≡ false → IsReplied plain.old entry.now → ⊥) }
 {
     if check(&plain.tables().scale(), &entry.request).is_err() {

@@ -40,8 +40,10 @@ impl<J: LogNames> SessionSeat<J> {
     /// pass has seen and logged so far.
     pub fn ask(&mut self, pass: &mut Pass<J>, number: u32, request: &Request)
         requires { pass.old.session ≡ self.old.session }
-        ensures seat { self.new ≡ session_seat_view self.old.session (asking number request.now pass.old.seen pass.old.mine) }
-        ensures pass { pass.new ≡ with_asks pass.old (asking number request.now pass.old.seen pass.old.mine) }
+        ensures seat { self.new ≡ session_seat_view self.old.session
+            (asking number request.now pass.old.seen pass.old.mine) }
+        ensures pass { pass.new
+            ≡ with_asks pass.old (asking number request.now pass.old.seen pass.old.mine) }
     {
         let asks = Asks {
             number,

@@ -4,13 +4,11 @@ ghost use Rattle.commit_log.specs.Kept.{IsPair};
 use crate::{Asking, Mine};
 use agreement::{Seat, Value};
 use length_word::{Length, Mark};
+use rows::SESSIONS;
 use schema::NoMemory;
 use std::alloc::Global;
 use std::collections::VecDeque;
 use std::marker::Model;
-
-/// The number of sessions of a log, numbered 0 to 63.
-pub const SESSIONS: u32 = 64;
 
 /// The parts of a session's pass and seat.
 #[derive(Drop)]
@@ -38,19 +36,20 @@ impl Model for UnnamedLog {
 
     ghost Value = { LogTables };
 
+    ghost use Rattle.rows.specs.declared.limits.TheConstants.{SESSIONS};
     ghost use Rattle.commit_log.specs.Lanes.{tables_of, AreLanes};
 
     ghost view = { λ s. tables_of s.length s.lanes.items };
 
-    ghost invariant = { λ s. AreLanes 64 s.length s.mine.items s.lanes.items };
+    ghost invariant = { λ s. AreLanes SESSIONS s.length s.mine.items s.lanes.items };
 }
 
 impl UnnamedLog {
-    /// Returns the length and the agreements of 64 sessions that have asked and logged nothing. Returns NoMemory if an
+    /// Returns the length and the agreements of the sessions, which have asked and logged nothing. Returns NoMemory if an
     /// allocation fails; nothing is left then.
     pub fn open(alloc: Global) -> Result<UnnamedLog, NoMemory>
-        ensures mine { IfOk result (λ seats. length seats.mine ≡ 64) }
-        ensures asks { IfOk result (λ seats. length seats.asks ≡ 64) }
+        ensures mine { IfOk result (λ seats. length seats.mine ≡ SESSIONS) }
+        ensures asks { IfOk result (λ seats. length seats.asks ≡ SESSIONS) }
     {
         let mut length = Length::open(alloc)?;
         let mut mine = Vec::new(alloc);

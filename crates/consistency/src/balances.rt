@@ -1,9 +1,8 @@
-ghost use Rattle.std.specs.Prelude.{◌≡◌, ◌↔◌, ◌+◌, ◌^◌, ◌+ℤ◌, ℕ, ℤ, pos, replicate, IsTrue, IfOk, if◌then◌else◌};
-ghost use Rattle.std.specs.List.{filter};
+ghost use Rattle.std.specs.Prelude.{◌≡◌, ◌↔◌, ◌^◌, ℤ, pos, replicate, IsTrue, IfOk};
 ghost use Rattle.rows.specs.declared.keys.CustomerKey as customer_key;
-ghost use Rattle.schema.specs.Consistency.{amounts_of, is_payer, delivered, paid, BalancesAreOwed, BalancesArePaid};
+ghost use Rattle.schema.specs.Consistency.{delivered, paid, BalancesAreOwed, BalancesArePaid};
 ghost use Rattle.consistency.specs.Totals.{IsWithin};
-ghost use Rattle.consistency.specs.Balances.{AreTotals, HasRoom, AreWithin, is_customer};
+ghost use Rattle.consistency.specs.Balances.{AreTotals, HasRoom, AreWithin, GrowsAtMost, with_amount, with_payments};
 
 use schema::{CustomerKey, History, NoMemory, Scale, Tables};
 use std::alloc::Global;
@@ -48,7 +47,8 @@ pub(crate) fn balances_are_paid(tables: &Tables, deliveries: &[i128]) -> bool
 
 // For each customer, the sum of the payments, in the order of the customers' keys.
 fn paid_totals(tables: &Tables, alloc: Global) -> Result<Vec<i128>, NoMemory>
-    ensures totals { IfOk result (λ totals. AreTotals tables.now.scale (paid tables.now) totals.items) }
+    ensures totals { IfOk result
+        (λ totals. AreTotals tables.now.scale (paid tables.now) totals.items) }
     ensures within { IfOk result (λ totals. AreWithin (2 ^ 124) totals.items) }
 {
     let scale = tables.scale();
@@ -72,8 +72,8 @@ fn credit_payers(totals: &mut [i128], scale: Scale, payments: &[History])
     requires room { HasRoom scale totals.old }
     requires within { AreWithin (2 ^ 124) totals.old }
     ensures added { (before : customer_key.CustomerKey → ℤ) → AreTotals scale before totals.old
-        → AreTotals scale (λ key. before key +ℤ amounts_of (filter (is_payer key) payments.now)) totals.new }
-    ensures within { (limit : ℕ) → AreWithin limit totals.old → AreWithin (limit + 2 ^ 114) totals.new }
+        → AreTotals scale (with_payments payments.now before) totals.new }
+    ensures within { GrowsAtMost (2 ^ 114) totals.old totals.new }
 {
     for payment in payments {
         credit(totals, scale, payment.customer, payment.amount.get());
@@ -86,8 +86,8 @@ pub(crate) fn credit(totals: &mut [i128], scale: Scale, customer: CustomerKey, a
     requires within { AreWithin (2 ^ 125) totals.old }
     requires amount { IsWithin (2 ^ 50) amount }
     ensures added { (before : customer_key.CustomerKey → ℤ) → AreTotals scale before totals.old
-        → AreTotals scale (λ key. if is_customer key customer then before key +ℤ amount else before key) totals.new }
-    ensures within { (limit : ℕ) → AreWithin limit totals.old → AreWithin (limit + 2 ^ 50) totals.new }
+        → AreTotals scale (with_amount customer amount before) totals.new }
+    ensures within { GrowsAtMost (2 ^ 50) totals.old totals.new }
 {
     if let Some(slot) = scale.customer_slot(customer) {
         totals[slot] += i128::from(amount);

@@ -12,7 +12,8 @@ const FRESH_ORDERS: usize = 10;
 /// The lowest of the consistency conditions 1 to 10 and 12 that the tables break (TPC-C 5.11, clause
 /// 3.3.2), or `None` if they meet all of them. Returns `NoMemory` if an allocation fails.
 pub fn first_broken(alloc: Global, tables: &Tables) -> Result<Option<u8>, NoMemory>
-    ensures { IfOk result (λ broken. MatchOption broken (Consistent tables.now) (λ n. BreaksFirst tables.now n)) }
+    ensures { IfOk result
+        (λ broken. MatchOption broken (Consistent tables.now) (λ n. BreaksFirst tables.now n)) }
 {
     let answers = check(alloc, tables)?;
     for (place, holds) in answers.iter().enumerate() {

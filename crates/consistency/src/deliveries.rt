@@ -20,9 +20,11 @@ pub(crate) struct Deliveries {
 
 /// Computes `Deliveries` in one pass over the lines. Returns `NoMemory` if an allocation fails.
 pub(crate) fn read_deliveries(tables: &Tables, alloc: Global) -> Result<Deliveries, NoMemory>
-    ensures totals { IfOk result (λ read. AreTotals tables.now.scale (delivered tables.now) read.totals.items) }
+    ensures totals { IfOk result
+        (λ read. AreTotals tables.now.scale (delivered tables.now) read.totals.items) }
     ensures within { IfOk result (λ read. AreWithin (2 ^ 124) read.totals.items) }
-    ensures come { IfOk result (λ read. IsTrue read.come_with_orders ↔ LinesComeWithOrders tables.now) }
+    ensures come { IfOk result
+        (λ read. IsTrue read.come_with_orders ↔ LinesComeWithOrders tables.now) }
 {
     let scale = tables.scale();
     let rows = tables.rows();

@@ -36,8 +36,10 @@ pub(crate) fn orders_are_fresh(tables: &Tables) -> bool
 /// Whether each district of the scale passes the test.
 pub(crate) fn all_districts<F: Fn(DistrictKey) -> bool>(scale: Scale, test: F) -> bool
     requires { F.IsAlwaysCallable test }
-    ensures passed { IsTrue result → (home : DistrictKey) → IsTrue (has_district scale home) → F.post test home true }
-    ensures failed { IsFalse result → (home : DistrictKey) × IsTrue (has_district scale home) × F.post test home false }
+    ensures passed { IsTrue result → (home : DistrictKey) → IsTrue (has_district scale home)
+        → F.post test home true }
+    ensures failed { IsFalse result → (home : DistrictKey) × IsTrue (has_district scale home)
+        × F.post test home false }
 {
     (1..=scale.warehouses).all(|w_id| all_of_warehouse(w_id, &test))
 }
@@ -45,8 +47,10 @@ pub(crate) fn all_districts<F: Fn(DistrictKey) -> bool>(scale: Scale, test: F) -
 // Whether each of the warehouse's ten districts passes the test.
 fn all_of_warehouse<F: Fn(DistrictKey) -> bool>(w_id: u32, test: &F) -> bool
     requires { F.IsAlwaysCallable test.now }
-    ensures passed { IsTrue result → (d_id : ℕ) → IsTrue (is_between 1 10 d_id) → F.post test.now (district_key w_id d_id) true }
-    ensures failed { IsFalse result → (d_id : ℕ) × IsTrue (is_between 1 10 d_id) × F.post test.now (district_key w_id d_id) false }
+    ensures passed { IsTrue result → (d_id : ℕ) → IsTrue (is_between 1 10 d_id)
+        → F.post test.now (district_key w_id d_id) true }
+    ensures failed { IsFalse result → (d_id : ℕ) × IsTrue (is_between 1 10 d_id)
+        × F.post test.now (district_key w_id d_id) false }
 {
     (1..=10).all(|d_id| test(DistrictKey { w_id, d_id }))
 }

@@ -9,6 +9,7 @@ use Rattle.files.specs.declared.fault.FaultKind.TheVariants.{NoHeader, NoEnd, Sc
 use Rattle.files.specs.declared.fault.FileFault.{FileFault}
 use Rattle.files.specs.declared.fault.FileError.{FileError}
 use Rattle.files.specs.declared.fault.FileError.TheVariants.{NoMemory, Failed, File}
+use Rattle.files.specs.Place.{Rows}
 use Rattle.files.specs.FirstFault.{behind_end, fault_at, fault_or, unless_long}
 use Rattle.dataset.specs.Columns.{Sizes, Table, Kind, Of, Ending, Items, Warehouses, Districts, Stocks, Customers, Histories, Orders, NewOrders, Lines, kind_of, letter, place_in, record_fault}
 use Rattle.files.specs.Columns.{Column, Whole, columns_fault}
@@ -23,12 +24,12 @@ is_of table [] = false
 is_of table (word ∷ fields) = bytes_eq word (letter table)
 
 -- the number of records of that table
-unfoldable pub number_of : Table → List (List (List ℕ)) → ℕ
+unfoldable pub number_of : Table → Rows → ℕ
 number_of table [] = 0
 number_of table (row ∷ rows) = (if is_of table row then 1 else 0) + number_of table rows
 
 -- the number of records of each table
-abbrev pub counts : List (List (List ℕ)) → List ℕ
+abbrev pub counts : Rows → List ℕ
 counts rows =
     number_of Items rows ∷ number_of Warehouses rows ∷ number_of Districts rows ∷ number_of Stocks rows
     ∷ number_of Customers rows ∷ number_of Histories rows ∷ number_of Orders rows ∷ number_of NewOrders rows
@@ -45,7 +46,7 @@ record_place scale [] = 0 ∷ []
 record_place scale (word ∷ fields) = kind_place scale (kind_of word) fields
 
 -- the place of the last of the records
-abbrev pub last_place : Sizes → List (List (List ℕ)) → List ℕ
+abbrev pub last_place : Sizes → Rows → List ℕ
 last_place scale [] = 0 ∷ []
 last_place scale (row ∷ []) = record_place scale row
 last_place scale (row ∷ next ∷ rows) = last_place scale (next ∷ rows)
@@ -59,7 +60,7 @@ is_end (word ∷ fields) = bytes_eq word (codes "END")
 
 -- The first fault of the records that follow those before, the first of which is the header. Each record is compared
 -- with those before it: it must follow the last of them, and the end record must count them.
-unfoldable pub rows_fault : Sizes → List (List (List ℕ)) → List (List (List ℕ)) → Option FileFault
+unfoldable pub rows_fault : Sizes → Rows → Rows → Option FileFault
 rows_fault scale before [] = Some (fault_at NoEnd (length before + 1))
 rows_fault scale before (row ∷ rows) =
     fault_or (record_fault scale (last_place scale before) (counts before) row) (length before + 1)
@@ -88,22 +89,22 @@ abbrev pub header_fault : List (List ℕ) → Option FaultKind
 header_fault fields = unless_long fields (reported_header fields)
 
 -- the first fault of a text up to its first record, which is the header
-abbrev pub header_first : List (List (List ℕ)) → Option FileFault
+abbrev pub header_first : Rows → Option FileFault
 header_first [] = Some (fault_at NoHeader 1)
 header_first (header ∷ rows) = fault_or (header_fault header) 1 None
 
 -- the first fault of a text with these records, except a broken rule of the scale
-unfoldable pub first_fault : List (List (List ℕ)) → Option FileFault
+unfoldable pub first_fault : Rows → Option FileFault
 first_fault [] = Some (fault_at NoHeader 1)
 first_fault (header ∷ rows) = fault_or (header_fault header) 1 (rows_fault (header_sizes header) (header ∷ []) rows)
 
 -- no tables within their scale have these records
-abbrev pub HasNoTables : List (List (List ℕ)) → Type 0
+abbrev pub HasNoTables : Rows → Type 0
 HasNoTables rows = (t : Database) → IsWithinScale t → InRange t → AreRecords t rows → ⊥
 
 -- The fault of a text with these records: the first one. If there is none, but no tables have the records, it is
 -- ScaleBroken at the end record.
-abbrev pub IsFaultOf : List (List (List ℕ)) → FileFault → Type 0
+abbrev pub IsFaultOf : Rows → FileFault → Type 0
 IsFaultOf rows fault =
     MatchOption (first_fault rows) ((fault ≡ fault_at ScaleBroken (length rows)) × HasNoTables rows) (λ first. fault ≡ first)
 
@@ -114,7 +115,7 @@ IsFault (Failed number) = ⊥
 IsFault (File fault) = Unit {0}
 
 -- an error for a text with these records: its fault, or out of memory, or a failed read
-abbrev pub Reports : List (List (List ℕ)) → FileError → Type 0
+abbrev pub Reports : Rows → FileError → Type 0
 Reports rows NoMemory = Unit {0}
 Reports rows (Failed number) = Unit {0}
 Reports rows (File fault) = IsFaultOf rows fault

@@ -4,16 +4,17 @@ use Rattle.std.specs.List.{AllByRecursion, AllZip}
 use Rattle.std.specs.Ordering.{is_le}
 use Rattle.schema.specs.declared.scale.Scale.{Scale}
 use Rattle.schema.specs.declared.table_rows.TableRows.{TableRows}
+use Rattle.schema.specs.Database.{Database}
 use Rattle.schema.specs.Rows.{AreNoRows}
 use Rattle.schema.specs.Scale.{has_item, has_warehouse, has_district, has_stock, has_customer}
 use Rattle.files.specs.declared.records.Records.{Records}
-use Rattle.files.specs.Place.{HasRead}
+use Rattle.files.specs.Place.{Rows, HasRead}
 use Rattle.dataset.specs.declared.loader.Loader.{Loader}
 use Rattle.dataset.specs.declared.place.Place.{Place}
 use Rattle.dataset.specs.Columns.{sizes}
 use Rattle.dataset.specs.FirstFault.{last_place}
 use Rattle.dataset.specs.Order.{place_cmp, place_numbers, follows}
-use Rattle.dataset.specs.Records.{AreSpelt, header_fields}
+use Rattle.dataset.specs.Records.{AreRecords, AreSpelt, header_fields}
 use Rattle.dataset.specs.TableRow.{TableRow, OfItem, OfWarehouse, OfDistrict, OfStock, OfCustomer, OfHistory, OfOrder, OfNewOrder, OfLine, AddsRow, row_fields, row_place, rows_read}
 use Rattle.dataset.specs.Writing.{count_fields}
 
@@ -41,7 +42,7 @@ HasKey scale (OfLine key row) = Unit {0}
 
 -- These are the rows of the records, in order, and no row's place is after last. The rows in has are exactly these, and
 -- the records spell them.
-pub record HasRows (scale : Scale) (has : TableRows) (last : Place) (records : List (List (List ℕ))) (rows : List TableRow) : Type 0 where
+pub record HasRows (scale : Scale) (has : TableRows) (last : Place) (records : Rows) (rows : List TableRow) : Type 0 where
   pub none : TableRows
   pub are_none : AreNoRows none
   pub added : AddsRows scale rows none has
@@ -52,17 +53,27 @@ pub record HasRows (scale : Scale) (has : TableRows) (last : Place) (records : L
 
 -- The loader's rows are those of these records. The first record is the header of the loader's scale, and the loader is
 -- at the place of the last record.
-pub record HasLoaded (l : Loader) (read : List (List (List ℕ))) : Type 0 where
+pub record HasLoaded (l : Loader) (read : Rows) : Type 0 where
   pub header : List (List ℕ)
-  pub records : List (List (List ℕ))
+  pub records : Rows
   pub are : read ≡ header ∷ records
   pub is_spelt : AreSpelt (header_fields l.scale) header
   pub rows : HasRows l.scale l.rows l.last records (rows_read (sizes l.scale) records)
   pub last : place_numbers l.last ≡ last_place (sizes l.scale) read
 
+-- the records that were read, followed by the end record of the loader's rows, are those of the tables
+abbrev pub HasReadTables : Loader → Database → Type 0
+HasReadTables l t =
+    (read : Rows) (end : List (List ℕ)) → HasLoaded l read → AreSpelt (count_fields l.rows) end → AreRecords t (read ++ end ∷ [])
+
+-- one record of the text was read, which is a header of that scale
+abbrev pub HasReadHeader : {R : Type 0} → (R → Option (List ℕ)) → List ℕ → Scale → Records R → Type 0
+HasReadHeader remaining text scale r =
+    (header : List (List ℕ)) × AreSpelt (header_fields scale) header × HasRead remaining text (header ∷ []) r
+
 -- the records that were read of a text are those of the loader's rows, followed by the end record of these rows
 pub record HasEnded {R : Type 0} (remaining : R → Option (List ℕ)) (text : List ℕ) (l : Loader) (r : Records R) : Type 0 where
-  pub read : List (List (List ℕ))
+  pub read : Rows
   pub end : List (List ℕ)
   pub loaded : HasLoaded l read
   pub counted : AreSpelt (count_fields l.rows) end

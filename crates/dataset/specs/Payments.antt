@@ -1,7 +1,15 @@
 -- The lists of payments while records of HISTORY are read.
-use Rattle.std.specs.Prelude.{◌≡◌, ℕ, ◌+◌, ◌≤◌, List, [], ◌∷◌, ◌++◌, length, slice_set, Option, Some}
+use Rattle.std.specs.Prelude.{◌≡◌, ℕ, ◌+◌, ◌^◌, ◌<◌, ◌≤◌, List, [], ◌∷◌, ◌++◌, length, map, slice_set, sum, Option, Some}
 use Rattle.std.specs.List.{AllByRecursion, slice_get}
 use Rattle.rows.specs.declared.records.History.{History}
+
+-- the number of payments
+abbrev pub payment_count : List (List History) → ℕ
+payment_count lists = sum (map length lists)
+
+-- the number of payments is one that a field of an end record can have
+abbrev pub AreCountable : List (List History) → Type 0
+AreCountable lists = payment_count lists < 2 ^ 64
 
 -- empty lists were added until there were at least count lists, and no more than needed
 pub record Opens (count : ℕ) (old new : List (List History)) : Type 0 where

@@ -22,6 +22,7 @@ use Rattle.rows.specs.declared.records.OrderLine.{OrderLine}
 use Rattle.schema.specs.declared.scale.Scale.{Scale}
 use Rattle.schema.specs.Database.{Database}
 use Rattle.files.specs.MomentText.{IsMomentText}
+use Rattle.files.specs.Place.{Rows}
 use Rattle.files.specs.Sending.{OfFirst}
 use Rattle.files.specs.Word.{credit_text}
 
@@ -202,9 +203,9 @@ abbrev pub AreSpelt : List Field → List (List ℕ) → Type 0
 AreSpelt fields texts = AllZip IsSpelt fields texts
 
 -- these are the records of the tables, each a list of texts
-unfoldable pub AreRecords : Database → List (List (List ℕ)) → Type 0
+unfoldable pub AreRecords : Database → Rows → Type 0
 AreRecords t rows = AllZip AreSpelt (records t) rows
 
 -- these are the first records of the tables, some number of them
-abbrev pub AreFirstRecords : Database → List (List (List ℕ)) → Type 0
+abbrev pub AreFirstRecords : Database → Rows → Type 0
 AreFirstRecords t rows = OfFirst (λ (first : List (List Field)). AllZip AreSpelt first) (records t) rows

@@ -1,5 +1,5 @@
 -- Records that were taken, and their faults.
-use Rattle.std.specs.Prelude.{◌≡◌, ◌<◌, ◌^◌, ◌+◌, ◌⊎◌, ℕ, List, [], ◌∷◌, ◌++◌, map, length, sum, Option, Some, None, Result, Ok, Err, true}
+use Rattle.std.specs.Prelude.{◌≡◌, ◌+◌, ◌⊎◌, ℕ, List, [], ◌∷◌, ◌++◌, length, Option, Some, None, Result, Ok, Err, true}
 use Rattle.schema.specs.declared.scale.Scale.{Scale}
 use Rattle.schema.specs.Database.{Database, IsWithinScale}
 use Rattle.files.specs.declared.fault.FaultKind.{FaultKind}
@@ -7,7 +7,7 @@ use Rattle.files.specs.declared.fault.FaultKind.TheVariants.{ScaleBroken}
 use Rattle.files.specs.declared.fault.FileError.{FileError}
 use Rattle.files.specs.declared.fault.FileError.TheVariants.{NoMemory, Failed, File}
 use Rattle.files.specs.declared.records.Records.{Records}
-use Rattle.files.specs.Place.{HasLeft, record_number}
+use Rattle.files.specs.Place.{Rows, HasLeft, record_number}
 use Rattle.files.specs.declared.fields.Fields.{Fields}
 use Rattle.files.specs.Taken.{fault_of, fields_left}
 use Rattle.dataset.specs.declared.loader.Loader.{Loader}
@@ -18,6 +18,7 @@ use Rattle.files.specs.FirstFault.{ReportsKind, behind_end, fault_at}
 use Rattle.dataset.specs.FirstFault.{first_fault, is_end, rows_fault, reported_header}
 use Rattle.dataset.specs.Loading.{HasLoaded}
 use Rattle.dataset.specs.Order.{place_numbers}
+use Rattle.dataset.specs.Payments.{AreCountable}
 use Rattle.dataset.specs.Ranges.{InRange}
 use Rattle.dataset.specs.Records.{AreRecords, AreSpelt, header_fields}
 use Rattle.dataset.specs.TableRow.{IsAdded, row_read}
@@ -28,6 +29,10 @@ use Rattle.dataset.specs.Writing.{count_fields, table_counts}
 pub record IsRowOf (table : Table) (l m : Loader) (old new : Fields) : Type 0 where
   pub fault : fault_of new ≡ kind_fault (sizes l.scale) (place_numbers l.last) [] (Some (Of table)) (fields_left old)
   pub added : fault_of new ≡ None → IsAdded (row_read (sizes l.scale) table (fields_left old)) l m
+
+-- the same, if no fault was noted before
+abbrev pub TakesRow : Table → Loader → Loader → Fields → Fields → Type 0
+TakesRow table l m old new = fault_of old ≡ None → IsRowOf table l m old new
 
 -- a row's record has no fault, and its row was added to the loader
 pub record HasRow (l m : Loader) (word : List ℕ) (fields : List (List ℕ)) : Type 0 where
@@ -44,7 +49,7 @@ IsDone End l m fields = (is_end fields ≡ true) × (m ≡ l) × AreSpelt (count
 
 -- the fields of a record were taken
 pub record IsTakenAs (taken : Taken) (l m : Loader) (old new : Fields) : Type 0 where
-  pub fault : sum (map length l.rows.histories.items) < 2 ^ 64
+  pub fault : AreCountable l.rows.histories.items
       → fault_of new ≡ fields_fault (sizes l.scale) (place_numbers l.last) (table_counts l.rows) (fields_left old)
   pub done : fault_of new ≡ None → IsDone taken l m (fields_left old)
 
@@ -60,10 +65,10 @@ IsReadAs (Err error) l fields number =
     ReportsKind error (fields_fault (sizes l.scale) (place_numbers l.last) (table_counts l.rows) fields) number
 
 -- the end record of these records was read, and more records may be left
-pub record ReachesEnd {R : Type 0} (remaining : R → Option (List ℕ)) (scale : Sizes) (read rows : List (List (List ℕ))) (l : Loader) (r : Records R) : Type 0 where
-  pub before : List (List (List ℕ))
+pub record ReachesEnd {R : Type 0} (remaining : R → Option (List ℕ)) (scale : Sizes) (read rows : Rows) (l : Loader) (r : Records R) : Type 0 where
+  pub before : Rows
   pub end : List (List ℕ)
-  pub more : List (List (List ℕ))
+  pub more : Rows
   pub loaded : HasLoaded l before
   pub are : read ++ rows ≡ before ++ end ∷ more
   pub fault : rows_fault scale read rows ≡ behind_end (record_number r) more
@@ -71,9 +76,9 @@ pub record ReachesEnd {R : Type 0} (remaining : R → Option (List ℕ)) (scale 
   pub number : record_number r ≡ length before + 1
 
 -- the header of these records, with that scale, was read, and it has no fault
-pub record BeginsDataset {R : Type 0} (remaining : R → Option (List ℕ)) (scale : Scale) (rows : List (List (List ℕ))) (r : Records R) : Type 0 where
+pub record BeginsDataset {R : Type 0} (remaining : R → Option (List ℕ)) (scale : Scale) (rows : Rows) (r : Records R) : Type 0 where
   pub header : List (List ℕ)
-  pub more : List (List (List ℕ))
+  pub more : Rows
   pub are : rows ≡ header ∷ more
   pub spelt : AreSpelt (header_fields scale) header
   pub fault : first_fault rows ≡ rows_fault (sizes scale) (header ∷ []) more
@@ -83,11 +88,11 @@ pub record BeginsDataset {R : Type 0} (remaining : R → Option (List ℕ)) (sca
 -- no tables within their scale have the records that were read, followed by an end record
 abbrev pub HasReadNoTables : Loader → Type 0
 HasReadNoTables l =
-    (t : Database) (read : List (List (List ℕ))) (end : List (List ℕ))
+    (t : Database) (read : Rows) (end : List (List ℕ))
     → IsWithinScale t → InRange t → HasLoaded l read → AreRecords t (read ++ end ∷ []) → ⊥
 
 -- an error after the end record, which has that number: more records are left, or a rule of the scale is broken
-abbrev pub ReportsEnd : FileError → Loader → List (List (List ℕ)) → ℕ → Type 0
+abbrev pub ReportsEnd : FileError → Loader → Rows → ℕ → Type 0
 ReportsEnd NoMemory l more number = Unit {0}
 ReportsEnd (Failed at) l more number = Unit {0}
 ReportsEnd (File fault) l more number =

@@ -1,9 +1,11 @@
 -- What is added to a record, and to a file.
-use Rattle.std.specs.Prelude.{◌≡◌, ℕ, List, [], ◌∷◌, ◌++◌, length, map, sum, Option, codes}
+use Rattle.std.specs.Prelude.{◌≡◌, ℕ, List, [], ◌∷◌, ◌++◌, length, map, Option, codes}
 use Rattle.std.specs.List.{AllZip}
 use Rattle.files.specs.Sending.{Begins, Sends}
 use Rattle.files.specs.Written.{csv_text}
 use Rattle.schema.specs.declared.table_rows.TableRows.{TableRows}
+use Rattle.files.specs.Columns.{Column, Count}
+use Rattle.dataset.specs.Payments.{payment_count}
 use Rattle.dataset.specs.Records.{Field, Words, Number, AreSpelt}
 
 -- texts that spell these fields were appended to a record
@@ -16,12 +18,16 @@ pub record Adds (fields : List Field) (old new : List (List ℕ)) : Type 0 where
 abbrev pub table_counts : TableRows → List ℕ
 table_counts rows =
     length rows.items.items ∷ length rows.warehouses.items ∷ length rows.districts.items ∷ length rows.stocks.items
-    ∷ length rows.customers.items ∷ sum (map length rows.histories.items) ∷ length rows.orders.entries
+    ∷ length rows.customers.items ∷ payment_count rows.histories.items ∷ length rows.orders.entries
     ∷ length rows.new_orders.entries ∷ length rows.lines ∷ []
 
 -- these numbers as fields
 abbrev pub row_counts : TableRows → List Field
 row_counts rows = map (λ count. Number count) (table_counts rows)
+
+-- the columns of an end record, each of which must be one of these numbers
+abbrev pub count_columns : TableRows → List Column
+count_columns rows = map (λ count. Count count) (table_counts rows)
 
 -- the end record of these rows
 abbrev pub count_fields : TableRows → List Field

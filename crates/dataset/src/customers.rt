@@ -1,10 +1,9 @@
-ghost use Rattle.std.specs.Prelude.{◌≡◌, None, OnOk};
+ghost use Rattle.std.specs.Prelude.{OnOk};
 ghost use Rattle.schema.specs.Scale.{customer_keys};
-ghost use Rattle.files.specs.Taken.{fault_of};
 ghost use Rattle.dataset.specs.Records.{customer_key_fields, customer_fields, account_fields};
 ghost use Rattle.dataset.specs.Columns.{Customers, customer_key, sizes};
 ghost use Rattle.dataset.specs.TableRow.{customer_key_of};
-ghost use Rattle.dataset.specs.TakenAs.{IsRowOf};
+ghost use Rattle.dataset.specs.TakenAs.{TakesRow};
 ghost use Rattle.files.specs.Columns.{Reads};
 ghost use Rattle.dataset.specs.Writing.{Adds};
 
@@ -20,7 +19,7 @@ use schema::{NoMemory, Scale};
 /// Takes the fields of a record of CUSTOMER after its letter. If the record has no fault, adds its row.
 /// Returns `NoMemory` if an allocation fails.
 pub fn take(loader: &mut Loader, fields: &mut Fields) -> Result<(), NoMemory>
-    ensures { OnOk result (fault_of fields.old ≡ None → IsRowOf Customers loader.old loader.new fields.old fields.new) }
+    ensures { OnOk result (TakesRow Customers loader.old loader.new fields.old fields.new) }
 {
     let key = key(fields, loader.scale);
     let row = Customer {
@@ -47,7 +46,8 @@ pub fn take(loader: &mut Loader, fields: &mut Fields) -> Result<(), NoMemory>
 
 /// Takes the three fields of a customer's key.
 pub fn key(fields: &mut Fields, scale: Scale) -> CustomerKey
-    ensures { Reads (customer_key (sizes scale)) (customer_key_of (sizes scale)) result fields.old fields.new }
+    ensures { Reads (customer_key (sizes scale)) (customer_key_of (sizes scale))
+        result fields.old fields.new }
 {
     CustomerKey {
         w_id: fields.whole(1, scale.warehouses),

@@ -1,10 +1,9 @@
-ghost use Rattle.std.specs.Prelude.{◌≡◌, None, IsTrue, OnOk};
+ghost use Rattle.std.specs.Prelude.{IsTrue, OnOk};
 ghost use Rattle.schema.specs.Scale.{has_district, district_keys};
-ghost use Rattle.files.specs.Taken.{fault_of};
 ghost use Rattle.dataset.specs.Records.{district_key_fields, district_fields};
 ghost use Rattle.dataset.specs.Columns.{Districts, district_key, sizes};
 ghost use Rattle.dataset.specs.TableRow.{district_key_of};
-ghost use Rattle.dataset.specs.TakenAs.{IsRowOf};
+ghost use Rattle.dataset.specs.TakenAs.{TakesRow};
 ghost use Rattle.files.specs.Columns.{Reads};
 ghost use Rattle.dataset.specs.Writing.{Adds};
 
@@ -19,7 +18,7 @@ use schema::{NoMemory, Scale};
 /// Takes the fields of a record of DISTRICT after its letter. If the record has no fault, adds its row.
 /// Returns `NoMemory` if an allocation fails.
 pub fn take(loader: &mut Loader, fields: &mut Fields) -> Result<(), NoMemory>
-    ensures { OnOk result (fault_of fields.old ≡ None → IsRowOf Districts loader.old loader.new fields.old fields.new) }
+    ensures { OnOk result (TakesRow Districts loader.old loader.new fields.old fields.new) }
 {
     let key = key(fields, loader.scale);
     let row = District {
@@ -38,7 +37,8 @@ pub fn take(loader: &mut Loader, fields: &mut Fields) -> Result<(), NoMemory>
 /// Takes the two fields of a district's key.
 pub fn key(fields: &mut Fields, scale: Scale) -> DistrictKey
     ensures known { IsTrue (has_district scale result) }
-    ensures reads { Reads (district_key (sizes scale)) (district_key_of (sizes scale)) result fields.old fields.new }
+    ensures reads { Reads (district_key (sizes scale)) (district_key_of (sizes scale))
+        result fields.old fields.new }
 {
     DistrictKey {
         w_id: fields.whole(1, scale.warehouses),

@@ -1,7 +1,8 @@
-ghost use Rattle.std.specs.Prelude.{◌≡◌, [], ◌∷◌, ◌<◌, ◌^◌, length, map, sum, OnOk};
+ghost use Rattle.std.specs.Prelude.{◌≡◌, [], ◌∷◌, OnOk};
 ghost use Rattle.files.specs.Taken.{Takes};
 ghost use Rattle.dataset.specs.Records.{AreSpelt, Number};
-ghost use Rattle.dataset.specs.Writing.{Adds, count_fields, row_counts, table_counts};
+ghost use Rattle.dataset.specs.Payments.{AreCountable, payment_count};
+ghost use Rattle.dataset.specs.Writing.{Adds, count_columns, count_fields, row_counts};
 ghost use Rattle.files.specs.Columns.{take_columns, Count};
 ghost use Rattle.files.specs.FieldRead.{fields_view};
 
@@ -12,7 +13,8 @@ use schema::{HistoryList, NoMemory, TableRows};
 /// Takes the counts of an end record, from its second field on. Notes `WrongCount` if a count is not
 /// the number of rows that were read.
 pub fn check(fields: &mut Fields, rows: &TableRows)
-    ensures columns { sum (map length rows.now.histories.items) < 2 ^ 64 → fields_view fields.new ≡ take_columns (map (λ count. Count count) (table_counts rows.now)) (fields_view fields.old) }
+    ensures columns { AreCountable rows.now.histories.items
+        → fields_view fields.new ≡ take_columns (count_columns rows.now) (fields_view fields.old) }
     ensures taken { Takes fields.old fields.new (AreSpelt (row_counts rows.now)) }
 {
     fields.expect_count(rows.items.len() as u64);
@@ -29,8 +31,9 @@ pub fn check(fields: &mut Fields, rows: &TableRows)
 // Takes the count of HISTORY. If there are more payments than fit in a `u64`, no field can have their
 // number.
 fn check_payments(fields: &mut Fields, lists: &[HistoryList])
-    ensures columns { sum (map length lists.now) < 2 ^ 64 → fields_view fields.new ≡ take_columns (Count (sum (map length lists.now)) ∷ []) (fields_view fields.old) }
-    ensures taken { Takes fields.old fields.new (AreSpelt (Number (sum (map length lists.now)) ∷ [])) }
+    ensures columns { AreCountable lists.now → fields_view fields.new
+        ≡ take_columns (Count (payment_count lists.now) ∷ []) (fields_view fields.old) }
+    ensures taken { Takes fields.old fields.new (AreSpelt (Number (payment_count lists.now) ∷ [])) }
 {
     match u64::try_from(histories::count(lists)) {
         Ok(count) => fields.expect_count(count),

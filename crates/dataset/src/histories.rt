@@ -1,11 +1,10 @@
-ghost use Rattle.std.specs.Prelude.{◌≡◌, ◌<◌, ◌≤◌, ◌^◌, length, map, sum, Some, None, IfErr, OnErr, OnOk};
+ghost use Rattle.std.specs.Prelude.{◌≡◌, ◌<◌, ◌≤◌, ◌^◌, length, map, Some, IfErr, OnErr, OnOk};
 ghost use Rattle.std.specs.List.{zip};
 ghost use Rattle.schema.specs.Scale.{district_keys};
-ghost use Rattle.files.specs.Taken.{fault_of};
 ghost use Rattle.files.specs.Failure.{IsOfWriting};
-ghost use Rattle.dataset.specs.Payments.{Opens, Pays};
+ghost use Rattle.dataset.specs.Payments.{Opens, Pays, payment_count};
 ghost use Rattle.dataset.specs.Records.{history_fields, payment_records};
-ghost use Rattle.dataset.specs.TakenAs.{IsRowOf};
+ghost use Rattle.dataset.specs.TakenAs.{TakesRow};
 ghost use Rattle.dataset.specs.Writing.{Puts, StopsIn};
 ghost use Rattle.dataset.specs.Columns.{Histories};
 
@@ -23,7 +22,7 @@ use std::io::Write;
 /// Takes the fields of a record of HISTORY after its letter. If the record has no fault, appends its
 /// row to its district's list. Returns `NoMemory` if an allocation fails.
 pub fn take(loader: &mut Loader, fields: &mut Fields) -> Result<(), NoMemory>
-    ensures { OnOk result (fault_of fields.old ≡ None → IsRowOf Histories loader.old loader.new fields.old fields.new) }
+    ensures { OnOk result (TakesRow Histories loader.old loader.new fields.old fields.new) }
 {
     let home = districts::key(fields, loader.scale);
     let row = History {
@@ -87,8 +86,12 @@ pub fn write<W: Write>(
     lists: &[HistoryList],
 ) -> Result<(), FileError>
     requires count { length lists.now ≤ length (district_keys scale) }
-    ensures written { OnOk result (Puts (W.contents sink.old) (W.contents sink.new) writer.old.text writer.new.text (payment_records (zip (district_keys scale) lists.now))) }
-    ensures begun { OnErr result (StopsIn (W.contents sink.old) (W.contents sink.new) writer.old.text (payment_records (zip (district_keys scale) lists.now))) }
+    ensures written { OnOk result
+        (Puts (W.contents sink.old) (W.contents sink.new) writer.old.text writer.new.text
+        (payment_records (zip (district_keys scale) lists.now))) }
+    ensures begun { OnErr result
+        (StopsIn (W.contents sink.old) (W.contents sink.new) writer.old.text
+        (payment_records (zip (district_keys scale) lists.now))) }
     ensures failed { IfErr result IsOfWriting }
 {
     for (place, list) in lists.iter().enumerate() {
@@ -111,8 +114,12 @@ fn write_list<W: Write>(
     home: DistrictKey,
     payments: &[History],
 ) -> Result<(), FileError>
-    ensures written { OnOk result (Puts (W.contents sink.old) (W.contents sink.new) writer.old.text writer.new.text (map (history_fields home) payments.now)) }
-    ensures begun { OnErr result (StopsIn (W.contents sink.old) (W.contents sink.new) writer.old.text (map (history_fields home) payments.now)) }
+    ensures written { OnOk result
+        (Puts (W.contents sink.old) (W.contents sink.new) writer.old.text writer.new.text
+        (map (history_fields home) payments.now)) }
+    ensures begun { OnErr result
+        (StopsIn (W.contents sink.old) (W.contents sink.new) writer.old.text
+        (map (history_fields home) payments.now)) }
     ensures failed { IfErr result IsOfWriting }
 {
     for payment in payments {
@@ -123,7 +130,7 @@ fn write_list<W: Write>(
 
 /// The number of payments. The type is wide enough for any lists.
 pub fn count(lists: &[HistoryList]) -> u128
-    ensures { result ≡ sum (map length lists.now) }
+    ensures { result ≡ payment_count lists.now }
 {
     let mut count = 0;
     for list in lists {

@@ -1,9 +1,8 @@
-ghost use Rattle.std.specs.Prelude.{◌≡◌, None, OnOk};
+ghost use Rattle.std.specs.Prelude.{OnOk};
 ghost use Rattle.schema.specs.Scale.{item_ids};
-ghost use Rattle.files.specs.Taken.{fault_of};
 ghost use Rattle.dataset.specs.Records.{item_fields};
 ghost use Rattle.dataset.specs.Columns.{Items};
-ghost use Rattle.dataset.specs.TakenAs.{IsRowOf};
+ghost use Rattle.dataset.specs.TakenAs.{TakesRow};
 
 use crate::loader::Loader;
 use crate::place::Place;
@@ -15,7 +14,7 @@ use schema::{NoMemory, Scale};
 /// Takes the fields of a record of ITEM after its letter. If the record has no fault, adds its row.
 /// Returns `NoMemory` if an allocation fails.
 pub fn take(loader: &mut Loader, fields: &mut Fields) -> Result<(), NoMemory>
-    ensures { OnOk result (fault_of fields.old ≡ None → IsRowOf Items loader.old loader.new fields.old fields.new) }
+    ensures { OnOk result (TakesRow Items loader.old loader.new fields.old fields.new) }
 {
     let i_id = fields.whole(1, loader.scale.items);
     let row = Item {

@@ -1,7 +1,5 @@
 //! Laws about a dataset's records: proved functions that change nothing.
-ghost use Rattle.std.specs.Prelude.{◌≡◌, ℕ, List};
-ghost use Rattle.dataset.specs.RecordLaws.{RecordsReportTables};
-ghost use Rattle.dataset.specs.Records.{AreRecords};
+ghost use Rattle.dataset.specs.RecordLaws.{EqualIfSameRecords, RecordsReportTables};
 
 use crate::columns_are_in_range;
 use schema::Tables;
@@ -14,7 +12,7 @@ pub fn different_tables_have_different_records()
 
 /// Any tables with the same records are equal.
 pub fn records_report_tables(one: &Tables, other: &Tables)
-    ensures { (rows : List (List (List ℕ))) → AreRecords one.now rows → AreRecords other.now rows → one.now ≡ other.now }
+    ensures { EqualIfSameRecords one.now other.now }
 {
     columns_are_in_range(one);
     columns_are_in_range(other);

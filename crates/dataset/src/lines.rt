@@ -1,8 +1,7 @@
-ghost use Rattle.std.specs.Prelude.{◌≡◌, [], ◌∷◌, None, OnOk};
-ghost use Rattle.files.specs.Taken.{fault_of};
+ghost use Rattle.std.specs.Prelude.{[], ◌∷◌, OnOk};
 ghost use Rattle.dataset.specs.Records.{delivery_field, line_fields};
 ghost use Rattle.dataset.specs.Columns.{Lines};
-ghost use Rattle.dataset.specs.TakenAs.{IsRowOf};
+ghost use Rattle.dataset.specs.TakenAs.{TakesRow};
 ghost use Rattle.dataset.specs.Writing.{Adds};
 
 use crate::loader::Loader;
@@ -18,7 +17,7 @@ use schema::NoMemory;
 /// row. OL_NUMBER is 1 to 15, and OL_DELIVERY_D is null if the field is empty. Returns `NoMemory` if an
 /// allocation fails.
 pub fn take(loader: &mut Loader, fields: &mut Fields) -> Result<(), NoMemory>
-    ensures { OnOk result (fault_of fields.old ≡ None → IsRowOf Lines loader.old loader.new fields.old fields.new) }
+    ensures { OnOk result (TakesRow Lines loader.old loader.new fields.old fields.new) }
 {
     let key = OrderLineKey {
         w_id: fields.whole(1, loader.scale.warehouses),

@@ -1,14 +1,14 @@
 ghost use Rattle.std.specs.Prelude.{◌≡◌, List, ℕ, [], ◌∷◌, ◌++◌, None, is_none, IfOk, IsOk};
 ghost use Rattle.files.specs.Columns.{at_end};
+ghost use Rattle.files.specs.Place.{Rows};
 ghost use Rattle.files.specs.Taken.{fields_left, fault_of};
 ghost use Rattle.schema.specs.Database.{Database, IsWithinScale};
 ghost use Rattle.dataset.specs.Columns.{or_order};
-ghost use Rattle.dataset.specs.Loading.{HasLoaded};
+ghost use Rattle.dataset.specs.Loading.{HasLoaded, HasReadTables};
 ghost use Rattle.dataset.specs.Order.{follows};
 ghost use Rattle.dataset.specs.Ranges.{InRange};
 ghost use Rattle.dataset.specs.Records.{AreRecords, AreSpelt, header_fields};
 ghost use Rattle.dataset.specs.TakenAs.{IsTakenAs};
-ghost use Rattle.dataset.specs.Writing.{count_fields};
 
 use crate::place::Place;
 use crate::{
@@ -39,7 +39,8 @@ impl Loader {
     /// No rows, after a header record with that scale.
     pub fn new(alloc: Global, scale: Scale) -> Self
         ensures scale { result.scale ≡ scale }
-        ensures loads { (header : List (List ℕ)) → AreSpelt (header_fields scale) header → HasLoaded result (header ∷ []) }
+        ensures loads { (header : List (List ℕ)) → AreSpelt (header_fields scale) header
+            → HasLoaded result (header ∷ []) }
     {
         Loader {
             alloc,
@@ -52,7 +53,8 @@ impl Loader {
     /// Takes a record. Its fault, if it has one, is noted in `fields`. Returns `NoMemory` if an
     /// allocation fails.
     pub fn take(&mut self, fields: &mut Fields) -> Result<Taken, NoMemory>
-        ensures { IfOk result (λ taken. fault_of fields.old ≡ None → IsTakenAs taken self.old self.new fields.old fields.new) }
+        ensures { IfOk result (λ taken. fault_of fields.old ≡ None
+            → IsTakenAs taken self.old self.new fields.old fields.new) }
     {
         match fields.bytes() {
             b"I" => items::take(self, fields)?,
@@ -77,7 +79,9 @@ impl Loader {
     /// Moves to the place of a record whose fields were taken, and returns whether the record has no
     /// fault. Notes a field too many; and, if there is no other fault, a record out of order.
     pub(crate) fn stand_at(&mut self, place: Place, fields: &mut Fields) -> bool
-        ensures fault { fault_of fields.new ≡ or_order (at_end (fields_left fields.old) (fault_of fields.old)) (follows place self.old.last) }
+        ensures fault { fault_of fields.new
+            ≡ or_order (at_end (fields_left fields.old) (fault_of fields.old))
+            (follows place self.old.last) }
         ensures free { result ≡ is_none (fault_of fields.new) }
         ensures same { self.new ≡ record self.old { last = place } }
     {
@@ -91,10 +95,10 @@ impl Loader {
     /// The tables of all rows. The inner `Err` is a rule of the scale that they break; no tables have
     /// the records that were read then. Returns `NoMemory` if an allocation fails.
     pub fn finish(mut self) -> Result<Result<Tables, ScaleFault>, NoMemory>
-        ensures tables { IfOk result (λ checked. IfOk checked (λ tables. (read : List (List (List ℕ))) (end : List (List ℕ))
-            → HasLoaded self read → AreSpelt (count_fields self.rows) end → AreRecords tables (read ++ end ∷ []))) }
-        ensures completes { IfOk result (λ checked. (t : Database) (read : List (List (List ℕ))) (end : List (List ℕ))
-            → IsWithinScale t → InRange t → HasLoaded self read → AreRecords t (read ++ end ∷ []) → IsOk checked) }
+        ensures tables { IfOk result (λ checked. IfOk checked (HasReadTables self)) }
+        ensures completes { IfOk result (λ checked.
+            (t : Database) (read : Rows) (end : List (List ℕ)) → IsWithinScale t → InRange t
+            → HasLoaded self read → AreRecords t (read ++ end ∷ []) → IsOk checked) }
     {
         let districts = self.scale.warehouses as usize * 10;
         histories::open(self.alloc, &mut self.rows.histories, districts)?;

@@ -1,8 +1,7 @@
-ghost use Rattle.std.specs.Prelude.{◌≡◌, None, OnOk};
-ghost use Rattle.files.specs.Taken.{fault_of};
+ghost use Rattle.std.specs.Prelude.{OnOk};
 ghost use Rattle.dataset.specs.Records.{new_order_fields};
 ghost use Rattle.dataset.specs.Columns.{NewOrders};
-ghost use Rattle.dataset.specs.TakenAs.{IsRowOf};
+ghost use Rattle.dataset.specs.TakenAs.{TakesRow};
 
 use crate::loader::Loader;
 use crate::orders;
@@ -15,7 +14,7 @@ use schema::NoMemory;
 /// Takes the fields of a record of NEW-ORDER after its letter, which are only its key. If the record
 /// has no fault, adds its row. Returns `NoMemory` if an allocation fails.
 pub fn take(loader: &mut Loader, fields: &mut Fields) -> Result<(), NoMemory>
-    ensures { OnOk result (fault_of fields.old ≡ None → IsRowOf NewOrders loader.old loader.new fields.old fields.new) }
+    ensures { OnOk result (TakesRow NewOrders loader.old loader.new fields.old fields.new) }
 {
     let key = orders::key(fields, loader.scale);
     if loader.stand_at(Place::NewOrder(key), fields) {

@@ -1,9 +1,8 @@
-ghost use Rattle.std.specs.Prelude.{◌≡◌, [], ◌∷◌, None, OnOk};
-ghost use Rattle.files.specs.Taken.{fault_of};
+ghost use Rattle.std.specs.Prelude.{[], ◌∷◌, OnOk};
 ghost use Rattle.dataset.specs.Records.{carrier_field, order_key_fields, order_fields};
 ghost use Rattle.dataset.specs.Columns.{Orders, order_key, sizes};
 ghost use Rattle.dataset.specs.TableRow.{order_key_of};
-ghost use Rattle.dataset.specs.TakenAs.{IsRowOf};
+ghost use Rattle.dataset.specs.TakenAs.{TakesRow};
 ghost use Rattle.files.specs.Columns.{Reads};
 ghost use Rattle.dataset.specs.Writing.{Adds};
 
@@ -19,7 +18,7 @@ use schema::{NoMemory, Scale};
 /// O_CARRIER_ID is null if the field is empty, and O_ALL_LOCAL is 1 or 0. Returns `NoMemory` if an
 /// allocation fails.
 pub fn take(loader: &mut Loader, fields: &mut Fields) -> Result<(), NoMemory>
-    ensures { OnOk result (fault_of fields.old ≡ None → IsRowOf Orders loader.old loader.new fields.old fields.new) }
+    ensures { OnOk result (TakesRow Orders loader.old loader.new fields.old fields.new) }
 {
     let key = key(fields, loader.scale);
     let row = Order {
@@ -37,7 +36,8 @@ pub fn take(loader: &mut Loader, fields: &mut Fields) -> Result<(), NoMemory>
 
 /// Takes the three fields of an order's key. O_ID is 1 to 9,999,999.
 pub fn key(fields: &mut Fields, scale: Scale) -> OrderKey
-    ensures { Reads (order_key (sizes scale)) (order_key_of (sizes scale)) result fields.old fields.new }
+    ensures { Reads (order_key (sizes scale)) (order_key_of (sizes scale))
+        result fields.old fields.new }
 {
     OrderKey {
         w_id: fields.whole(1, scale.warehouses),

@@ -50,7 +50,8 @@ fn read_each<T: Columns>(rows: &[T])
 fn read_values<'a, K: Drop, T: Columns + 'a, I: Iterator<Item = (K, &'a T)> + Drop>(rows: I)
     requires can { I.can_next rows }
     requires ends { IsFinite (I.remaining rows) }
-    ensures { (left : I → List (K × T)) → GivesEntries I.next_gives left → AllByRecursion T.in_range (values_of (left rows)) }
+    ensures { (left : I → List (K × T)) → GivesEntries I.next_gives left
+        → AllByRecursion T.in_range (values_of (left rows)) }
 {
     for (_, row) in rows {
         row.read();

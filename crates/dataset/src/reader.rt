@@ -1,16 +1,15 @@
-ghost use Rattle.std.specs.Prelude.{◌≡◌, ◌+◌, ◌-◌, ◌^◌, ◌<◌, ℕ, List, [], ◌∷◌, length, map, sum, None, Some, IfOk, IfErr, MatchResult, OnOk};
-ghost use Rattle.schema.specs.Database.{Database, IsWithinScale};
-ghost use Rattle.schema.specs.declared.scale.Scale.{Scale};
-ghost use Rattle.files.specs.Failure.{IsOfText};
-ghost use Rattle.files.specs.Place.{input, HasRead, HasLeft, IsCsv, record_fields, record_number};
-ghost use Rattle.dataset.specs.Ranges.{InRange};
+ghost use Rattle.std.specs.Prelude.{◌≡◌, ◌+◌, ◌-◌, ◌^◌, ◌<◌, ℕ, List, [], length, None, IfOk, IfErr, MatchResult, OnOk};
+ghost use Rattle.std.specs.Option.{ForSome};
+ghost use Rattle.files.specs.Failure.{IsOfText, LastsThrough};
+ghost use Rattle.files.specs.Place.{Rows, input, IsCsv, ForRecords, Gives, HasRead, HasLeft, record_fields, record_number};
 ghost use Rattle.dataset.specs.Columns.{sizes};
-ghost use Rattle.dataset.specs.FirstFault.{IsFault, Reports, first_fault, header_first, rows_fault};
+ghost use Rattle.dataset.specs.FirstFault.{HasNoTables, IsFault, Reports, first_fault, header_first, rows_fault};
 ghost use Rattle.dataset.specs.TakenAs.{BeginsDataset, IsDone, IsReadAs, ReachesEnd, ReportsEnd};
 ghost use Rattle.files.specs.FirstFault.{ReportsFault};
-ghost use Rattle.dataset.specs.Loading.{HasLoaded, HasEnded};
-ghost use Rattle.dataset.specs.Records.{AreRecords, AreSpelt, header_fields};
-ghost use Rattle.dataset.specs.FirstRecord.{BeginsWith};
+ghost use Rattle.dataset.specs.Loading.{HasLoaded, HasEnded, HasReadHeader};
+ghost use Rattle.dataset.specs.Payments.{AreCountable};
+ghost use Rattle.dataset.specs.Records.{AreRecords};
+ghost use Rattle.dataset.specs.FirstRecord.{BeginsWithHeader, HasNoHeader};
 
 use crate::header;
 use crate::loader::{Loader, Taken};
@@ -31,11 +30,11 @@ use std::alloc::Global;
 /// was read. Memory is allocated row by row. The numbers of the header determine only how many empty
 /// lists of payments are allocated: one for each district, at most 640.
 pub fn read<R: Input + Drop>(alloc: Global, source: R) -> Result<Tables, FileError>
-    ensures tables { IfOk result (λ tables. (text : List ℕ) → R.remaining source ≡ Some text → (rows : List (List (List ℕ))) × IsCsv text rows × AreRecords tables rows) }
-    ensures first { (text : List ℕ) (rows : List (List (List ℕ))) → R.remaining source ≡ Some text → IsCsv text rows → length rows < 2 ^ 64 - 1
-        → MatchResult result (λ _. first_fault rows ≡ None) (λ error. Reports rows error) }
-    ensures fault { IfErr result (λ error. IsFault error → (text : List ℕ) → R.remaining source ≡ Some text → (rows : List (List (List ℕ))) → IsCsv text rows → length rows < 2 ^ 64 - 1
-        → (t : Database) → IsWithinScale t → InRange t → AreRecords t rows → ⊥) }
+    ensures tables { IfOk result (λ tables. Gives (R.remaining source) (AreRecords tables)) }
+    ensures first { ForRecords (R.remaining source) (λ rows. length rows < 2 ^ 64 - 1
+        → MatchResult result (λ _. first_fault rows ≡ None) (λ error. Reports rows error)) }
+    ensures fault { IfErr result (λ error. IsFault error
+        → ForRecords (R.remaining source) (λ rows. length rows < 2 ^ 64 - 1 → HasNoTables rows)) }
     ensures lasts { R.lasts source → IfErr result IsOfText }
 {
     let mut records = Records::new(alloc, source);
@@ -54,10 +53,11 @@ pub fn read<R: Input + Drop>(alloc: Global, source: R) -> Result<Tables, FileErr
 /// read of `source` fails, and only then. Neither implies anything about the text. After any error, no
 /// scale is returned, and it is not specified how far `source` was read.
 pub fn read_scale<R: Input + Drop>(alloc: Global, source: R) -> Result<Scale, FileError>
-    ensures first { (text : List ℕ) (rows : List (List (List ℕ))) → R.remaining source ≡ Some text → IsCsv text rows → IfErr result (λ error. ReportsFault error (first_fault rows)) }
-    ensures scale { IfOk result (λ scale. (text : List ℕ) → R.remaining source ≡ Some text → (header : List (List ℕ)) × AreSpelt (header_fields scale) header × BeginsWith text header) }
-    ensures fault { IfErr result (λ error. IsFault error → (text : List ℕ) → R.remaining source ≡ Some text
-        → (s : Scale) (header : List (List ℕ)) (rows : List (List (List ℕ))) → AreSpelt (header_fields s) header → IsCsv text (header ∷ rows) → ⊥) }
+    ensures first { ForRecords (R.remaining source) (λ rows.
+        IfErr result (λ error. ReportsFault error (first_fault rows))) }
+    ensures scale { IfOk result (λ scale. ForSome (R.remaining source) (BeginsWithHeader scale)) }
+    ensures fault { IfErr result (λ error. IsFault error
+        → ForSome (R.remaining source) HasNoHeader) }
     ensures lasts { R.lasts source → IfErr result IsOfText }
 {
     let mut records = Records::new(alloc, source);
@@ -66,11 +66,13 @@ pub fn read_scale<R: Input + Drop>(alloc: Global, source: R) -> Result<Scale, Fi
 
 // Reads the header, which is the first record, and returns its scale.
 fn read_header<R: Input + Drop>(records: &mut Records<R>) -> Result<Scale, FileError>
-    ensures first { (rows : List (List (List ℕ))) → record_number records.old ≡ 0 → HasLeft R.remaining rows records.old
-        → MatchResult result (λ scale. BeginsDataset R.remaining scale rows records.new) (λ error. ReportsFault error (header_first rows)) }
+    ensures first { (rows : Rows) → record_number records.old ≡ 0
+        → HasLeft R.remaining rows records.old
+        → MatchResult result (λ scale. BeginsDataset R.remaining scale rows records.new)
+        (λ error. ReportsFault error (header_first rows)) }
     ensures read { IfOk result (λ scale. (text : List ℕ) → HasRead R.remaining text [] records.old
-        → (header : List (List ℕ)) × AreSpelt (header_fields scale) header × HasRead R.remaining text (header ∷ []) records.new) }
-    ensures lasts { R.lasts (input records.old) → MatchResult result (λ _. R.lasts (input records.new)) IsOfText }
+        → HasReadHeader R.remaining text scale records.new) }
+    ensures lasts { LastsThrough R.lasts (input records.old) (input records.new) result IsOfText }
 {
     if !records.advance()? {
         return Err(records.fault(FaultKind::NoHeader));
@@ -86,11 +88,15 @@ fn read_rows<R: Input + Drop>(
     records: &mut Records<R>,
     loader: &mut Loader,
 ) -> Result<(), FileError>
-    ensures first { (read rows : List (List (List ℕ))) → length read + length rows < 2 ^ 64 - 1 → HasLoaded loader.old read → record_number records.old ≡ length read → HasLeft R.remaining rows records.old
-        → MatchResult result (λ _. ReachesEnd R.remaining (sizes loader.old.scale) read rows loader.new records.new) (λ error. ReportsFault error (rows_fault (sizes loader.old.scale) read rows)) }
-    ensures read { OnOk result ((text : List ℕ) (read : List (List (List ℕ))) → HasRead R.remaining text read records.old → HasLoaded loader.old read
+    ensures first { (read rows : Rows) → length read + length rows < 2 ^ 64 - 1
+        → HasLoaded loader.old read → record_number records.old ≡ length read
+        → HasLeft R.remaining rows records.old → MatchResult result
+        (λ _. ReachesEnd R.remaining (sizes loader.old.scale) read rows loader.new records.new)
+        (λ error. ReportsFault error (rows_fault (sizes loader.old.scale) read rows)) }
+    ensures read { OnOk result ((text : List ℕ) (read : Rows)
+        → HasRead R.remaining text read records.old → HasLoaded loader.old read
         → HasEnded R.remaining text loader.new records.new) }
-    ensures lasts { R.lasts (input records.old) → MatchResult result (λ _. R.lasts (input records.new)) IsOfText }
+    ensures lasts { LastsThrough R.lasts (input records.old) (input records.new) result IsOfText }
 {
     for _ in 0..u64::MAX {
         if !records.advance()? {
@@ -109,8 +115,10 @@ fn read_record<R: Input + Drop>(
     records: &Records<R>,
     loader: &mut Loader,
 ) -> Result<Taken, FileError>
-    ensures exact { sum (map length loader.old.rows.histories.items) < 2 ^ 64 → IsReadAs result loader.old (record_fields records.now) (record_number records.now) }
-    ensures done { IfOk result (λ taken. IsDone taken loader.old loader.new (record_fields records.now)) }
+    ensures exact { AreCountable loader.old.rows.histories.items
+        → IsReadAs result loader.old (record_fields records.now) (record_number records.now) }
+    ensures done { IfOk result (λ taken.
+        IsDone taken loader.old loader.new (record_fields records.now)) }
     ensures of_text { IfErr result IsOfText }
 {
     let mut fields = records.fields();
@@ -123,10 +131,14 @@ fn read_record<R: Input + Drop>(
 
 // The tables, after the end record, which must be the last record.
 fn finish<R: Input + Drop>(mut records: Records<R>, loader: Loader) -> Result<Tables, FileError>
-    ensures none_left { OnOk result ((more : List (List (List ℕ))) → HasLeft R.remaining more records → more ≡ []) }
-    ensures first { IfErr result (λ error. (more : List (List (List ℕ))) → HasLeft R.remaining more records → record_number records < 2 ^ 64 - 1
+    ensures none_left { OnOk result ((more : Rows)
+        → HasLeft R.remaining more records → more ≡ []) }
+    ensures first { IfErr result (λ error. (more : Rows) → HasLeft R.remaining more records
+        → record_number records < 2 ^ 64 - 1
         → ReportsEnd error loader more (record_number records)) }
-    ensures tables { IfOk result (λ tables. (text : List ℕ) → HasEnded R.remaining text loader records → (rows : List (List (List ℕ))) × IsCsv text rows × AreRecords tables rows) }
+    ensures tables { IfOk result (λ tables. (text : List ℕ)
+        → HasEnded R.remaining text loader records
+        → (rows : Rows) × IsCsv text rows × AreRecords tables rows) }
     ensures lasts { R.lasts (input records) → IfErr result IsOfText }
 {
     let end = records.number();

@@ -36,8 +36,12 @@ pub fn write_row<W: Write, K, T: Recorded<K>>(
     key: K,
     row: &T,
 ) -> Result<(), FileError>
-    ensures written { OnOk result (Puts (W.contents sink.old) (W.contents sink.new) writer.old.text writer.new.text (T.fields key row.now ∷ [])) }
-    ensures begun { OnErr result (StopsIn (W.contents sink.old) (W.contents sink.new) writer.old.text (T.fields key row.now ∷ [])) }
+    ensures written { OnOk result
+        (Puts (W.contents sink.old) (W.contents sink.new) writer.old.text writer.new.text
+        (T.fields key row.now ∷ [])) }
+    ensures begun { OnErr result
+        (StopsIn (W.contents sink.old) (W.contents sink.new) writer.old.text
+        (T.fields key row.now ∷ [])) }
     ensures failed { IfErr result IsOfWriting }
 {
     out.clear();

@@ -1,10 +1,9 @@
-ghost use Rattle.std.specs.Prelude.{◌≡◌, map, None, OnOk};
+ghost use Rattle.std.specs.Prelude.{map, OnOk};
 ghost use Rattle.schema.specs.Scale.{stock_keys};
-ghost use Rattle.files.specs.Taken.{fault_of};
 ghost use Rattle.dataset.specs.Records.{Words, stock_fields};
 ghost use Rattle.dataset.specs.Columns.{Stocks, info_columns};
 ghost use Rattle.dataset.specs.TableRow.{infos_of};
-ghost use Rattle.dataset.specs.TakenAs.{IsRowOf};
+ghost use Rattle.dataset.specs.TakenAs.{TakesRow};
 ghost use Rattle.files.specs.Columns.{Reads};
 ghost use Rattle.dataset.specs.Writing.{Adds};
 
@@ -18,7 +17,7 @@ use schema::{NoMemory, Scale};
 /// Takes the fields of a record of STOCK after its letter. If the record has no fault, adds its row.
 /// Returns `NoMemory` if an allocation fails.
 pub fn take(loader: &mut Loader, fields: &mut Fields) -> Result<(), NoMemory>
-    ensures { OnOk result (fault_of fields.old ≡ None → IsRowOf Stocks loader.old loader.new fields.old fields.new) }
+    ensures { OnOk result (TakesRow Stocks loader.old loader.new fields.old fields.new) }
 {
     let key = StockKey {
         w_id: fields.whole(1, loader.scale.warehouses),

@@ -1,10 +1,9 @@
-ghost use Rattle.std.specs.Prelude.{◌≡◌, None, OnOk};
+ghost use Rattle.std.specs.Prelude.{OnOk};
 ghost use Rattle.schema.specs.Scale.{warehouse_ids};
-ghost use Rattle.files.specs.Taken.{fault_of};
 ghost use Rattle.dataset.specs.Records.{address_fields, warehouse_fields};
 ghost use Rattle.dataset.specs.Columns.{Warehouses, address_columns};
 ghost use Rattle.dataset.specs.TableRow.{address_of};
-ghost use Rattle.dataset.specs.TakenAs.{IsRowOf};
+ghost use Rattle.dataset.specs.TakenAs.{TakesRow};
 ghost use Rattle.files.specs.Columns.{Reads};
 ghost use Rattle.dataset.specs.Writing.{Adds};
 
@@ -18,7 +17,7 @@ use schema::{NoMemory, Scale};
 /// Takes the fields of a record of WAREHOUSE after its letter. If the record has no fault, adds its
 /// row. Returns `NoMemory` if an allocation fails.
 pub fn take(loader: &mut Loader, fields: &mut Fields) -> Result<(), NoMemory>
-    ensures { OnOk result (fault_of fields.old ≡ None → IsRowOf Warehouses loader.old loader.new fields.old fields.new) }
+    ensures { OnOk result (TakesRow Warehouses loader.old loader.new fields.old fields.new) }
 {
     let w_id = fields.whole(1, loader.scale.warehouses);
     let row = Warehouse {

@@ -20,8 +20,10 @@ use std::io::Write;
 /// current record, if the sink fails; since records are gathered before they are sent, the record that
 /// was not taken may be an earlier one. After an error, the sink has received a prefix of the text.
 pub fn write<W: Write>(alloc: Global, sink: &mut W, tables: &Tables) -> Result<(), FileError>
-    ensures written { OnOk result (Writes (W.contents sink.old) (W.contents sink.new) (AreRecords tables.now)) }
-    ensures begun { OnErr result (BeginsToWrite (W.contents sink.old) (W.contents sink.new) (AreFirstRecords tables.now)) }
+    ensures written { OnOk result
+        (Writes (W.contents sink.old) (W.contents sink.new) (AreRecords tables.now)) }
+    ensures begun { OnErr result
+        (BeginsToWrite (W.contents sink.old) (W.contents sink.new) (AreFirstRecords tables.now)) }
     ensures failed { IfErr result IsOfWriting }
 {
     let mut writer = RecordWriter::new(alloc);
@@ -36,8 +38,12 @@ fn put_tables<W: Write>(
     sink: &mut W,
     tables: &Tables,
 ) -> Result<(), FileError>
-    ensures written { OnOk result (Puts (W.contents sink.old) (W.contents sink.new) writer.old.text writer.new.text (records tables.now)) }
-    ensures begun { OnErr result (StopsIn (W.contents sink.old) (W.contents sink.new) writer.old.text (records tables.now)) }
+    ensures written { OnOk result
+        (Puts (W.contents sink.old) (W.contents sink.new) writer.old.text writer.new.text
+        (records tables.now)) }
+    ensures begun { OnErr result
+        (StopsIn (W.contents sink.old) (W.contents sink.new) writer.old.text
+        (records tables.now)) }
     ensures failed { IfErr result IsOfWriting }
 {
     let scale = tables.scale();
@@ -70,8 +76,12 @@ fn write_dense<W: Write, K, T: Dense<K>>(
     rows: &[T],
 ) -> Result<(), FileError>
     requires count { length rows.now ≤ length (T.keys scale) }
-    ensures written { OnOk result (Puts (W.contents sink.old) (W.contents sink.new) writer.old.text writer.new.text (row_records T.fields (zip (T.keys scale) rows.now))) }
-    ensures begun { OnErr result (StopsIn (W.contents sink.old) (W.contents sink.new) writer.old.text (row_records T.fields (zip (T.keys scale) rows.now))) }
+    ensures written { OnOk result
+        (Puts (W.contents sink.old) (W.contents sink.new) writer.old.text writer.new.text
+        (row_records T.fields (zip (T.keys scale) rows.now))) }
+    ensures begun { OnErr result
+        (StopsIn (W.contents sink.old) (W.contents sink.new) writer.old.text
+        (row_records T.fields (zip (T.keys scale) rows.now))) }
     ensures failed { IfErr result IsOfWriting }
 {
     for (place, row) in rows.iter().enumerate() {
@@ -90,10 +100,12 @@ fn write_ordered<
 >(writer: &mut RecordWriter, sink: &mut W, out: &mut NewRecord, rows: I) -> Result<(), FileError>
     requires can { I.can_next rows }
     requires ends { IsFinite (I.remaining rows) }
-    ensures written { (left : I → List (K × T)) → GivesEntries I.next_gives left
-        → OnOk result (Puts (W.contents sink.old) (W.contents sink.new) writer.old.text writer.new.text (row_records T.fields (left rows))) }
-    ensures begun { (left : I → List (K × T)) → GivesEntries I.next_gives left
-        → OnErr result (StopsIn (W.contents sink.old) (W.contents sink.new) writer.old.text (row_records T.fields (left rows))) }
+    ensures written { (left : I → List (K × T)) → GivesEntries I.next_gives left → OnOk result
+        (Puts (W.contents sink.old) (W.contents sink.new) writer.old.text writer.new.text
+        (row_records T.fields (left rows))) }
+    ensures begun { (left : I → List (K × T)) → GivesEntries I.next_gives left → OnErr result
+        (StopsIn (W.contents sink.old) (W.contents sink.new) writer.old.text
+        (row_records T.fields (left rows))) }
     ensures failed { IfErr result IsOfWriting }
 {
     for (key, row) in rows {

@@ -3,6 +3,7 @@ use Rattle.std.proofs.Common.{◌≡◌, ℕ, zero, suc, ◌<◌, ◌≤◌, Lis
 use Rattle.std.specs.List.{slice_get, slice_index_or, All}
 use Rattle.std.proofs.lemmas.List.Elements.{All-map}
 use Rattle.std.proofs.lemmas.Option.{slice_get_within}
+use Rattle.rows.specs.declared.limits.TheConstants.{SESSIONS}
 use Rattle.schema.specs.Database.{Database, IsWithinScale}
 use Rattle.partitions.specs.Parts.{SharedTables, shared_of}
 use Rattle.requests.specs.declared.request.Request.{Request}
@@ -33,9 +34,9 @@ pub closed : (opening : Database) (scripts : List (List Request)) (answers : Lis
     → catalog ≡ shared_of opening → IsWithinScale opening
     → served ≡ ended → idle ≡ served → settled ≡ idle → entries ≡ settled
     → length answers ≡ length scripts → ServedEach opening.scale scripts ended answers
-    → ((s : ℕ) → length scripts ≤ s → s < 64 → items_of s served ≡ [])
+    → ((s : ℕ) → length scripts ≤ s → s < SESSIONS → items_of s served ≡ [])
     → AreSettled opening (tables_after opening (requests_of idle)) slices → tables ≡ (joined catalog slices).tables → IsWithinScale tables
-    → replies_of settled ≡ replies opening (requests_of settled) → All (λ (e : Entry). IsAccepted opening.scale e.request) settled → All (λ (e : Entry). e.session < 64) settled
+    → replies_of settled ≡ replies opening (requests_of settled) → All (λ (e : Entry). IsAccepted opening.scale e.request) settled → All (λ (e : Entry). e.session < SESSIONS) settled
     → IsOutcome opening scripts entries tables answers
 closed opening scripts answers ended served idle settled entries catalog slices tables catalog_is within_opening same_served same_idle same_settled entries_are count each none set made within_tables replied accepted sessions =
     let back : ended ≡ settled = sym (same_settled ∙ same_idle ∙ same_served) in
@@ -45,8 +46,8 @@ closed opening scripts answers ended served idle settled entries catalog slices 
     let last : tables ≡ tables_after opening (requests_of settled) =
     whole_is ∙ settled_tables opening (requests_of settled) slices set_now within_opening (subst IsWithinScale whole_is within_tables) asked in
     let each_now : ServedEach opening.scale scripts settled answers = subst (λ (l : List Entry). ServedEach opening.scale scripts l answers) back each in
-    let none_now : (s : ℕ) → length scripts ≤ s → s < 64 → items_of s settled ≡ [] =
-    subst (λ (l : List Entry). (s : ℕ) → length scripts ≤ s → s < 64 → items_of s l ≡ []) (sym (same_settled ∙ same_idle)) none in
-    let known : (place : ℕ) (e : Entry) → slice_get settled place ≡ Some e → e.session < 64 = λ place e at. of_all (λ (f : Entry). f.session < 64) settled place e sessions at in
+    let none_now : (s : ℕ) → length scripts ≤ s → s < SESSIONS → items_of s settled ≡ [] =
+    subst (λ (l : List Entry). (s : ℕ) → length scripts ≤ s → s < SESSIONS → items_of s l ≡ []) (sym (same_settled ∙ same_idle)) none in
+    let known : (place : ℕ) (e : Entry) → slice_get settled place ≡ Some e → e.session < SESSIONS = λ place e at. of_all (λ (f : Entry). f.session < SESSIONS) settled place e sessions at in
     subst (λ (l : List Entry). IsOutcome opening scripts l tables answers) (sym entries_are)
     (together opening scripts settled tables answers (record { replied = replied; left = last }) count known each_now none_now)

@@ -14,6 +14,7 @@ use Rattle.rows.specs.declared.keys.OrderLineKey.{OrderLineKey}
 use Rattle.rows.specs.declared.records.Order.{Order}
 use Rattle.rows.specs.Keys.{order_of_line}
 use Rattle.rows.specs.Ranged.{is_between}
+use Rattle.rows.specs.declared.limits.TheConstants.{STOCK_GROUPS}
 use Rattle.schema.specs.declared.scale.Scale.{Scale}
 use Rattle.schema.specs.Database.{Database, IsWithinScale, customer_of_order}
 use Rattle.schema.specs.Scale.{district_key, has_customer, has_district, has_item, has_stock, has_warehouse}
@@ -67,7 +68,7 @@ module _ (t : Database) (within : IsWithinScale t) where
   of_stock key row found =
       let has = there t.stocks key row (has_stock t.scale key) (within.stocks key) found in
       let parts = and_parts (has_warehouse t.scale key.w_id) (has_item t.scale key.i_id) has in
-      let below : key.i_id % 64 < 64 = omega arith in
+      let below : key.i_id % STOCK_GROUPS < STOCK_GROUPS = omega arith in
       (between 1 t.scale.warehouses key.w_id parts.0, below)
 
   -- ---- a group that there isn't

@@ -3,6 +3,7 @@ use Rattle.std.proofs.Common.{◌≡◌, ℕ, zero, suc, ◌+◌, ◌<◌, ◌�
 use Rattle.std.specs.List.{slice_get}
 use Rattle.std.specs.Option.{option_map}
 use Rattle.std.proofs.lemmas.Option.{slice_get-map, slice_get_within}
+use Rattle.rows.specs.declared.limits.TheConstants.{SESSIONS}
 use Rattle.schema.specs.declared.scale.Scale.{Scale}
 use Rattle.requests.specs.declared.request.Request.{Request}
 use Rattle.requests.specs.declared.refusal.Refusal.{Refusal}
@@ -22,7 +23,7 @@ found (y ∷ ys) (suc n) x low is = found ys n x (omega arith) is
 
 -- ---- new sessions
 
-pub all_new : (lanes : List (PassView × SessionSeatView)) → ((k : ℕ) → k < 64 → slice_get lanes k ≡ Some (new_pass k, new_seat k)) → AreNewFrom 0 lanes
+pub all_new : (lanes : List (PassView × SessionSeatView)) → ((k : ℕ) → k < SESSIONS → slice_get lanes k ≡ Some (new_pass k, new_seat k)) → AreNewFrom 0 lanes
 all_new lanes h k low =
     let at : k ≡ 0 + k = omega arith in
     subst (λ n. slice_get lanes k ≡ Some (new_pass n, new_seat n)) at (h k (omega arith))
@@ -31,17 +32,17 @@ only : {X : Type 0} (x y : X) → Some x ≡ Some y → x ≡ y
 only x y e = cc
 
 -- the first of new sessions is new, and so are the others
-pub new_next : (first : ℕ) (pass : PassView) (seat : SessionSeatView) (lanes : List (PassView × SessionSeatView)) → AreNewFrom first ((pass, seat) ∷ lanes) → first < 64
+pub new_next : (first : ℕ) (pass : PassView) (seat : SessionSeatView) (lanes : List (PassView × SessionSeatView)) → AreNewFrom first ((pass, seat) ∷ lanes) → first < SESSIONS
     → (pass ≡ new_pass first) × (seat ≡ new_seat first) × AreNewFrom (first + 1) lanes
 new_next first pass seat lanes h low =
     let at : first + 0 ≡ first = omega arith in
-    let here : first + 0 < 64 = omega arith in
+    let here : first + 0 < SESSIONS = omega arith in
     let both = only (pass, seat) (new_pass (first + 0), new_seat (first + 0)) (h 0 here) in (
       ap (λ (lane : PassView × SessionSeatView). lane.0) both ∙ ap new_pass at,
       ap (λ (lane : PassView × SessionSeatView). lane.1) both ∙ ap new_seat at,
       λ k below.
           let there : first + suc k ≡ first + 1 + k = omega arith in
-          let inside : first + suc k < 64 = omega arith in
+          let inside : first + suc k < SESSIONS = omega arith in
           subst (λ n. slice_get lanes k ≡ Some (new_pass n, new_seat n)) there (h (suc k) inside),
     )
 

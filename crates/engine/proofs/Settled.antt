@@ -5,6 +5,7 @@ use Rattle.std.specs.List.{Contains, slice_get}
 use Rattle.std.proofs.lemmas.List.{append-nil, length-map}
 use Rattle.std.proofs.lemmas.Option.{slice_get-get_or}
 use Rattle.std.proofs.lemmas.List.Elements.{All-contains, All-head, All-tail, All-weaker, Contains-get_or}
+use Rattle.rows.specs.declared.limits.TheConstants.{STOCK_GROUPS}
 use Rattle.schema.specs.Database.{Database, IsWithinScale}
 use Rattle.schema.specs.declared.scale.Scale.{Scale}
 use Rattle.partitions.specs.Parts.{IsPart, Part, SharedTables, shared_of}
@@ -79,7 +80,7 @@ under_kind warehouses (g.District w_id d_id) known = (kind.District, numbered_ha
 under_kind warehouses (g.Customers w_id d_id) known = (kind.Customers, numbered_has (λ d. g.Customers w_id d) 1 10 d_id known.1.0 (let up = known.1.1 in omega arith))
 under_kind warehouses (g.Orders w_id d_id) known = (kind.Orders, numbered_has (λ d. g.Orders w_id d) 1 10 d_id known.1.0 (let up = known.1.1 in omega arith))
 under_kind warehouses (g.History w_id d_id) known = (kind.History, numbered_has (λ d. g.History w_id d) 1 10 d_id known.1.0 (let up = known.1.1 in omega arith))
-under_kind warehouses (g.Stock w_id residue) known = (kind.Stock, numbered_has (λ r. g.Stock w_id r) 0 64 residue (omega arith) (let up = known.1 in omega arith))
+under_kind warehouses (g.Stock w_id residue) known = (kind.Stock, numbered_has (λ r. g.Stock w_id r) 0 STOCK_GROUPS residue (omega arith) (let up = known.1 in omega arith))
 
 group_wanted_for : (warehouses home : ℕ) (group : Group) → IsGroupOf warehouses group → warehouse_of group ≡ home → Contains (group_wants (wants_of_all home)) (record { group = group; mode = Exclusive })
 group_wanted_for warehouses home group known at =
@@ -165,7 +166,7 @@ group_or_not warehouses (g.District w_id d_id) = both_or_not (IsBetween 1 wareho
 group_or_not warehouses (g.Customers w_id d_id) = both_or_not (IsBetween 1 warehouses w_id) (IsBetween 1 10 d_id) (between_or_not 1 warehouses w_id) (between_or_not 1 10 d_id)
 group_or_not warehouses (g.Orders w_id d_id) = both_or_not (IsBetween 1 warehouses w_id) (IsBetween 1 10 d_id) (between_or_not 1 warehouses w_id) (between_or_not 1 10 d_id)
 group_or_not warehouses (g.History w_id d_id) = both_or_not (IsBetween 1 warehouses w_id) (IsBetween 1 10 d_id) (between_or_not 1 warehouses w_id) (between_or_not 1 10 d_id)
-group_or_not warehouses (g.Stock w_id residue) = both_or_not (IsBetween 1 warehouses w_id) (residue < 64) (between_or_not 1 warehouses w_id) (below_or_not residue 64)
+group_or_not warehouses (g.Stock w_id residue) = both_or_not (IsBetween 1 warehouses w_id) (residue < STOCK_GROUPS) (between_or_not 1 warehouses w_id) (below_or_not residue STOCK_GROUPS)
 
 home_between : (warehouses : ℕ) (group : Group) → IsGroupOf warehouses group → IsBetween 1 warehouses (warehouse_of group)
 home_between warehouses (g.Warehouse w_id) known = known

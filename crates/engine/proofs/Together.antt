@@ -4,6 +4,7 @@ use Rattle.std.specs.List.{slice_get, Contains}
 use Rattle.std.specs.Option.{option_map, option_and_then}
 use Rattle.std.proofs.lemmas.Bool.Decides.{nat_tests}
 use Rattle.std.proofs.lemmas.List.Elements.{Contains-append_left, Contains-append_right, Contains-append_cases, Contains-push_cases, Contains-push}
+use Rattle.rows.specs.declared.limits.TheConstants.{SESSIONS}
 use Rattle.schema.specs.Database.{Database}
 use Rattle.schema.specs.declared.scale.Scale.{Scale}
 use Rattle.requests.specs.declared.request.Request.{Request}
@@ -142,9 +143,9 @@ longer scale reached entries request why grown (inr (accepted, reason)) = inr (a
 
 pub together : (opening : Database) (scripts : List (List Request)) (entries : List Entry) (last : Database) (answers : List (List (Result ℕ Refusal)))
     → IsLegal opening entries last → length answers ≡ length scripts
-    → ((place : ℕ) (e : Entry) → slice_get entries place ≡ Some e → e.session < 64)
+    → ((place : ℕ) (e : Entry) → slice_get entries place ≡ Some e → e.session < SESSIONS)
     → ServedEach opening.scale scripts entries answers
-    → ((s : ℕ) → length scripts ≤ s → s < 64 → items_of s entries ≡ [])
+    → ((s : ℕ) → length scripts ≤ s → s < SESSIONS → items_of s entries ≡ [])
     → IsOutcome opening scripts entries last answers
 together opening scripts entries last answers legal even known each others =
     let scale = opening.scale in
@@ -174,7 +175,7 @@ together opening scripts entries last answers legal even known each others =
       logged = λ place entry at.
           let x = item place entry.number entry.request entry.reply in
           let listed : Contains (items_of entry.session entries) x = logged_by_session entries place entry at in
-          let low : entry.session < 64 = known place entry at in
+          let low : entry.session < SESSIONS = known place entry at in
           by_order entry.session (length scripts) (item_at answers entry.session entry.number ≡ Some (Ok place))
           (λ below.
           let script = reaches scripts entry.session below in

@@ -11,8 +11,15 @@ use Rattle.groups.specs.declared.wants.Kind.{Kind}
 use Rattle.groups.specs.declared.wants.Kind.TheVariants.{Warehouse, District, Customers, Orders, History, Stock}
 use Rattle.groups.specs.declared.wants.Extent.TheVariants.{Every}
 use Rattle.groups.specs.declared.wants.Want.{Want}
+use Rattle.machine.specs.Machine.{tables_after}
+use Rattle.commit_log.specs.declared.entry.Entry.{Entry}
+use Rattle.commit_log.specs.Log.{requests_of}
 use Rattle.tickets.specs.Places.{IsGroupOf}
 use Rattle.slices.specs.SliceView.{SliceView, part_in}
+
+-- the tables that the transactions of this log leave
+abbrev pub tables_left : Database → List Entry → Database
+tables_left opening log = tables_after opening (requests_of log)
 
 -- this is the slice of this warehouse, with the scale and the items of the opening
 pub record IsBackAt (opening : Database) (home : ℕ) (s : SliceView) : Type 0 where

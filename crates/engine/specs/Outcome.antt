@@ -12,6 +12,7 @@ use Rattle.commit_log.specs.declared.entry.Entry.{Entry}
 use Rattle.commit_log.specs.Items.{entry_of}
 use Rattle.commit_log.specs.Log.{IsLegal}
 use Rattle.executor.specs.Answers.{MayBeRefused}
+use Rattle.engine.specs.declared.outcome.Outcome.{Outcome}
 
 -- the item at place k of list s
 abbrev pub item_at : {X : Type 0} → List (List X) → ℕ → ℕ → Option X
@@ -38,3 +39,7 @@ pub record IsOutcome (opening : Database) (scripts : List (List Request)) (log :
   pub ascending : (s j k place later : ℕ) → j < k → item_at answers s j ≡ Some (Ok place) → item_at answers s k ≡ Some (Ok later) → place < later
   pub refused : (s k : ℕ) (request : Request) (refusal : Refusal) → item_at scripts s k ≡ Some request → item_at answers s k ≡ Some (Err refusal) → IsRefusal opening.scale (length log) request refusal
   pub checked : (s k : ℕ) (request : Request) (refusal : Refusal) → item_at scripts s k ≡ Some request → check_of opening.scale request ≡ Err refusal → item_at answers s k ≡ Some (Err refusal)
+
+-- the log, the last tables and the answers of this outcome are one of serving these scripts
+abbrev pub IsOutcomeOf : Database → List (List Request) → Outcome → Type 0
+IsOutcomeOf opening scripts outcome = IsOutcome opening scripts outcome.log.items outcome.tables outcome.answers.items

@@ -28,8 +28,12 @@ pub record Served (scale : Scale) (script : List Request) (answers : List (Resul
   -- and the places ascend
   pub ascending : (j k place later : ℕ) → j < k → slice_get answers j ≡ Some (Ok place) → slice_get answers k ≡ Some (Ok later) → place < later
 
+-- this session was asked this script and has these answers, and it has logged exactly its entries in the log
+abbrev pub ServedIn : Scale → ℕ → List Entry → List Request → List (Result ℕ Refusal) → Type 0
+ServedIn scale session entries script answers = Served scale script answers (items_of session entries) (length entries)
+
 -- each script has these answers, and its session has logged exactly its entries in the log
 abbrev pub ServedEach : Scale → List (List Request) → List Entry → List (List (Result ℕ Refusal)) → Type 0
 ServedEach scale scripts entries answers =
     (s : ℕ) (script : List Request) (recorded : List (Result ℕ Refusal)) → slice_get scripts s ≡ Some script → slice_get answers s ≡ Some recorded
-    → Served scale script recorded (items_of s entries) (length entries)
+    → ServedIn scale s entries script recorded

@@ -1,11 +1,10 @@
 //! A session that asks a script: between two requests, and while one is in flight.
 ghost use Rattle.std.specs.Prelude.{◌≡◌, [], length, false, Some, Ok, Err, IfSome, IsTrue, slice_get};
 ghost use Rattle.requests.specs.Check.{check_of};
-ghost use Rattle.commit_log.specs.Items.{items_of};
 ghost use Rattle.executor.specs.Answers.{IsRecordedBy};
 ghost use Rattle.engine.specs.Asking as spec;
 ghost use Rattle.engine.specs.Asking.{IsRefusedNext};
-ghost use Rattle.engine.specs.Served.{Served};
+ghost use Rattle.engine.specs.Served.{ServedIn};
 
 use crate::{Answers, ServeNames};
 use commit_log::{Log, Pass, SessionSeat};
@@ -199,7 +198,9 @@ impl<'a, J: ServeNames> Ready<'a, J> {
     /// The answers to the whole script, after an audit of the session: it has logged exactly its entries in the log. Returns
     /// `None` if it is another session, or if its script is not at its end.
     pub(crate) fn audit(mut self, log: &mut Log<J>, session: usize) -> Option<Answers>
-        ensures served { IfSome result (λ answers. (script : _) → slice_get J.scripts session ≡ Some script → Served J.opening.scale script answers (items_of session log.old) (length log.old)) }
+        ensures served { IfSome result (λ answers. (script : _)
+            → slice_get J.scripts session ≡ Some script
+            → ServedIn J.opening.scale session log.old script answers) }
         ensures same { log.new ≡ log.old }
     {
         if self.pass.session() as usize != session

@@ -1,14 +1,14 @@
 //! The state that an executor has to itself.
-use crate::MOST_SESSIONS;
 use crate::message::Message;
 use executor::{ExecutorShards, PhaseNames};
 use queues::{Sender, Taker};
+use rows::SESSIONS;
 use schema::NoMemory;
 use std::alloc::Global;
 use std::collections::VecDeque;
 
-/// Capacity of an executor's own lane, of its outbox and of its parked messages: 64 transactions have no more messages, with a
-/// fetch or a parcel for each warehouse.
+/// Capacity of an executor's own lane, of its outbox and of its parked messages: the transactions of all sessions have no more
+/// messages, with a fetch or a parcel for each warehouse.
 const ROOM: usize = 4096;
 
 /// How often a request may die and still be asked again at once.
@@ -75,7 +75,7 @@ impl<J: PhaseNames> Executor<J> {
         let freed = VecDeque::with_capacity(alloc, ROOM)?;
         let outbox = VecDeque::with_capacity(alloc, ROOM)?;
         let parked = VecDeque::with_capacity(alloc, ROOM)?;
-        let ready = VecDeque::with_capacity(alloc, MOST_SESSIONS)?;
+        let ready = VecDeque::with_capacity(alloc, SESSIONS)?;
         Ok(Executor {
             number,
             shards,

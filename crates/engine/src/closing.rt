@@ -3,25 +3,24 @@ ghost use Rattle.std.specs.Prelude.{◌≡◌, ◌<◌, ◌≤◌, ◌+◌, ℕ,
 ghost use Rattle.partitions.specs.Parts.{shared_of};
 ghost use Rattle.schema.specs.Database.{IsWithinScale};
 ghost use Rattle.commit_log.specs.Items.{items_of};
-ghost use Rattle.commit_log.specs.Log.{requests_of};
-ghost use Rattle.machine.specs.Machine.{tables_after};
 ghost use Rattle.requests.specs.declared.request.Request.{Request};
 ghost use Rattle.engine.specs.Interactive.{asked_by, recorded_by};
-ghost use Rattle.engine.specs.Closing.{want_of_kind, wants_of_all, AreSettled, IsBackAt, IsSettledAt};
-ghost use Rattle.engine.specs.Outcome.{IsOutcome};
+ghost use Rattle.engine.specs.Closing.{tables_left, want_of_kind, wants_of_all, AreSettled, IsBackAt, IsSettledAt};
+ghost use Rattle.engine.specs.Outcome.{IsOutcomeOf};
 ghost use Rattle.engine.specs.Served.{ServedEach};
 ghost use Rattle.engine.specs.Sessions.{AreAskedFrom};
 
 use crate::belongings::Executor;
 use crate::engine::Engine;
 use crate::place::Place;
-use crate::{Answers, CloseFault, Gate, Idle, Left, MOST_SESSIONS, Outcome, ServeNames};
+use crate::{Answers, CloseFault, Gate, Idle, Left, Outcome, ServeNames};
 use commit_log::Log;
 use executor::CountedShard;
 use groups::{Extent, Kind, Mode, Prefix, Want};
 use local_locks::Asked;
 use partitions::Catalog;
 use requests::Script;
+use rows::SESSIONS;
 use schema::NoMemory;
 use slices::{Slice, whole};
 use std::alloc::Global;
@@ -45,10 +44,13 @@ pub fn close<J: ServeNames, G: Gate + Drop>(
     requires scripts { J.scripts ≡ scripts.now }
     requires catalog { catalog ≡ shared_of J.opening }
     requires within { IsWithinScale J.opening }
-    ensures outcome { IfOk result (λ outcome. IsOutcome J.opening (scripts.now ++ outcome.asked.items) outcome.log.items outcome.tables outcome.answers.items) }
+    ensures outcome { IfOk result (λ outcome.
+        IsOutcomeOf J.opening (scripts.now ++ outcome.asked.items) outcome) }
     ensures asked { IfOk result (λ outcome. outcome.asked.items ≡ asked_by left.items) }
-    ensures recorded { IfOk result (λ outcome. drop (length scripts.now) outcome.answers.items ≡ recorded_by left.items) }
-    ensures all { IfOk result (λ outcome. length scripts.now + length outcome.asked.items ≡ idle.first) }
+    ensures recorded { IfOk result (λ outcome.
+        drop (length scripts.now) outcome.answers.items ≡ recorded_by left.items) }
+    ensures all { IfOk result (λ outcome.
+        length scripts.now + length outcome.asked.items ≡ idle.first) }
 {
     if scripts.len() > idle.first || left.len() != idle.first - scripts.len() {
         return Err(CloseFault::Unsettled);
@@ -93,7 +95,8 @@ fn audit_served<J: ServeNames>(
 ) -> Result<Vec<Answers>, CloseFault>
     requires scripts { J.scripts ≡ scripts.now }
     ensures count { IfOk result (λ answers. length answers.items ≡ length scripts.now) }
-    ensures each { IfOk result (λ answers. ServedEach J.opening.scale scripts.now log.old answers.items) }
+    ensures each { IfOk result (λ answers.
+        ServedEach J.opening.scale scripts.now log.old answers.items) }
     ensures same { log.new ≡ log.old }
 {
     let mut places = places.into_iter();
@@ -121,9 +124,12 @@ fn audit_left<J: ServeNames>(
     answers: &mut Vec<Answers>,
 ) -> Result<Vec<Script>, CloseFault>
     ensures asked { IfOk result (λ asked. asked.items ≡ asked_by left.items) }
-    ensures recorded { IfOk result (λ _. answers.new.items ≡ answers.old.items ++ recorded_by left.items) }
-    ensures each { IfOk result (λ _. (scripts : List (List Request)) → AreAskedFrom (length answers.old.items) scripts left.items
-        → ServedEach J.opening.scale scripts log.old answers.old.items → ServedEach J.opening.scale scripts log.old answers.new.items) }
+    ensures recorded { IfOk result (λ _.
+        answers.new.items ≡ answers.old.items ++ recorded_by left.items) }
+    ensures each { IfOk result (λ _. (scripts : List (List Request))
+        → AreAskedFrom (length answers.old.items) scripts left.items
+        → ServedEach J.opening.scale scripts log.old answers.old.items
+        → ServedEach J.opening.scale scripts log.old answers.new.items) }
     ensures same { log.new ≡ log.old }
 {
     let mut asked = Vec::with_capacity(alloc, left.len())?;
@@ -139,11 +145,11 @@ fn audit_left<J: ServeNames>(
 
 // Audits the sessions that were not used: the log has no entry of theirs.
 fn audit_idle<J: ServeNames>(log: &mut Log<J>, idle: Idle<J>)
-    ensures none { (s : ℕ) → idle.first ≤ s → s < 64 → items_of s log.old ≡ [] }
+    ensures none { (s : ℕ) → idle.first ≤ s → s < SESSIONS → items_of s log.old ≡ [] }
     ensures same { log.new ≡ log.old }
 {
     let Idle { first, mut lanes } = idle;
-    for _session in first..MOST_SESSIONS {
+    for _session in first..SESSIONS {
         let Some((mut pass, _seat)) = lanes.next() else {
             unreachable!()
         };
@@ -161,7 +167,8 @@ fn settle_all<J: ServeNames>(
     executors: Vec<Executor<J>>,
 ) -> Result<Vec<Slice<J>>, CloseFault>
     requires { warehouses ≡ J.opening.scale.warehouses }
-    ensures settled { IfOk result (λ slices. AreSettled J.opening (tables_after J.opening (requests_of log.old)) slices.items) }
+    ensures settled { IfOk result (λ slices.
+        AreSettled J.opening (tables_left J.opening log.old) slices.items) }
     ensures same { log.new ≡ log.old }
 {
     let mut executors = executors;
@@ -213,7 +220,8 @@ fn settle<J: ServeNames>(
     mut slice: Slice<J>,
 ) -> Result<Option<Slice<J>>, NoMemory>
     requires { IsBackAt J.opening slice.home slice }
-    ensures settled { IfOk result (λ settled. IfSome settled (IsSettledAt J.opening (tables_after J.opening (requests_of log.old)) slice.home)) }
+    ensures settled { IfOk result (λ settled.
+        IfSome settled (IsSettledAt J.opening (tables_left J.opening log.old) slice.home)) }
     ensures same { log.new ≡ log.old }
 {
     let home = slice.home();

@@ -39,6 +39,3 @@ pub use range_moves::MoveOrder;
 pub use routing::MOST_EXECUTORS;
 pub use serving::{serve, serve_client, serve_with_room};
 pub use session::{AskFault, Left, Session, meet};
-
-/// The largest number of sessions that are served at a time.
-pub const MOST_SESSIONS: usize = 64;

@@ -3,7 +3,7 @@ ghost use Rattle.std.specs.Prelude.{◌≡◌, ◌≤◌, ◌<◌, All, IfOk, ve
 ghost use Rattle.partitions.specs.Parts.{shared_of};
 ghost use Rattle.slices.specs.Openings.{AreOpenedFor};
 ghost use Rattle.engine.specs.Interactive.{HasAskedNothing};
-ghost use Rattle.engine.specs.Opening.{AreAgreedPhasesFrom, IsNamedFor, IsToOpen};
+ghost use Rattle.engine.specs.Opening.{AreAgreedPhasesFrom, IsNamedFor, IsToOpen, session_names};
 ghost use Rattle.engine.specs.Sessions.{AreNewFrom};
 
 use crate::asking::Ready;
@@ -21,6 +21,7 @@ use queues::Sender;
 use range_moves::MoveOrder;
 use requests::Script;
 use routing::{Routing, SharedRouting};
+use rows::SESSIONS;
 use schema::{NoMemory, Tables};
 use slices::{Slice, cut, open_groups};
 use std::alloc::Global;
@@ -100,9 +101,10 @@ pub fn open<'a, J: ServeNames, G: Gate + Drop>(
     gate: G,
 ) -> Result<Opened<'a, J, G>, NoMemory>
     requires room { 0 < room }
-    requires named { IsNamedFor J.LogNames J.GroupNames J.agreed_phase J.scripts tables scripts.now opening }
+    requires named { IsNamedFor J.LogNames J.GroupNames
+        (session_names J.agreed_phase J.scripts) tables scripts.now opening }
     requires some { 1 ≤ executors }
-    requires most { vec_len opening.agreed_phases ≤ 64 }
+    requires most { vec_len opening.agreed_phases ≤ SESSIONS }
     ensures catalog { IfOk result (λ opened. opened.catalog ≡ shared_of tables) }
     ensures idle { IfOk result (λ opened. opened.idle.first ≡ vec_len opening.agreed_phases) }
     ensures sessions { IfOk result (λ opened. All HasAskedNothing opened.sessions.items) }
@@ -301,9 +303,9 @@ fn open_places<'a, J: ServeNames>(
 ) -> Result<Seated<'a, J>, NoMemory>
     requires scripts { J.scripts ≡ scripts.now }
     requires new { AreNewFrom 0 lanes.items }
-    requires all { vec_len lanes ≡ 64 }
+    requires all { vec_len lanes ≡ SESSIONS }
     requires agreed_phases { AreAgreedPhasesFrom J.agreed_phase 0 agreed_phases.items }
-    requires most { vec_len agreed_phases ≤ 64 }
+    requires most { vec_len agreed_phases ≤ SESSIONS }
     ensures idle { IfOk result (λ seated. seated.idle.first ≡ vec_len agreed_phases) }
     ensures sessions { IfOk result (λ seated. All HasAskedNothing seated.sessions.items) }
 {

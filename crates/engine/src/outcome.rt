@@ -7,6 +7,7 @@ use commit_log::Entry;
 use requests::Script;
 use schema::Tables;
 use std::alloc::AllocError;
+use thiserror::Error;
 
 /// The outcome of scripts.
 #[derive(Drop)]
@@ -22,11 +23,11 @@ pub struct Outcome {
 }
 
 /// Why executors that have ended came to no outcome.
-#[derive(Clone, Copy, Debug, PartialEq, Eq)]
+#[derive(Clone, Copy, Debug, Drop, Error, PartialEq, Eq)]
 pub enum CloseFault {
-    /// An allocation failed.
+    #[error("no memory")]
     NoMemory,
-    /// A session, a slice or a claim was not back.
+    #[error("a session, a slice or a claim was not back")]
     Unsettled,
 }
 
@@ -39,20 +40,23 @@ impl From<AllocError> for CloseFault {
 }
 
 /// Why scripts were not served.
-#[derive(Clone, Copy, Debug, PartialEq, Eq)]
+#[derive(Clone, Copy, Debug, Drop, Error, PartialEq, Eq)]
 pub enum ServeFault {
     /// An allocation failed: as the opening tables were checked, as the engine was opened or its threads were started, or for the
     /// outcome.
+    #[error("no memory")]
     NoMemory,
     /// The opening tables break the consistency condition of this number, and none of a lower one: 1 to 10, or 12 (TPC-C 5.11,
     /// clause 3.3.2).
+    #[error("the opening tables break consistency condition {0}")]
     NotConsistent(u8),
     /// The place, from 0, of the first move that there can't be: its range ends before it begins, or one of its numbers is out of
     /// range.
+    #[error("the move at place {0}, from 0, ends before it begins or has a number out of range")]
     BadMove(usize),
-    /// A thread could not be started.
+    #[error("a thread could not be started")]
     NoThread,
-    /// A session, a slice or a claim was not back when all executors had ended.
+    #[error("a session, a slice or a claim was not back when all executors had ended")]
     Unsettled,
 }
 

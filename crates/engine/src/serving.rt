@@ -4,8 +4,8 @@ ghost use Rattle.schema.specs.Consistency.{Consistent};
 ghost use Rattle.range_moves.specs.Orders.{IsWithin};
 ghost use Rattle.engine.specs.Interactive.{HasAskedNothing, asked_by, recorded_by};
 ghost use Rattle.engine.specs.Faults.{AreWithin, IsFaultOf, IsFirstBad, IsOfServing};
-ghost use Rattle.engine.specs.Opening.{IsNamedFor};
-ghost use Rattle.engine.specs.Outcome.{IsOutcome};
+ghost use Rattle.engine.specs.Opening.{IsNamedFor, session_names};
+ghost use Rattle.engine.specs.Outcome.{IsOutcomeOf};
 
 use crate::belongings::Executor;
 use crate::closing::close;
@@ -13,14 +13,11 @@ use crate::engine::Engine;
 use crate::executing::AtWork;
 use crate::opening::{Opened, Opening, open};
 use crate::threads::{Meanwhile, Work, work_on_each};
-use crate::{
-    Client, CloseFault, Gate, Left, MOST_SESSIONS, OpenGate, Outcome, ServeFault, ServeNames,
-    Session,
-};
+use crate::{Client, CloseFault, Gate, Left, OpenGate, Outcome, ServeFault, ServeNames, Session};
 use consistency::first_broken;
 use range_moves::MoveOrder;
 use requests::Script;
-use rows::INBOX;
+use rows::{INBOX, SESSIONS};
 use schema::Tables;
 use std::alloc::Global;
 use std::marker::Brand;
@@ -50,9 +47,9 @@ pub fn serve<R: Threads + Wait + Sync, G: Gate + Send + Sync + Drop>(
     gate: G,
 ) -> Result<Outcome, ServeFault>
     requires some { 1 ≤ length scripts.now }
-    requires most { length scripts.now ≤ MOST_SESSIONS }
+    requires most { length scripts.now ≤ SESSIONS }
     requires executors { 1 ≤ executors }
-    ensures outcome { IfOk result (λ outcome. IsOutcome opening scripts.now outcome.log.items outcome.tables outcome.answers.items) }
+    ensures outcome { IfOk result (IsOutcomeOf opening scripts.now) }
     ensures interactive { IfOk result (λ outcome. outcome.asked.items ≡ []) }
     ensures consistent { OnOk result (Consistent opening) }
     ensures within { OnOk result (AreWithin opening executors moves.now) }
@@ -76,10 +73,10 @@ pub fn serve_with_room<R: Threads + Wait + Sync, G: Gate + Send + Sync + Drop>(
     gate: G,
 ) -> Result<Outcome, ServeFault>
     requires some { 1 ≤ length scripts.now }
-    requires most { length scripts.now ≤ MOST_SESSIONS }
+    requires most { length scripts.now ≤ SESSIONS }
     requires executors { 1 ≤ executors }
     requires room { 0 < room }
-    ensures outcome { IfOk result (λ outcome. IsOutcome opening scripts.now outcome.log.items outcome.tables outcome.answers.items) }
+    ensures outcome { IfOk result (IsOutcomeOf opening scripts.now) }
     ensures interactive { IfOk result (λ outcome. outcome.asked.items ≡ []) }
     ensures consistent { OnOk result (Consistent opening) }
     ensures within { OnOk result (AreWithin opening executors moves.now) }
@@ -104,11 +101,12 @@ pub fn serve_client<R: Threads + Wait + Sync, C: Client>(
     executors: u32,
     client: &C,
 ) -> Result<Outcome, ServeFault>
-    requires most { sessions ≤ MOST_SESSIONS }
+    requires most { sessions ≤ SESSIONS }
     requires executors { 1 ≤ executors }
-    ensures outcome { IfOk result (λ outcome. IsOutcome opening outcome.asked.items outcome.log.items outcome.tables outcome.answers.items) }
+    ensures outcome { IfOk result (λ outcome. IsOutcomeOf opening outcome.asked.items outcome) }
     ensures sessions { IfOk result (λ outcome. length outcome.asked.items ≡ sessions) }
-    ensures promised { IfOk result (λ outcome. C.promises client.now opening outcome.asked.items outcome.answers.items) }
+    ensures promised { IfOk result (λ outcome.
+        C.promises client.now opening outcome.asked.items outcome.answers.items) }
     ensures consistent { OnOk result (Consistent opening) }
     ensures fault { IfErr result (λ fault. IsFaultOf opening executors [] fault) }
 {
@@ -161,12 +159,14 @@ fn serve_all<R: Threads + Wait + Sync, G: Gate + Send + Sync + Drop, C: Client>(
     gate: G,
     client: &C,
 ) -> Result<Outcome, ServeFault>
-    requires most { length scripts.now + sessions ≤ MOST_SESSIONS }
+    requires most { length scripts.now + sessions ≤ SESSIONS }
     requires executors { 1 ≤ executors }
     requires room { 0 < room }
-    ensures outcome { IfOk result (λ outcome. IsOutcome opening (scripts.now ++ outcome.asked.items) outcome.log.items outcome.tables outcome.answers.items) }
+    ensures outcome { IfOk result (λ outcome.
+        IsOutcomeOf opening (scripts.now ++ outcome.asked.items) outcome) }
     ensures asked { IfOk result (λ outcome. length outcome.asked.items ≡ sessions) }
-    ensures promised { IfOk result (λ outcome. C.promises client.now opening outcome.asked.items (drop (length scripts.now) outcome.answers.items)) }
+    ensures promised { IfOk result (λ outcome. C.promises client.now opening outcome.asked.items
+        (drop (length scripts.now) outcome.answers.items)) }
     ensures consistent { OnOk result (Consistent opening) }
     ensures within { OnOk result (AreWithin opening executors moves.now) }
     ensures fault { IfErr result (λ fault. IsFaultOf opening executors moves.now fault) }
@@ -216,12 +216,16 @@ fn serve_from<
     client: &C,
 ) -> Result<Outcome, ServeFault>
     requires room { 0 < room }
-    requires named { IsNamedFor J.LogNames J.GroupNames J.agreed_phase J.scripts tables scripts.now opening }
+    requires named { IsNamedFor J.LogNames J.GroupNames
+        (session_names J.agreed_phase J.scripts) tables scripts.now opening }
     requires some { 1 ≤ executors }
-    requires most { vec_len opening.agreed_phases ≤ 64 }
-    ensures outcome { IfOk result (λ outcome. IsOutcome tables (scripts.now ++ outcome.asked.items) outcome.log.items outcome.tables outcome.answers.items) }
-    ensures asked { IfOk result (λ outcome. length scripts.now + length outcome.asked.items ≡ vec_len opening.agreed_phases) }
-    ensures promised { IfOk result (λ outcome. C.promises client.now tables outcome.asked.items (drop (length scripts.now) outcome.answers.items)) }
+    requires most { vec_len opening.agreed_phases ≤ SESSIONS }
+    ensures outcome { IfOk result (λ outcome.
+        IsOutcomeOf tables (scripts.now ++ outcome.asked.items) outcome) }
+    ensures asked { IfOk result (λ outcome.
+        length scripts.now + length outcome.asked.items ≡ vec_len opening.agreed_phases) }
+    ensures promised { IfOk result (λ outcome. C.promises client.now tables outcome.asked.items
+        (drop (length scripts.now) outcome.answers.items)) }
     ensures fault { IfErr result (λ fault. IsOfServing fault) }
 {
     let Opened {
@@ -257,7 +261,8 @@ fn work_all<
     sessions: Vec<Session<J>>,
 ) -> Result<(Vec<Executor<J>>, Vec<Left<J>>), ServeFault>
     requires { All HasAskedNothing sessions.items }
-    ensures promised { IfOk result (λ r. C.promises client.now J.opening (asked_by r.1.items) (recorded_by r.1.items)) }
+    ensures promised { IfOk result (λ r.
+        C.promises client.now J.opening (asked_by r.1.items) (recorded_by r.1.items)) }
     ensures fault { IfErr result (λ fault. IsOfServing fault) }
 {
     let crew = Crew { rt, alloc, engine };

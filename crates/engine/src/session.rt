@@ -5,7 +5,7 @@ ghost use Rattle.commit_log.specs.Items.{items_of};
 ghost use Rattle.executor.specs.Answers.{IsRecordedBy};
 ghost use Rattle.engine.specs.Asking.{known_of};
 ghost use Rattle.engine.specs.Outcome.{IsRefusal};
-ghost use Rattle.engine.specs.Served.{Served};
+ghost use Rattle.engine.specs.Served.{ServedIn};
 ghost use Rattle.engine.specs.Interactive.{Asks, HasAskedNothing, HasMet, IsBackIn};
 
 use crate::asking::says_full;
@@ -17,9 +17,11 @@ use executor::Flow;
 use queues::Sender;
 use requests::{Refusal, Request, Script, check};
 use std::alloc::Global;
+use std::fmt;
 use std::marker::Model;
 use std::sync::Wait;
 use std::sync::atomic::Ordering;
+use thiserror::Error;
 use transactions::home_of_request;
 
 /// A session that asks interactively, none of whose requests is in flight.
@@ -102,12 +104,24 @@ impl<J: ServeNames> Model for Away<J> {
 }
 
 /// Why a session has no answer to a request.
-#[derive(Drop)]
+#[derive(Drop, Error)]
 pub enum AskFault<J: ServeNames> {
     /// An allocation failed: the request was not asked, and the session is unchanged.
+    #[error("no memory")]
     NoMemory(Session<J>),
     /// No answer came: the executors were stopped, or the answer was for another session. The session is lost.
+    #[error("no answer came")]
     Stopped,
+}
+
+/// Leaves out the session.
+impl<J: ServeNames> fmt::Debug for AskFault<J> {
+    fn fmt<W: fmt::Write>(&self, f: &mut fmt::Formatter<W>) -> fmt::Result {
+        match self {
+            AskFault::NoMemory(_) => f.write_str("NoMemory(..)"),
+            AskFault::Stopped => f.write_str("Stopped"),
+        }
+    }
 }
 
 /// A session that asks no more.
@@ -258,7 +272,8 @@ pub fn meet<J: ServeNames>(one: &mut Session<J>, other: &mut Session<J>)
 impl<J: ServeNames> Asker<J> {
     // Answers the request with a refusal.
     fn refused(self, refusal: Refusal) -> (Session<J>, Result<u32, Refusal>)
-        requires { IsRefusal J.opening.scale (known_of self.before.is_full self.before.pass.reached) self.request refusal }
+        requires { IsRefusal J.opening.scale
+            (known_of self.before.is_full self.before.pass.reached) self.request refusal }
         ensures { Asks J.opening.scale self.before self.request result.0 result.1 }
     {
         let Asker {
@@ -396,7 +411,8 @@ impl<J: ServeNames> Left<J> {
     pub(crate) fn audit(self, log: &mut Log<J>, number: usize) -> Option<(Script, Answers)>
         ensures asked { IfSome result (λ r. r.0 ≡ self.session.script) }
         ensures recorded { IfSome result (λ r. r.1 ≡ self.session.answers) }
-        ensures served { IfSome result (λ r. Served J.opening.scale self.session.script r.1 (items_of number log.old) (length log.old)) }
+        ensures served { IfSome result (λ r.
+            ServedIn J.opening.scale number log.old self.session.script r.1) }
         ensures same { log.new ≡ log.old }
     {
         let Left { session } = self;

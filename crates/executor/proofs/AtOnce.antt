@@ -7,9 +7,8 @@ use Rattle.partitions.specs.Parts.{SharedTables}
 use Rattle.tickets.specs.Claims.{ClaimView}
 use Rattle.transactions.specs.declared.work.Found.{Found}
 use Rattle.transactions.specs.declared.work.Work.{Work}
-use Rattle.transactions.specs.Progresses.{works_of}
 use Rattle.transactions.specs.Works.{HasDone, HaveAllDone}
-use Rattle.executor.specs.AtOnce.{HaveDoneAtOnce, HaveDoneBut}
+use Rattle.executor.specs.AtOnce.{HaveDoneAtOnce, HaveDoneBut, phase_of, phase_to_run}
 use Rattle.executor.specs.Flows.{CarriesFlow, FlowView}
 use Rattle.transactions.specs.Acting.{AreUndoneBy, CanAllBeUndone}
 
@@ -27,7 +26,7 @@ done_more shared (w ∷ works) (f ∷ found) [] work one claims all more = absur
 
 module _ (shared : SharedTables) (age : ℕ) (works : List Work) (before : List (List ClaimView)) where
   -- none has yet
-  pub none_done : (held : List (List ClaimView)) (found : List Found) → held ≡ before → found ≡ [] → HaveDoneBut shared age works works before held found
+  pub none_done : (held : List (List ClaimView)) (found : List Found) → held ≡ before → found ≡ [] → HaveDoneBut shared works (phase_to_run age works before) held found
   none_done held found same none = record {
     first = [];
     own = [];
@@ -39,7 +38,7 @@ module _ (shared : SharedTables) (age : ℕ) (works : List Work) (before : List 
 
   -- the next one has
   pub next_done : (last rest : List Work) (held more : List (List ClaimView)) (found further : List Found) (work : Work) (claims : List ClaimView) (one : Found) → last ≡ work ∷ rest → more ≡ held ++ claims ∷ []
-      → further ≡ found ++ one ∷ [] → HasDone shared work one claims → AreUndoneBy age claims → HaveDoneBut shared age last works before held found → HaveDoneBut shared age rest works before more further
+      → further ≡ found ++ one ∷ [] → HasDone shared work one claims → AreUndoneBy age claims → HaveDoneBut shared last (phase_to_run age works before) held found → HaveDoneBut shared rest (phase_to_run age works before) more further
   next_done last rest held more found further work claims one is put kept done undone so_far = record {
     first = so_far.first ++ work ∷ [];
     own = so_far.own ++ claims ∷ [];
@@ -50,11 +49,11 @@ module _ (shared : SharedTables) (age : ℕ) (works : List Work) (before : List 
   }
 
   -- no fewer are held than before
-  pub more_held : (last : List Work) (held : List (List ClaimView)) (found : List Found) → HaveDoneBut shared age last works before held found → length before ≤ length held
+  pub more_held : (last : List Work) (held : List (List ClaimView)) (found : List Found) → HaveDoneBut shared last (phase_to_run age works before) held found → length before ≤ length held
   more_held last held found so_far = omega (arith, ap length so_far.held_is, length-append before so_far.own)
 
   -- what is held after those before can be taken back
-  pub can_be_undone : (last : List Work) (held : List (List ClaimView)) (found : List Found) → All (AreUndoneBy age) before → HaveDoneBut shared age last works before held found → All CanAllBeUndone held
+  pub can_be_undone : (last : List Work) (held : List (List ClaimView)) (found : List Found) → All (AreUndoneBy age) before → HaveDoneBut shared last (phase_to_run age works before) held found → All CanAllBeUndone held
   can_be_undone last held found first so_far =
       subst (λ (h : List (List ClaimView)). All CanAllBeUndone h) (sym so_far.held_is)
       (All-weaker (AreUndoneBy age) CanAllBeUndone (λ claims h. h.0) (before ++ so_far.own) (All-append (AreUndoneBy age) before so_far.own first so_far.undone))
@@ -71,7 +70,7 @@ take_front n all front last is few = ap (λ l. take n l) is ∙ front_alone n fr
     front_alone (suc n) (x ∷ xs) ys few = ap (λ l. x ∷ l) (front_alone n xs ys (omega (arith, few)))
 
 -- and all that is held can be taken back
-pub undone_at_once : (shared : SharedTables) (j : FlowView) (held : List (List ClaimView)) (found : List Found) → CarriesFlow shared j → HaveDoneAtOnce shared j.age (works_of j.progress) j.held held found
+pub undone_at_once : (shared : SharedTables) (j : FlowView) (held : List (List ClaimView)) (found : List Found) → CarriesFlow shared j → HaveDoneAtOnce shared (phase_of j) held found
     → All (AreUndoneBy j.age) held
 undone_at_once shared j held found carries all =
     subst (λ (h : List (List ClaimView)). All (AreUndoneBy j.age) h) (sym all.held_is) (All-append (AreUndoneBy j.age) j.held all.own carries.undone all.undone)

@@ -11,7 +11,7 @@ use Rattle.commit_log.specs.Items.{item}
 use Rattle.commit_log.specs.PassView.{after_refusal}
 use Rattle.transactions.specs.declared.logging.Logged.{Logged}
 use Rattle.transactions.specs.Acting.{AreGivenBy, AreUndoneBy}
-use Rattle.transactions.specs.Logged.{Logs, why_refused}
+use Rattle.transactions.specs.Logged.{Logs, log_and_claims, why_refused}
 use Rattle.transactions.proofs.Settling.{given_back}
 use Rattle.executor.specs.Answers.{AreGiven, CarriesAnswer, IsGiven, release_view, returns_view, answer_view}
 use Rattle.executor.specs.Commits.{Commits, CommitView, entry_committed}
@@ -24,7 +24,7 @@ given_so false age claims given = given.0
 
 module _ {J : Type 0} (c : CommitView) (old new : List Entry) (logged : Logged J) (after : List (List ClaimView)) where
   -- its answer is the refusal or the place
-  pub answers : IsAskedBy c.number c.request c.pass → Logs (entry_committed c) c.pass old c.held logged new after → CarriesAnswer (answer_view c.age c.number logged.pass logged.answer)
+  pub answers : IsAskedBy c.number c.request c.pass → Logs (entry_committed c) c.pass (log_and_claims old c.held) logged (log_and_claims new after) → CarriesAnswer (answer_view c.age c.number logged.pass logged.answer)
   answers asked (inl logs) =
       subst (λ (l : Logged J). CarriesAnswer (answer_view c.age c.number l.pass l.answer)) (sym logs.2) (record {
         number_is = asked.number_is;
@@ -43,13 +43,13 @@ module _ {J : Type 0} (c : CommitView) (old new : List Entry) (logged : Logged J
       by fault.LogFull full = record { number_is = asked.number_is; recorded = (asked.seen, asked.mine, full.0 refl) }
 
   -- its claims go back as the answer requires
-  pub gives : All (AreUndoneBy c.age) c.held → Logs (entry_committed c) c.pass old c.held logged new after → AreGiven logged.is_settled after
+  pub gives : All (AreUndoneBy c.age) c.held → Logs (entry_committed c) c.pass (log_and_claims old c.held) logged (log_and_claims new after) → AreGiven logged.is_settled after
   gives undone logs =
       All-weaker (AreGivenBy logged.is_settled c.age) (IsGiven logged.is_settled) (given_so logged.is_settled c.age) after
-      (given_back c.age (entry_committed c) c.pass old new c.held after logged logs undone)
+      (given_back c.age (entry_committed c) c.pass (log_and_claims old c.held) (log_and_claims new after) logged logs undone)
 
   -- and this is the contract of the commit
-  pub commits : Logs (entry_committed c) c.pass old c.held logged new after
+  pub commits : Logs (entry_committed c) c.pass (log_and_claims old c.held) logged (log_and_claims new after)
       → Commits c old (release_view (answer_view c.age c.number logged.pass logged.answer) (returns_view c.slot logged.is_settled after) c.phase_owner) new
   commits (inl logs) =
       inl (logs.0, ((λ i. release_view (answer_view c.age c.number (logs.2 i).pass (logs.2 i).answer) (returns_view c.slot (logs.2 i).is_settled (logs.4 i)) c.phase_owner), logs.3))

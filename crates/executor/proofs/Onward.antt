@@ -25,7 +25,7 @@ use Rattle.executor.specs.Phases.{AreAllRans, MetView}
 use Rattle.transactions.specs.SortedOut.{found_in, held_in, refusal_of}
 use Rattle.transactions.proofs.SortedOut.{memory_last, none_before}
 use Rattle.executor.specs.Released.{refused}
-use Rattle.executor.specs.Followed.{Follows, FollowsUnless, HasMetUnder, transaction_of}
+use Rattle.executor.specs.Followed.{Follows, FollowsUnless, HasMetUnder, transaction_of, under_claims}
 use Rattle.executor.proofs.SortedOut.{all_done, all_undone, as_many}
 
 -- ---- what was found is gathered
@@ -65,7 +65,7 @@ module _ {J : Type 0} where
     held_then = m.flow.held ++ held_in m.rans
 
     abbrev recorded : Option Refusal → List Found → Following J → Type 0
-    recorded refused found after = FollowsUnless refused phase_owner (transaction_of m.flow) held_then m.flow.progress found after
+    recorded refused found after = FollowsUnless refused phase_owner (under_claims held_then m.flow) found after
 
     -- it is refused for the first death, or else with NoMemory
     follows_refused : (start : Option Refusal) (why : Refusal) → IfSome start (λ w. w ≡ refusal.NoMemory) → refusal_of start m.rans ≡ Some why

@@ -35,6 +35,10 @@ pub record PhaseOwnerView : Type 0 where
 abbrev pub phase_owner_view : ℕ → AgreedPhase → ℕ → PhaseOwnerView
 phase_owner_view slot recorded out = record { slot = slot; agreed_phase = recorded; out = out }
 
+-- the phase owner when this many shares are out
+abbrev pub with_out : ℕ → PhaseOwnerView → PhaseOwnerView
+with_out out phase_owner = record phase_owner { out = out }
+
 -- this is the phase owner of the slot, and it has all shares
 abbrev pub KeepsWhole : ℕ → PhaseOwnerView → Type 0
 KeepsWhole slot phase_owner = (phase_owner.slot ≡ slot) × (phase_owner.out ≡ 0)

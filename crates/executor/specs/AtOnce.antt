@@ -8,28 +8,43 @@ use Rattle.transactions.specs.Progresses.{works_of}
 use Rattle.transactions.specs.Works.{HaveAllDone}
 use Rattle.executor.specs.declared.paused.Tried.{Tried}
 use Rattle.executor.specs.declared.paused.Tried.TheVariants.{Apart, Done}
-use Rattle.executor.specs.Followed.{Gathers, transaction_of}
+use Rattle.executor.specs.Flows.{FlowView}
+use Rattle.executor.specs.Followed.{Gathers, under_claims}
 use Rattle.transactions.specs.Acting.{AreUndoneBy}
 use Rattle.executor.specs.PausedView.{PausedView}
 
--- All of these works but the last ones were done, under claims of a transaction of this age, which follow those held before. This
+-- a phase that is to be run: the age of its transaction, the works of its actions, and the claims of the actions of earlier
+-- phases, by place
+pub record PhaseToRun : Type 0 where
+  pub age : ℕ
+  pub works : List Work
+  pub held : List (List ClaimView)
+
+abbrev pub phase_to_run : ℕ → List Work → List (List ClaimView) → PhaseToRun
+phase_to_run age works held = record { age = age; works = works; held = held }
+
+-- the phase of this transaction
+abbrev pub phase_of : FlowView → PhaseToRun
+phase_of j = phase_to_run j.age (works_of j.progress) j.held
+
+-- All works of the phase but the last ones were done, under claims of its transaction, which follow those of earlier phases. This
 -- was found, and all that was done can be undone.
-pub record HaveDoneBut (shared : SharedTables) (age : ℕ) (last works : List Work) (before held : List (List ClaimView)) (found : List Found) : Type 0 where
+pub record HaveDoneBut (shared : SharedTables) (last : List Work) (phase : PhaseToRun) (held : List (List ClaimView)) (found : List Found) : Type 0 where
   pub first : List Work
   pub own : List (List ClaimView)
-  pub works_are : works ≡ first ++ last
-  pub held_is : held ≡ before ++ own
+  pub works_are : phase.works ≡ first ++ last
+  pub held_is : held ≡ phase.held ++ own
   pub done : HaveAllDone shared first found own
-  pub undone : All (AreUndoneBy age) own
+  pub undone : All (AreUndoneBy phase.age) own
 
--- all of these works were done
-abbrev pub HaveDoneAtOnce : SharedTables → ℕ → List Work → List (List ClaimView) → List (List ClaimView) → List Found → Type 0
-HaveDoneAtOnce shared age works before held found = HaveDoneBut shared age [] works before held found
+-- all works of the phase were done
+abbrev pub HaveDoneAtOnce : SharedTables → PhaseToRun → List (List ClaimView) → List Found → Type 0
+HaveDoneAtOnce shared phase held found = HaveDoneBut shared [] phase held found
 
 module _ {J : Type 0} where
   -- All actions of the phase have done their work, and the next step follows from what they found; or nothing was done.
   abbrev pub RunsHere : SharedTables → PausedView → Tried J → Type 0
   RunsHere shared p (Done following) =
-      (held : List (List ClaimView)) × (found : List Found) × HaveDoneAtOnce shared p.flow.age (works_of p.flow.progress) p.flow.held held found
-      × Gathers p.phase_owner (transaction_of p.flow) held p.flow.progress found following
+      (held : List (List ClaimView)) × (found : List Found) × HaveDoneAtOnce shared (phase_of p.flow) held found
+      × Gathers p.phase_owner (under_claims held p.flow) found following
   RunsHere shared p (Apart back) = back ≡ p

@@ -5,6 +5,7 @@ use Rattle.requests.specs.declared.request.Request.{Request}
 use Rattle.tickets.specs.Claims.{ClaimView}
 use Rattle.commit_log.specs.PassView.{PassView}
 use Rattle.transactions.specs.declared.progress.Progress.{Progress}
+use Rattle.executor.specs.declared.flow.Transaction.{Transaction}
 use Rattle.transactions.specs.Acting.{AreUndoneBy}
 use Rattle.transactions.specs.Progresses.{IsReached}
 
@@ -26,9 +27,17 @@ pub record FlowView : Type 0 where
   pub held : List (List ClaimView)
   pub progress : Progress
 
-abbrev pub flow_view : ℕ → ℕ → ℕ → Request → PassView → List (List ClaimView) → Progress → FlowView
-flow_view age slot number request pass held progress =
-    record { age = age; slot = slot; number = number; request = request; pass = pass; held = held; progress = progress }
+-- the transaction under these claims
+abbrev pub flow_view : {J : Type 0} → Transaction J → List (List ClaimView) → FlowView
+flow_view t held = record {
+  age = t.age;
+  slot = t.slot;
+  number = t.number;
+  request = t.body.value.request;
+  pass = t.pass;
+  held = held;
+  progress = t.body.value.progress;
+}
 
 -- Its session has asked it; its request has come so far under the claims of its earlier actions; and all that was done under them
 -- can be undone.

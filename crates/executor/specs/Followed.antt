@@ -13,7 +13,7 @@ use Rattle.transactions.specs.Progresses.{FollowsFrom, IsReached, works_of}
 use Rattle.executor.specs.declared.following.Following.{Following}
 use Rattle.executor.specs.declared.following.Following.TheVariants as following
 use Rattle.executor.specs.AgreedPhases.{PhaseOwnerView, KeepsWhole}
-use Rattle.executor.specs.Flows.{FlowView, flow_view}
+use Rattle.executor.specs.Flows.{FlowView}
 use Rattle.executor.specs.Transactions.{TransactionView}
 use Rattle.executor.specs.PausedView.{paused_view}
 use Rattle.executor.specs.Phases.{MetView}
@@ -34,27 +34,31 @@ pub record HasMetUnder (shared : SharedTables) (request : Request) (progress : P
 abbrev pub transaction_of : FlowView → TransactionView
 transaction_of j = record { age = j.age; slot = j.slot; number = j.number; request = j.request; pass = j.pass }
 
--- the transaction in another phase, under these claims
-abbrev pub moved : TransactionView → List (List ClaimView) → Progress → FlowView
-moved t held progress = flow_view t.age t.slot t.number t.request t.pass held progress
+-- the transaction, under these claims
+abbrev pub under_claims : List (List ClaimView) → FlowView → FlowView
+under_claims held j = record j { held = held }
+
+-- the transaction, in this phase
+abbrev pub in_phase : Progress → FlowView → FlowView
+in_phase progress j = record j { progress = progress }
 
 module _ {J : Type 0} where
   -- What was found is gathered: the next phase is to begin, or the transaction is to be logged with its reply; or an allocation
-  -- failed, and the transaction is refused with NoMemory.
-  abbrev pub Gathers : PhaseOwnerView → TransactionView → List (List ClaimView) → Progress → List Found → Following J → Type 0
-  Gathers phase_owner t held progress found (following.Next paused) =
-      (next : Progress) × (FollowsFrom progress found (Next next) × (paused ≡ paused_view phase_owner (moved t held next)))
-  Gathers phase_owner t held progress found (following.Commit commit) =
-      FollowsFrom progress found (Finish commit.shown) × (commit ≡ commit_view phase_owner t held commit.shown)
-  Gathers phase_owner t held progress found (following.Over release) = release ≡ refused phase_owner t held refusal.NoMemory
+  -- failed, and the transaction is refused with NoMemory. It holds the claims of this phase's actions too.
+  abbrev pub Gathers : PhaseOwnerView → FlowView → List Found → Following J → Type 0
+  Gathers phase_owner j found (following.Next paused) =
+      (next : Progress) × (FollowsFrom j.progress found (Next next) × (paused ≡ paused_view phase_owner (in_phase next j)))
+  Gathers phase_owner j found (following.Commit commit) =
+      FollowsFrom j.progress found (Finish commit.shown) × (commit ≡ commit_view phase_owner (transaction_of j) j.held commit.shown)
+  Gathers phase_owner j found (following.Over release) = release ≡ refused phase_owner (transaction_of j) j.held refusal.NoMemory
 
   -- The transaction is refused for this reason; or all actions have done their work, and what they found is gathered.
-  abbrev pub FollowsUnless : Option Refusal → PhaseOwnerView → TransactionView → List (List ClaimView) → Progress → List Found → Following J → Type 0
-  FollowsUnless (Some why) phase_owner t held progress found after = after ≡ following.Over (refused phase_owner t held why)
-  FollowsUnless None phase_owner t held progress found after = Gathers phase_owner t held progress found after
+  abbrev pub FollowsUnless : Option Refusal → PhaseOwnerView → FlowView → List Found → Following J → Type 0
+  FollowsUnless (Some why) phase_owner j found after = after ≡ following.Over (refused phase_owner (transaction_of j) j.held why)
+  FollowsUnless None phase_owner j found after = Gathers phase_owner j found after
 
   -- The step after these reports; the phase owner is that of the transaction's slot and has all shares.
   abbrev pub Follows : MetView J → Following J → Type 0
   Follows m after =
       (phase_owner : PhaseOwnerView) × (KeepsWhole m.flow.slot phase_owner
-      × FollowsUnless (refusal_of None m.rans) phase_owner (transaction_of m.flow) (m.flow.held ++ held_in m.rans) m.flow.progress (found_in m.rans) after)
+      × FollowsUnless (refusal_of None m.rans) phase_owner (under_claims (m.flow.held ++ held_in m.rans) m.flow) (found_in m.rans) after)

@@ -1,6 +1,6 @@
 //! The agreed phase of a transaction: the phase on which its actions and its phase owner agree.
 ghost use Rattle.std.specs.Prelude.{◌≡◌, ◌↔◌, ◌+◌, ◌-◌, ◌<◌, ◌≤◌, IfOk, IsTrue, vec_len, vec_capacity};
-ghost use Rattle.executor.specs.AgreedPhases.{AreSpent, agreed_phase, agreed_phase_agreement, phase_owner_view, no_agreed_phase, share_view};
+ghost use Rattle.executor.specs.AgreedPhases.{AreSpent, agreed_phase, agreed_phase_agreement, phase_owner_view, no_agreed_phase, share_view, with_out};
 
 use crate::PhaseNames;
 use agreement::{Change, Seat, Value};
@@ -177,7 +177,7 @@ impl<J: PhaseNames> PhaseOwner<J> {
     pub fn give(&mut self) -> Share<J>
         requires few { self.old.out < MOST_ACTIONS }
         ensures share { result ≡ share_view self.old.slot self.old.agreed_phase }
-        ensures phase_owner { self.new ≡ phase_owner_view self.old.slot self.old.agreed_phase (self.old.out + 1) }
+        ensures phase_owner { self.new ≡ with_out (self.old.out + 1) self.old }
     {
         let Some(mut seat) = self.spare.pop() else {
             unreachable!()
@@ -195,7 +195,7 @@ impl<J: PhaseNames> PhaseOwner<J> {
         requires slot { share.slot ≡ self.old.slot }
         ensures equal { share.agreed_phase ≡ self.old.agreed_phase }
         ensures out { 1 ≤ self.old.out }
-        ensures phase_owner { self.new ≡ phase_owner_view self.old.slot self.old.agreed_phase (self.old.out - 1) }
+        ensures phase_owner { self.new ≡ with_out (self.old.out - 1) self.old }
     {
         let Share {
             slot: _,
@@ -210,7 +210,8 @@ impl<J: PhaseNames> PhaseOwner<J> {
     /// no share is out.
     pub fn come_to(&mut self, age: u64, first: usize, progress: &Progress)
         requires all { self.old.out ≡ 0 }
-        ensures { self.new ≡ phase_owner_view self.old.slot (agreed_phase age first progress.now) 0 }
+        ensures { self.new
+            ≡ phase_owner_view self.old.slot (agreed_phase age first progress.now) 0 }
     {
         self.seat.change(&ComesTo {
             age,

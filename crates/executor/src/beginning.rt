@@ -2,7 +2,7 @@
 ghost use Rattle.std.specs.Prelude.{◌≡◌, ◌<◌, ◌≤◌, ◌+◌, [], length, vec_capacity, IfOk, IfErr};
 ghost use Rattle.executor.specs.Begins.{awaiting_all, act_at, acts_of};
 ghost use Rattle.executor.specs.Carrying.{IsCarriedAt, IsWorkAt, action_at, agreed_phase_of};
-ghost use Rattle.executor.specs.AgreedPhases.{phase_owner_view};
+ghost use Rattle.executor.specs.AgreedPhases.{phase_owner_view, with_out};
 ghost use Rattle.executor.specs.Followed.{transaction_of};
 ghost use Rattle.executor.specs.Released.{refused};
 ghost use Rattle.partitions.specs.Parts.{shared_of};
@@ -25,7 +25,8 @@ impl<J: PhaseNames> Paused<J> {
     pub fn send_out(self, alloc: Global) -> Result<(Phase<J>, Vec<Act<J>>), Release<J>>
         ensures phase { IfOk result (λ begun. begun.0 ≡ awaiting_all self.flow) }
         ensures acts { IfOk result (λ begun. begun.1.items ≡ acts_of self.flow) }
-        ensures err { IfErr result (λ release. release ≡ refused self.phase_owner (transaction_of self.flow) self.flow.held Refusal.NoMemory) }
+        ensures err { IfErr result (λ release. release
+            ≡ refused self.phase_owner (transaction_of self.flow) self.flow.held Refusal.NoMemory) }
     {
         let (flow, phase_owner) = self.into_parts();
         match begin(alloc, flow, phase_owner) {
@@ -82,12 +83,13 @@ fn send_out<J: PhaseNames>(
     mut acts: Vec<Act<J>>,
 ) -> Vec<Act<J>>
     requires slot { flow.slot ≡ phase_owner.old.slot }
-    requires agreed_phase { phase_owner.old ≡ phase_owner_view phase_owner.old.slot (agreed_phase_of flow) 0 }
+    requires agreed_phase { phase_owner.old
+        ≡ phase_owner_view phase_owner.old.slot (agreed_phase_of flow) 0 }
     requires works { works.items ≡ works_of flow.progress }
     requires empty { acts.items ≡ [] }
     requires room { length works.items ≤ vec_capacity acts }
     ensures acts { result.items ≡ acts_of flow }
-    ensures phase_owner { phase_owner.new ≡ phase_owner_view phase_owner.old.slot phase_owner.old.agreed_phase (length works.items) }
+    ensures phase_owner { phase_owner.new ≡ with_out (length works.items) phase_owner.old }
 {
     actions_can_do_their_work();
     transactions_have_few_actions();
@@ -120,8 +122,9 @@ fn send<J: PhaseNames>(
     requires work { IsWorkAt phase_owner.old.agreed_phase number work }
     requires can { CanDo (shared_of J.opening) work }
     requires flow { IsCarriedAt phase_owner.old.slot phase_owner.old.agreed_phase number flow }
-    ensures act { result ≡ act_at phase_owner.old.slot phase_owner.old.agreed_phase number flow work }
-    ensures phase_owner { phase_owner.new ≡ phase_owner_view phase_owner.old.slot phase_owner.old.agreed_phase (phase_owner.old.out + 1) }
+    ensures act { result
+        ≡ act_at phase_owner.old.slot phase_owner.old.agreed_phase number flow work }
+    ensures phase_owner { phase_owner.new ≡ with_out (phase_owner.old.out + 1) phase_owner.old }
 {
     let share = phase_owner.give();
     Act {

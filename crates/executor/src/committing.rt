@@ -54,12 +54,15 @@ impl<J: PhaseNames> Commit<J> {
         transaction: Transaction<J>,
         held: HeldClaims<J>,
     ) -> Commit<J>
-        requires asked { IsAskedBy transaction.number transaction.body.value.request transaction.pass }
+        requires asked { IsAskedBy transaction.number transaction.body.value.request
+            transaction.pass }
         requires accepted { IsAccepted J.opening.scale transaction.body.value.request }
-        requires carried_out { IsCarriedOut J.opening transaction.body.value.request (all_claims held) transaction.body.value.reply }
+        requires carried_out { IsCarriedOut J.opening transaction.body.value.request
+            (all_claims held) transaction.body.value.reply }
         requires undone { All (AreUndoneBy transaction.age) held }
         requires whole { KeepsWhole transaction.slot phase_owner }
-        ensures { result ≡ commit_view phase_owner (transaction_view transaction) held transaction.body.value.reply }
+        ensures { result ≡ commit_view phase_owner (transaction_view transaction) held
+            transaction.body.value.reply }
     {
         Commit {
             transaction,

@@ -205,7 +205,8 @@ fn one_more(number: usize) -> usize
 
 // One less, unless it is the largest number or 0.
 fn one_less(number: usize) -> usize
-    ensures { result < 18446744073709551615 → (number < 18446744073709551615) × (number ≤ result + 1) }
+    ensures { result < 18446744073709551615
+        → (number < 18446744073709551615) × (number ≤ result + 1) }
 {
     if number == usize::MAX {
         number

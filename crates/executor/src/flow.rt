@@ -1,11 +1,7 @@
 //! A transaction between two phases.
-ghost use Rattle.std.specs.Prelude.{◌≡◌, List, IfErr, IfOk};
-ghost use Rattle.partitions.specs.Parts.{SharedTables};
+ghost use Rattle.std.specs.Prelude.{◌≡◌, IfErr, IfOk};
 ghost use Rattle.requests.specs.Check.{IsAccepted};
-ghost use Rattle.requests.specs.declared.request.Request.{Request as AnyRequest};
-ghost use Rattle.tickets.specs.Claims.{ClaimView};
-ghost use Rattle.transactions.specs.Granted.{IsAsked};
-ghost use Rattle.transactions.specs.Progresses.{IsReached};
+ghost use Rattle.transactions.specs.Progresses.{IsStartOf};
 ghost use Rattle.executor.specs.Flows.{HasBegun, IsAskedBy};
 ghost use Rattle.executor.specs.Transactions.{transaction_view};
 
@@ -63,12 +59,9 @@ impl<J: PhaseNames> Model for Flow<J> {
     ghost use Rattle.partitions.specs.Parts.{shared_of};
     ghost use Rattle.executor.specs.Flows.{CarriesFlow, flow_view};
 
-    ghost view = { λ j. flow_view j.transaction.age j.transaction.slot j.transaction.number j.transaction.body.value.request j.transaction.pass
-        j.held j.transaction.body.value.progress };
+    ghost view = { λ j. flow_view j.transaction j.held };
 
-    ghost invariant = { λ j. CarriesFlow (shared_of J.opening)
-        (flow_view j.transaction.age j.transaction.slot j.transaction.number j.transaction.body.value.request j.transaction.pass
-        j.held j.transaction.body.value.progress) };
+    ghost invariant = { λ j. CarriesFlow (shared_of J.opening) (flow_view j.transaction j.held) };
 }
 
 impl<J: PhaseNames> Flow<J> {
@@ -130,7 +123,7 @@ impl FlowBody {
     // The body of a transaction that begins with this request. The request is passed twice.
     fn begin(alloc: Global, request: Request, given: Request) -> Result<Box<FlowBody>, NoMemory>
         ensures request { IfOk result (λ body. body.value.request ≡ request) }
-        ensures reached { IfOk result (λ body. (shared : SharedTables) (asked : AnyRequest) (held : List (List ClaimView)) → IsAsked shared asked given held → IsReached shared asked body.value.progress held) }
+        ensures reached { IfOk result (λ body. IsStartOf given body.value.progress) }
     {
         let body = FlowBody {
             request,

@@ -1,12 +1,11 @@
 //! The step after a phase.
-ghost use Rattle.std.specs.Prelude.{◌≡◌, ◌≤◌, ◌+◌, ◌++◌, All, IfSome, None, [], length, vec_capacity};
+ghost use Rattle.std.specs.Prelude.{◌≡◌, ◌≤◌, ◌+◌, ◌++◌, All, IfSome, None, length};
 ghost use Rattle.partitions.specs.Parts.{shared_of};
-ghost use Rattle.executor.specs.Flows.{IsAskedBy};
+ghost use Rattle.executor.specs.Flows.{IsAskedBy, flow_view};
 ghost use Rattle.transactions.specs.Acting.{AreUndoneBy};
 ghost use Rattle.executor.specs.Answers.{MayBeRefused};
 ghost use Rattle.executor.specs.Followed.{Follows, FollowsUnless, HasMetUnder};
-ghost use Rattle.executor.specs.Transactions.{transaction_view};
-ghost use Rattle.transactions.specs.SortedOut.{found_in, held_in, refusal_of};
+ghost use Rattle.transactions.specs.SortedOut.{IsReadyFor, found_in, held_in, refusal_of};
 
 use crate::flow::Transaction;
 use crate::{Commit, Flow, Met, Paused, PhaseNames, PhaseOwner, Release};
@@ -57,7 +56,7 @@ fn sort_out<J: PhaseNames>(
     mut sorted: Sorted,
 ) -> (HeldClaims<J>, Sorted)
     requires room { length held + length rans ≤ MOST_ACTIONS }
-    requires found { sorted.refusal ≡ None → (sorted.found.items ≡ []) × (length rans ≤ vec_capacity sorted.found) }
+    requires found { IsReadyFor (length rans) sorted }
     ensures held { result.0 ≡ held ++ held_in rans }
     ensures refusal { result.1.refusal ≡ refusal_of sorted.refusal rans }
     ensures found { result.1.refusal ≡ None → result.1.found.items ≡ found_in rans }
@@ -78,11 +77,16 @@ pub(crate) fn following_of<J: PhaseNames>(
 ) -> Following<J>
     requires slot { transaction.slot ≡ phase_owner.slot }
     requires all { phase_owner.out ≡ 0 }
-    requires asked { IsAskedBy transaction.number transaction.body.value.request transaction.pass }
+    requires asked { IsAskedBy transaction.number transaction.body.value.request
+        transaction.pass }
     requires undone { All (AreUndoneBy transaction.age) held }
-    requires may { IfSome sorted.refusal (MayBeRefused transaction.pass.reached transaction.body.value.request) }
-    requires met { sorted.refusal ≡ None → HasMetUnder (shared_of J.opening) transaction.body.value.request transaction.body.value.progress held sorted.found.items }
-    ensures { FollowsUnless sorted.refusal phase_owner (transaction_view transaction) held transaction.body.value.progress sorted.found.items result }
+    requires may { IfSome sorted.refusal
+        (MayBeRefused transaction.pass.reached transaction.body.value.request) }
+    requires met { sorted.refusal ≡ None
+        → HasMetUnder (shared_of J.opening) transaction.body.value.request
+        transaction.body.value.progress held sorted.found.items }
+    ensures { FollowsUnless sorted.refusal phase_owner (flow_view transaction held)
+        sorted.found.items result }
 {
     reached_requests_are_accepted();
     let progress = transaction.take_progress();

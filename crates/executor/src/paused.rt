@@ -2,7 +2,7 @@
 ghost use Rattle.std.specs.Prelude.{◌≡◌, ◌≤◌, ◌+◌, [], All, IfErr, IfOk, IfSome, length, take, vec_capacity};
 ghost use Rattle.partitions.specs.Parts.{shared_of};
 ghost use Rattle.transactions.specs.Works.{CanDo};
-ghost use Rattle.executor.specs.AtOnce.{HaveDoneAtOnce, RunsHere};
+ghost use Rattle.executor.specs.AtOnce.{HaveDoneAtOnce, RunsHere, phase_to_run};
 ghost use Rattle.executor.specs.AgreedPhases.{KeepsWhole};
 ghost use Rattle.transactions.specs.Acting.{AreUndoneBy, CanAllBeUndone};
 ghost use Rattle.executor.specs.PausedView.{paused_view};
@@ -140,7 +140,9 @@ fn do_all<J: PhaseNames>(
     requires few { length held + length works.items ≤ MOST_ACTIONS }
     requires empty { found.items ≡ [] }
     requires room { length works.items ≤ vec_capacity found }
-    ensures done { IfOk result (λ done. HaveDoneAtOnce (shared_of J.opening) age works.items held done.0 done.1.items) }
+    ensures done { IfOk result (λ done.
+        HaveDoneAtOnce (shared_of J.opening) (phase_to_run age works.items held) done.0
+        done.1.items) }
     ensures err { IfErr result (λ back. back ≡ held) }
 {
     let first = held.len();

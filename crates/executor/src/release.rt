@@ -201,7 +201,8 @@ impl<J: PhaseNames> Release<J> {
         held: HeldClaims<J>,
         why: Refusal,
     ) -> Release<J>
-        requires asked { IsAskedBy transaction.number transaction.body.value.request transaction.pass }
+        requires asked { IsAskedBy transaction.number transaction.body.value.request
+            transaction.pass }
         requires may { MayBeRefused transaction.pass.reached transaction.body.value.request why }
         requires undone { All (AreUndoneBy transaction.age) held }
         requires whole { KeepsWhole transaction.slot phase_owner }

@@ -26,6 +26,14 @@ reads_kept s s2 None mid now found fields keeps reads = tt
 reads_kept s s2 (Some xs) None now found fields keeps reads = absurd keeps
 reads_kept s s2 (Some xs) (Some ys) now found fields keeps reads = subst (λ t. ReadsNext default_config s (Some t) now found fields s2) keeps reads
 
+-- a text that is kept, or that continues in the same way, has the same next record
+pub too_long_kept : (before mid now : Option (List ℕ)) → Keeps before mid → Tracks default_config st.StartRecord mid st.StartRecord [] [] now
+    → NextIsTooLong now → NextIsTooLong before
+too_long_kept None mid now keeps tracks long = tt
+too_long_kept (Some xs) None now keeps tracks long = absurd keeps
+too_long_kept (Some xs) (Some ys) None keeps tracks long = absurd tracks
+too_long_kept (Some xs) (Some ys) (Some zs) keeps tracks long = subst (λ t. NextIsTooLong (Some t)) keeps (rw tracks long)
+
 -- the bytes in memory are where a record's reading begins
 starts : (hand : List ℕ) (known : Option (List ℕ)) (x rest : List ℕ) → hand ≡ x ++ rest
     → Tracks default_config st.StartRecord (prepend_known hand known) st.StartRecord [] [] (prepend_known (x ++ rest) known)

@@ -103,6 +103,14 @@ abbrev pub take_columns : List Column → FieldsView → FieldsView
 take_columns [] t = t
 take_columns (column ∷ columns) t = take_columns columns (take_column column t)
 
+-- the next field was taken as one of the column
+abbrev pub TakesColumn : Column → Fields → Fields → Type 0
+TakesColumn column old new = fields_view new ≡ take_column column (fields_view old)
+
+-- the same for several columns
+abbrev pub TakesColumns : List Column → Fields → Fields → Type 0
+TakesColumns columns old new = fields_view new ≡ take_columns columns (fields_view old)
+
 -- fields that are left at the end are too many
 abbrev pub at_end : List (List ℕ) → Option FaultKind → Option FaultKind
 at_end [] fault = fault

@@ -1,5 +1,5 @@
 -- How a field is read: as its value, or as its fault.
-use Rattle.std.specs.Prelude.{ℕ, List, [], ◌∷◌, Bool, false, not, ◌&&◌, ◌==◌, nat_le, Option, Some, Result, Ok, Err, if◌then◌else◌}
+use Rattle.std.specs.Prelude.{◌≡◌, ℕ, List, [], ◌∷◌, Bool, false, not, ◌&&◌, ◌==◌, nat_le, Option, Some, Result, Ok, Err, if◌then◌else◌}
 use Rattle.std.specs.Str.Parse.{digits_value}
 use Rattle.files.specs.declared.fault.FaultKind.{FaultKind}
 use Rattle.files.specs.declared.fault.FaultKind.TheVariants.{WrongShape, NotOfKind, OutOfRange}
@@ -46,3 +46,7 @@ next_read read other (field ∷ rest) fault = value_or (read field) other rest f
 -- the same for the state of a record
 abbrev pub field_read : {X : Type 0} → (List ℕ → Result X FaultKind) → X → FieldsView → X × FieldsView
 field_read read other t = next_read read other t.left t.fault
+
+-- the next field was read: the result is its value, or the stand-in value, and its fault was noted
+abbrev pub ReadsField : {X : Type 0} → (List ℕ → Result X FaultKind) → X → X → Fields → Fields → Type 0
+ReadsField read other result old new = (result, fields_view new) ≡ field_read read other (fields_view old)

@@ -1,5 +1,5 @@
 -- The first fault of a file's records.
-use Rattle.std.specs.Prelude.{◌≡◌, ◌+◌, ℕ, List, [], ◌∷◌, nat_lt, Option, Some, None, if◌then◌else◌}
+use Rattle.std.specs.Prelude.{◌≡◌, ◌+◌, ℕ, List, [], ◌∷◌, nat_lt, Option, Some, None, Result, MatchResult, if◌then◌else◌}
 use Rattle.files.specs.declared.fault.FaultKind.{FaultKind}
 use Rattle.files.specs.declared.fault.FaultKind.TheVariants.{AfterEnd, WrongShape}
 use Rattle.files.specs.declared.fault.FileFault.{FileFault}
@@ -37,3 +37,7 @@ abbrev pub ReportsFault : FileError → Option FileFault → Type 0
 ReportsFault NoMemory first = Unit {0}
 ReportsFault (Failed number) first = Unit {0}
 ReportsFault (File fault) first = first ≡ Some fault
+
+-- without an error there is no fault, and an error reports this fault, which is the first
+abbrev pub ReportsFirst : {X : Type 0} → Result X FileError → Option FileFault → Type 0
+ReportsFirst result first = MatchResult result (λ _. first ≡ None) (λ error. ReportsFault error first)

@@ -1,5 +1,5 @@
 -- The bytes of a line that may be something other than part of a field.
-use Rattle.std.specs.Prelude.{◌≡◌, ◌≤◌, ◌<◌, ◌+◌, ◌-◌, ℕ, Bool, List, length, map, nat_le, slice_index}
+use Rattle.std.specs.Prelude.{◌≡◌, ◌≤◌, ◌<◌, ◌+◌, ◌-◌, ℕ, Bool, List, Option, MatchOption, length, map, nat_le, slice_index}
 use Rattle.std.specs.Simd.Lanes.{chunk, mask_l}
 use Rattle.files.specs.declared.marks.Marks.{Marks}
 
@@ -17,6 +17,10 @@ pub record IsNextMark (bytes : List ℕ) (at place : ℕ) : Type 0 where
   pub inside : place < length bytes
   pub plain : ArePlain bytes at place
   pub mark : slice_index bytes place ≤ 44
+
+-- the index of the next mark from at on was found, or there is none
+abbrev pub FindsMark : List ℕ → ℕ → Option ℕ → Type 0
+FindsMark bytes at found = MatchOption found (ArePlain bytes at (length bytes)) (IsNextMark bytes at)
 
 -- the mask has a bit for each byte from at up to its end: 1 if the byte is a mark
 pub record Reports (bytes : List ℕ) (at : ℕ) (marks : Marks) : Type 0 where

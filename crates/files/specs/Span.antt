@@ -1,5 +1,5 @@
 -- Fields, as spans of the bytes of a record.
-use Rattle.std.specs.Prelude.{ℕ, ◌+◌, List, take, drop, length, map, sum_by}
+use Rattle.std.specs.Prelude.{◌≡◌, ℕ, ◌+◌, List, [], ◌∷◌, ◌++◌, take, drop, length, map, sum_by}
 use Rattle.files.specs.declared.span.Span.{Span}
 
 -- the bytes of a field
@@ -13,3 +13,7 @@ parts bytes spans = map (part bytes) spans
 -- the number of bytes of a record: those of its fields, and one for the end of each
 abbrev pub record_size : List (List ℕ) → ℕ
 record_size fields = sum_by (λ field. length field + 1) fields
+
+-- the field with the bytes from one index up to the other was appended
+abbrev pub AddsSpan : List Span → List Span → ℕ → ℕ → Type 0
+AddsSpan old new from to = new ≡ old ++ (record { from = from; to = to } ∷ [])

@@ -4,6 +4,7 @@ use Rattle.files.specs.Span.{parts}
 use Rattle.files.specs.declared.fault.FaultKind.{FaultKind}
 use Rattle.files.specs.declared.fields.Fields.{Fields}
 use Rattle.files.specs.Fault.{least_fault}
+use Rattle.files.specs.MomentText.{IsMomentText}
 
 -- the fields that are left
 abbrev pub fields_left : Fields → List (List ℕ)
@@ -18,9 +19,18 @@ abbrev pub with_fault : Option FaultKind → FaultKind → FaultKind
 with_fault None kind = kind
 with_fault (Some fault) kind = least_fault fault kind
 
+-- the fault was noted
+abbrev pub Notes : Fields → Fields → FaultKind → Type 0
+Notes old new kind = fault_of new ≡ Some (with_fault (fault_of old) kind)
+
 -- if there is no fault afterwards, there was none before, and this field was taken
 abbrev pub TakesWell : Fields → Fields → List ℕ → Type 0
 TakesWell old new field = fault_of new ≡ None → (fault_of old ≡ None) × (fields_left old ≡ field ∷ fields_left new)
+
+-- the same for a field that spells that moment
+abbrev pub TakesMoment : Fields → Fields → ℕ → Type 0
+TakesMoment old new seconds =
+    fault_of new ≡ None → (fault_of old ≡ None) × ((text : List ℕ) × IsMomentText text seconds × (fields_left old ≡ text ∷ fields_left new))
 
 -- the same for several fields
 abbrev pub TakesAll : Fields → Fields → List (List ℕ) → Type 0

@@ -1,6 +1,8 @@
 -- A record with quotation marks, as far as it has been read.
-use Rattle.std.specs.Prelude.{◌≡◌, ◌≤◌, ◌<◌, true, ◌+◌, ℕ, List, drop, length}
+use Rattle.std.specs.Prelude.{◌≡◌, ◌≤◌, ◌<◌, Bool, true, ◌+◌, ℕ, List, [], ◌∷◌, drop, length}
 use Rattle.std.specs.List.{AllByRecursion}
+use Rattle.csv.specs.Machine as Machine
+use Rattle.csv.specs.Reading.{default_config}
 use Rattle.csv.specs.declared.parser.State.{State as MachineState}
 use Rattle.csv.specs.declared.parser.State.TheVariants as machine
 use Rattle.csv.specs.declared.parser.Action.{Action as MachineAction}
@@ -30,6 +32,10 @@ machine_action action.Copy = act.Copy
 machine_action action.EndField = act.EndField
 machine_action action.EndRecord = act.EndRecord
 
+-- the state after a byte and its action, in that machine
+abbrev pub machine_step : State × Action → MachineState × MachineAction
+machine_step step = (machine_state step.0, machine_action step.1)
+
 -- the fields that have ended
 abbrev pub fields_ended : Unquoted → List Span → List (List ℕ)
 fields_ended u spans = parts u.bytes.items spans
@@ -37,6 +43,12 @@ fields_ended u spans = parts u.bytes.items spans
 -- the bytes of the current field
 abbrev pub field_begun : Unquoted → List ℕ
 field_begun u = drop u.from u.bytes.items
+
+-- the machine that reads CSV gets by this byte from the one record so far to the other; whether the byte ends the record
+abbrev pub Feeds : Unquoted → List Span → ℕ → Unquoted → List Span → Bool → Type 0
+Feeds old old_spans byte new new_spans ends =
+    Machine.Feeds default_config (machine_state old.state) (fields_ended old old_spans) (field_begun old) (byte ∷ [])
+    (machine_state new.state) (fields_ended new new_spans) (field_begun new) ends
 
 -- the number of bytes of the record so far, with one for the end of each field
 abbrev pub size_so_far : Unquoted → List Span → ℕ

@@ -1,5 +1,5 @@
 -- What a writer of records has written.
-use Rattle.std.specs.Prelude.{ℕ, true, List, [], ◌∷◌, ◌++◌}
+use Rattle.std.specs.Prelude.{◌≡◌, ℕ, true, List, [], ◌∷◌, ◌++◌}
 use Rattle.csv.specs.Writing.{default_writer, row_text, with_flexible}
 use Rattle.csv.specs.declared.writer.WriterBuilder.{WriterBuilder}
 
@@ -16,6 +16,10 @@ record_text fields = row_text format fields
 unfoldable pub csv_text : List (List (List ℕ)) → List ℕ
 csv_text [] = []
 csv_text (fields ∷ rows) = record_text fields ++ csv_text rows
+
+-- fields with this property were appended to a record
+abbrev pub AddsFields : List (List ℕ) → List (List ℕ) → (List (List ℕ) → Type 0) → Type 0
+AddsFields old new AreSaid = (fields : List (List ℕ)) × AreSaid fields × (new ≡ old ++ fields)
 
 -- the state of a writer: the text that has not been sent yet, and the number of records, sent or not
 pub record WriterView : Type 0 where

@@ -4,29 +4,29 @@ ghost use Rattle.files.specs.declared.fault.FileError.TheVariants.{NoMemory};
 
 use std::alloc::AllocError;
 use std::fmt;
+use thiserror::Error;
 
 /// A kind of fault in the text of a file. If a record has several faults, the least is reported, in
 /// this order.
-#[derive(Clone, Copy, Debug, PartialEq, Eq)]
+#[derive(Clone, Copy, Debug, Drop, Error, PartialEq, Eq)]
 pub enum FaultKind {
-    /// The header record is missing or not of this format.
+    #[error("the header record is missing or not of this format")]
     NoHeader,
-    /// An unknown letter or a wrong number of fields.
+    #[error("a record has an unknown letter or a wrong number of fields")]
     WrongShape,
-    /// A field is not a number, moment or text of its kind.
+    #[error("a field is not a number, moment or text of its kind")]
     NotOfKind,
-    /// A value is out of its column's range.
+    #[error("a value is out of its column's range")]
     OutOfRange,
-    /// A record is out of order, or a key occurs twice.
+    #[error("a record is out of order, or a key occurs twice")]
     OutOfOrder,
-    /// A rule of the scale is broken: a table has a row too few or too many, or a row refers to a row
-    /// that does not exist.
+    #[error("a table has a row too few or too many, or a row refers to a row that does not exist")]
     ScaleBroken,
-    /// The end record is missing.
+    #[error("the end record is missing")]
     NoEnd,
-    /// A count in the end record is wrong.
+    #[error("a count in the end record is wrong")]
     WrongCount,
-    /// A record follows the end record.
+    #[error("a record follows the end record")]
     AfterEnd,
 }
 
@@ -61,7 +61,7 @@ impl FaultKind {
 }
 
 /// A fault of a file's text, and the record that has it.
-#[derive(Clone, Copy, Debug, PartialEq, Eq)]
+#[derive(Clone, Copy, Debug, Drop, Error, PartialEq, Eq)]
 pub struct FileFault {
     pub kind: FaultKind,
     /// From 1.
@@ -82,13 +82,16 @@ impl fmt::Display for FileFault {
 }
 
 /// Why a file was not read, or was not written to its end.
-#[derive(Clone, Copy, Debug, PartialEq, Eq)]
+#[derive(Clone, Copy, Debug, Drop, Error, PartialEq, Eq)]
 pub enum FileError {
     /// An allocation for the file's contents or for a record failed.
+    #[error("no memory")]
     NoMemory,
     /// Reading or writing failed at the record with this number, from 1.
+    #[error("reading or writing failed at record {0}")]
     Failed(u64),
     /// The file's text has a fault.
+    #[error(transparent)]
     File(FileFault),
 }
 

@@ -1,7 +1,6 @@
-ghost use Rattle.std.specs.Prelude.{◌≡◌, ◌≢◌, ◌↔◌, ◌<◌, ◌≤◌, ℕ, List, [], ◌∷◌, length, drop, IsTrue, None, Some, MatchOption, IfNone, IfSome, IfOk, IfErr, pos};
+ghost use Rattle.std.specs.Prelude.{◌≡◌, ◌≢◌, ◌↔◌, ◌≤◌, ℕ, List, [], ◌∷◌, length, drop, IsTrue, None, MatchOption, IfNone, IfSome, IfOk, IfErr, pos};
 ghost use Rattle.std.specs.Fmt.{decimal, signed_decimal};
 ghost use Rattle.files.specs.Span.{parts};
-ghost use Rattle.files.specs.MomentText.{IsMomentText};
 ghost use Rattle.files.specs.Word.{credit_text, text_read};
 
 use crate::FaultKind;
@@ -27,9 +26,9 @@ pub struct Fields<'r> {
 }
 
 impl<'r> Fields<'r> {
-    ghost use Rattle.files.specs.FieldRead.{field_read, fields_view, whole_read};
+    ghost use Rattle.files.specs.FieldRead.{field_read, fields_view, whole_read, ReadsField};
     ghost use Rattle.files.specs.KindsRead.{count_read, credit_read, moment_read, money_read, optional_read, word_read};
-    ghost use Rattle.files.specs.Taken.{fields_left, fault_of, with_fault, TakesWell};
+    ghost use Rattle.files.specs.Taken.{fields_left, fault_of, Notes, TakesMoment, TakesWell};
 
     /// All fields of the record. None is taken yet, and there is no fault.
     pub(crate) fn new(bytes: &'r [u8], spans: &'r [Span]) -> Self
@@ -75,7 +74,7 @@ impl<'r> Fields<'r> {
 
     /// Notes the fault, unless a lesser one is noted already.
     pub fn note(&mut self, kind: FaultKind)
-        ensures fault { fault_of self.new ≡ Some (with_fault (fault_of self.old) kind) }
+        ensures fault { Notes self.old self.new kind }
         ensures left { fields_left self.new ≡ fields_left self.old }
     {
         self.fault = match self.fault {
@@ -90,7 +89,8 @@ impl<'r> Fields<'r> {
         ensures well { result ≡ None → (fields_left self.old ≡ []) × (fault_of self.old ≡ None) }
         ensures fault { result ≡ fault_of self.new }
         ensures none_left { fields_left self.old ≡ [] → fault_of self.new ≡ fault_of self.old }
-        ensures some_left { fields_left self.old ≢ [] → fault_of self.new ≡ Some (with_fault (fault_of self.old) FaultKind.WrongShape) }
+        ensures some_left { fields_left self.old ≢ []
+            → Notes self.old self.new FaultKind.WrongShape }
     {
         if self.place < self.spans.len() {
             self.note(FaultKind::WrongShape);
@@ -100,7 +100,8 @@ impl<'r> Fields<'r> {
 
     // The next field, without taking it, or `None` if there is none.
     fn peek(&self) -> Option<&'r [u8]>
-        ensures some { IfSome result (λ bytes. fields_left self.now ≡ bytes.now ∷ drop 1 (fields_left self.now)) }
+        ensures some { IfSome result (λ bytes.
+            fields_left self.now ≡ bytes.now ∷ drop 1 (fields_left self.now)) }
         ensures none { IfNone result (fields_left self.now ≡ []) }
     {
         match self.spans.get(self.place) {
@@ -113,8 +114,10 @@ impl<'r> Fields<'r> {
     /// `WrongShape`.
     pub fn bytes(&mut self) -> &'r [u8]
         ensures left { fields_left self.new ≡ drop 1 (fields_left self.old) }
-        ensures none { fields_left self.old ≡ [] → (result.now ≡ []) × (fault_of self.new ≡ Some (with_fault (fault_of self.old) FaultKind.WrongShape)) }
-        ensures some { (field : List ℕ) (rest : List (List ℕ)) → fields_left self.old ≡ field ∷ rest → (result.now ≡ field) × (fault_of self.new ≡ fault_of self.old) }
+        ensures none { fields_left self.old ≡ []
+            → (result.now ≡ []) × Notes self.old self.new FaultKind.WrongShape }
+        ensures some { (field : List ℕ) (rest : List (List ℕ)) → fields_left self.old ≡ field ∷ rest
+            → (result.now ≡ field) × (fault_of self.new ≡ fault_of self.old) }
         ensures taken { TakesWell self.old self.new result.now }
     {
         match self.peek() {
@@ -132,7 +135,7 @@ impl<'r> Fields<'r> {
     /// Takes the next field as text. Returns `""` if there is no field, which is noted as `WrongShape`,
     /// or if its bytes are not UTF-8, which is noted as `NotOfKind`.
     pub fn word(&mut self) -> &'r str
-        ensures field { (result.now, fields_view self.new) ≡ field_read word_read [] (fields_view self.old) }
+        ensures field { ReadsField word_read [] result.now self.old self.new }
         ensures taken { TakesWell self.old self.new result.now }
     {
         let bytes = self.bytes();
@@ -149,7 +152,7 @@ impl<'r> Fields<'r> {
     #[inline(always)]
     pub fn whole(&mut self, low: u32, high: u32) -> u32
         ensures range { low ≤ high → (low ≤ result) × (result ≤ high) }
-        ensures field { (result, fields_view self.new) ≡ field_read (whole_read low high) low (fields_view self.old) }
+        ensures field { ReadsField (whole_read low high) low result self.old self.new }
         ensures taken { TakesWell self.old self.new (decimal result) }
     {
         match read_whole(self.bytes(), u64::from(low), u64::from(high)) {
@@ -164,7 +167,7 @@ impl<'r> Fields<'r> {
     /// Takes the next field as a number in its column's range. Returns `LOW` after a fault.
     pub fn ranged<const LOW: u32, const HIGH: u32>(&mut self) -> Ranged<LOW, HIGH>
         requires { LOW ≤ HIGH }
-        ensures field { (result, fields_view self.new) ≡ field_read (whole_read LOW HIGH) LOW (fields_view self.old) }
+        ensures field { ReadsField (whole_read LOW HIGH) LOW result self.old self.new }
         ensures taken { TakesWell self.old self.new (decimal result) }
     {
         let number = read_ranged(self.bytes());
@@ -173,8 +176,10 @@ impl<'r> Fields<'r> {
 
     /// As `ranged`, but returns `None` if the field is empty or after a fault.
     pub fn optional_ranged<const LOW: u32, const HIGH: u32>(&mut self) -> Option<Ranged<LOW, HIGH>>
-        ensures field { (result, fields_view self.new) ≡ field_read (optional_read (whole_read LOW HIGH)) None (fields_view self.old) }
-        ensures taken { MatchOption result (TakesWell self.old self.new []) (λ number. TakesWell self.old self.new (decimal number)) }
+        ensures field { ReadsField (optional_read (whole_read LOW HIGH)) None result
+            self.old self.new }
+        ensures taken { MatchOption result (TakesWell self.old self.new [])
+            (λ number. TakesWell self.old self.new (decimal number)) }
     {
         let number = read_optional(self.bytes());
         self.or_note(number, None)
@@ -183,7 +188,7 @@ impl<'r> Fields<'r> {
     /// Takes the next field as a text. Returns the empty text after a fault.
     #[inline(always)]
     pub fn text<const WIDTH: usize>(&mut self) -> Text<WIDTH>
-        ensures field { (result, fields_view self.new) ≡ field_read (text_read WIDTH) [] (fields_view self.old) }
+        ensures field { ReadsField (text_read WIDTH) [] result self.old self.new }
         ensures taken { TakesWell self.old self.new result }
     {
         let text = read_text(self.bytes());
@@ -192,7 +197,7 @@ impl<'r> Fields<'r> {
 
     /// Takes the next field as money. Returns 0 after a fault.
     pub fn cents(&mut self) -> Cents
-        ensures field { (result, fields_view self.new) ≡ field_read money_read (pos 0) (fields_view self.old) }
+        ensures field { ReadsField money_read (pos 0) result self.old self.new }
         ensures taken { TakesWell self.old self.new (signed_decimal result) }
     {
         let cents = read_cents(self.bytes());
@@ -201,7 +206,7 @@ impl<'r> Fields<'r> {
 
     /// Takes the next field as a rate. Returns 0 after a fault.
     pub fn rate(&mut self) -> Rate
-        ensures field { (result, fields_view self.new) ≡ field_read (whole_read 0 9999) 0 (fields_view self.old) }
+        ensures field { ReadsField (whole_read 0 9999) 0 result self.old self.new }
         ensures taken { TakesWell self.old self.new (decimal result) }
     {
         let rate = read_rate(self.bytes());
@@ -210,7 +215,7 @@ impl<'r> Fields<'r> {
 
     /// Takes the next field as C_CREDIT. Returns `Good` after a fault.
     pub fn credit(&mut self) -> Credit
-        ensures field { (result, fields_view self.new) ≡ field_read credit_read Credit.Good (fields_view self.old) }
+        ensures field { ReadsField credit_read Credit.Good result self.old self.new }
         ensures taken { TakesWell self.old self.new (credit_text result) }
     {
         let credit = read_credit(self.bytes());
@@ -219,8 +224,8 @@ impl<'r> Fields<'r> {
 
     /// Takes the next field as a moment. Returns the first moment, 1970-01-01T00:00:00, after a fault.
     pub fn moment(&mut self) -> Moment
-        ensures field { (result, fields_view self.new) ≡ field_read moment_read 0 (fields_view self.old) }
-        ensures taken { fault_of self.new ≡ None → (fault_of self.old ≡ None) × ((text : List ℕ) × IsMomentText text result × (fields_left self.old ≡ text ∷ fields_left self.new)) }
+        ensures field { ReadsField moment_read 0 result self.old self.new }
+        ensures taken { TakesMoment self.old self.new result }
     {
         let moment = read_moment(self.bytes());
         self.or_note(moment, Moment::new(0))
@@ -228,9 +233,9 @@ impl<'r> Fields<'r> {
 
     /// As `moment`, but returns `None` if the field is empty or after a fault.
     pub fn optional_moment(&mut self) -> Option<Moment>
-        ensures field { (result, fields_view self.new) ≡ field_read (optional_read moment_read) None (fields_view self.old) }
+        ensures field { ReadsField (optional_read moment_read) None result self.old self.new }
         ensures null { IfNone result (TakesWell self.old self.new []) }
-        ensures moment { IfSome result (λ seconds. fault_of self.new ≡ None → (fault_of self.old ≡ None) × ((text : List ℕ) × IsMomentText text seconds × (fields_left self.old ≡ text ∷ fields_left self.new))) }
+        ensures moment { IfSome result (λ seconds. TakesMoment self.old self.new seconds) }
     {
         let moment = read_optional_moment(self.bytes());
         self.or_note(moment, None)
@@ -238,7 +243,8 @@ impl<'r> Fields<'r> {
 
     /// Takes the next field as a number. Notes `WrongCount` if it is a number other than `count`.
     pub fn expect_count(&mut self, count: u64)
-        ensures field { fields_view self.new ≡ (field_read (count_read count) count (fields_view self.old)).1 }
+        ensures field { fields_view self.new
+            ≡ (field_read (count_read count) count (fields_view self.old)).1 }
         ensures taken { TakesWell self.old self.new (decimal count) }
     {
         let counted = read_count(self.bytes(), count);
@@ -248,8 +254,9 @@ impl<'r> Fields<'r> {
     // The parsed value. If parsing failed, notes the fault and returns `other`.
     fn or_note<T: Drop>(&mut self, parsed: Result<T, FaultKind>, other: T) -> T
         ensures left { fields_left self.new ≡ fields_left self.old }
-        ensures ok { IfOk parsed (λ value. (result ≡ value) × (fault_of self.new ≡ fault_of self.old)) }
-        ensures err { IfErr parsed (λ kind. fault_of self.new ≡ Some (with_fault (fault_of self.old) kind)) }
+        ensures ok { IfOk parsed (λ value.
+            (result ≡ value) × (fault_of self.new ≡ fault_of self.old)) }
+        ensures err { IfErr parsed (λ kind. Notes self.old self.new kind) }
         ensures stands_in { IfErr parsed (λ kind. result ≡ other) }
     {
         match parsed {

@@ -1,5 +1,6 @@
-ghost use Rattle.std.specs.Prelude.{◌≡◌, ◌≤◌, ◌∷◌, [], ◌++◌, IfOk, OnOk};
+ghost use Rattle.std.specs.Prelude.{◌≤◌, IfOk, OnOk};
 ghost use Rattle.files.specs.Line.{BeginsRecord, IsCut, IsMark};
+ghost use Rattle.files.specs.Span.{AddsSpan};
 
 use crate::marks::Marks;
 use crate::span::Span;
@@ -70,7 +71,7 @@ fn mark_of(byte: u8) -> Mark
 
 /// Appends the field with the bytes from `from` up to `to`, exclusive.
 pub fn add(spans: &mut Vec<Span>, from: usize, to: usize) -> Result<(), AllocError>
-    ensures { OnOk result (spans.new.items ≡ spans.old.items ++ (record { from = from; to = to } ∷ [])) }
+    ensures { OnOk result (AddsSpan spans.old.items spans.new.items from to) }
 {
     match spans.push(Span { from, to }) {
         Ok(()) => Ok(()),

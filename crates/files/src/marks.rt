@@ -1,6 +1,6 @@
 //! Finds the bytes of a line that may be something other than part of a field.
-ghost use Rattle.std.specs.Prelude.{◌≡◌, ◌+◌, ◌≤◌, ℕ, List, length, MatchOption, IfSome};
-ghost use Rattle.files.specs.Marks.{ArePlain, IsNextMark, Reports};
+ghost use Rattle.std.specs.Prelude.{◌≡◌, ◌+◌, ◌≤◌, ℕ, List, length, IfSome};
+ghost use Rattle.files.specs.Marks.{FindsMark, Reports};
 
 use std::simd::prelude::*;
 
@@ -28,7 +28,7 @@ impl Marks {
     /// call, and then the index after the previous mark.
     pub fn next(&mut self, bytes: &[u8], at: usize) -> Option<usize>
         requires { Reports bytes.now at self.old }
-        ensures next { MatchOption result (ArePlain bytes.now at (length bytes.now)) (IsNextMark bytes.now at) }
+        ensures next { FindsMark bytes.now at result }
         ensures reports { IfSome result (λ place. Reports bytes.now (place + 1) self.new) }
     {
         let mut place = at;
@@ -67,7 +67,7 @@ impl Marks {
 #[cold]
 #[inline(never)]
 fn next_of_few(bytes: &[u8], at: usize) -> Option<usize>
-    ensures { MatchOption result (ArePlain bytes.now at (length bytes.now)) (IsNextMark bytes.now at) }
+    ensures { FindsMark bytes.now at result }
 {
     for place in at..bytes.len() {
         if bytes[place] <= b',' {

@@ -1,9 +1,9 @@
-ghost use Rattle.std.specs.Prelude.{◌≡◌, ◌↔◌, ℕ, ◌<◌, ◌≤◌, [], ◌∷◌, IfOk, IfErr, IfSome, IsTrue, Some, None, pos};
+ghost use Rattle.std.specs.Prelude.{◌≡◌, ◌↔◌, ℕ, ◌<◌, [], ◌∷◌, IfOk, IfErr, IfSome, IsTrue, None, pos};
 ghost use Rattle.jiff.specs.Names.{iso_datetime_text};
 ghost use Rattle.jiff_fmt.specs.Text.{pad2, date_text, time_text};
 ghost use Rattle.jiff_core.specs.DateTime.{civil_seconds};
 ghost use Rattle.jiff_core.specs.declared.civil.datetime.DateTime.{DateTime as Civil};
-ghost use Rattle.files.specs.MomentText.{Spells, IsMomentText};
+ghost use Rattle.files.specs.MomentText.{Spells, IsMoment, IsMomentText};
 ghost use Rattle.files.specs.KindsRead.{moment_at, moment_read, optional_read};
 
 use crate::FaultKind;
@@ -20,7 +20,8 @@ use std::str::from_utf8;
 pub fn parse_moment(field: &str) -> Result<Moment, FaultKind>
     ensures exact { result ≡ moment_read field.now }
     ensures spelt { IfOk result (λ seconds. (moment : Civil) × Spells moment field.now seconds) }
-    ensures reads { (moment : Civil) (seconds : ℕ) → Spells moment field.now seconds → seconds ≤ 253402300799 → result ≡ Ok seconds }
+    ensures reads { (moment : Civil) (seconds : ℕ) → Spells moment field.now seconds
+        → IsMoment seconds → result ≡ Ok seconds }
     ensures faults { IfErr result (λ kind. kind ≡ FaultKind.NotOfKind) }
 {
     read_moment(field.as_bytes())
@@ -71,7 +72,7 @@ pub(crate) fn read_optional_moment(field: &[u8]) -> Result<Option<Moment>, Fault
 // text is written. `None` implies nothing about the field.
 fn plain_moment(field: &[u8]) -> Option<Moment>
     ensures spelt { IfSome result (λ seconds. IsMomentText field.now seconds) }
-    ensures high { IfSome result (λ seconds. seconds ≤ 253402300799) }
+    ensures high { IfSome result (λ seconds. IsMoment seconds) }
 {
     if field.len() != 19 || field[10] != b'T' {
         return None;
@@ -124,7 +125,8 @@ fn two_digits(tens: u8, ones: u8) -> Option<u64>
 // Whether the field is the text that is written for the moment, and the moment has no fraction of a
 // second.
 fn is_spelt(field: &str, moment: DateTime) -> bool
-    ensures { IsTrue result ↔ ((iso_datetime_text moment ≡ field.now) × (moment.time.subsec_nanosecond ≡ 0)) }
+    ensures { IsTrue result
+        ↔ ((iso_datetime_text moment ≡ field.now) × (moment.time.subsec_nanosecond ≡ 0)) }
 {
     let spelling = DateTimePrinter::new().datetime_text(moment.to_plain());
     spelling.as_str() == field && moment.subsec_nanosecond() == 0
@@ -133,7 +135,8 @@ fn is_spelt(field: &str, moment: DateTime) -> bool
 // The moment of a date and time, which is before the year 10000. Returns `NotOfKind` before 1970.
 fn seconds_of(moment: DateTime) -> Result<Moment, FaultKind>
     ensures exact { result ≡ moment_at (civil_seconds moment) }
-    ensures reads { (seconds : ℕ) → (result ≡ Ok seconds) ↔ ((civil_seconds moment ≡ pos seconds) × (seconds ≤ 253402300799)) }
+    ensures reads { (seconds : ℕ) → (result ≡ Ok seconds)
+        ↔ ((civil_seconds moment ≡ pos seconds) × IsMoment seconds) }
     ensures faults { IfErr result (λ kind. kind ≡ FaultKind.NotOfKind) }
 {
     match u64::try_from(moment.to_plain().to_second()) {

@@ -80,7 +80,8 @@ impl NewRecord {
 
     /// Appends a field with what the value prints. After an error, the record has no fields.
     pub fn push_display<D: Display>(&mut self, value: &D) -> Result<(), AllocError>
-        ensures added { OnOk result (IfSome (D.output value.now) (λ words. self.new ≡ self.old ++ (words ∷ []))) }
+        ensures added { OnOk result (IfSome (D.output value.now)
+            (λ words. self.new ≡ self.old ++ (words ∷ []))) }
         ensures err { OnErr result (self.new ≡ []) }
     {
         self.words.clear();

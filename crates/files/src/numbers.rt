@@ -1,9 +1,10 @@
-ghost use Rattle.std.specs.Prelude.{◌≡◌, ◌↔◌, ℕ, ℤ, ◌≤◌, ◌<◌, ◌⊎◌, ◌+◌, ◌^◌, false, IfOk, IfErr, IfSome};
+ghost use Rattle.std.specs.Prelude.{◌≡◌, ◌↔◌, ℕ, ℤ, ◌≤◌, ◌<◌, ◌+◌, ◌^◌, false, IfOk, IfErr, IfSome};
 ghost use Rattle.std.specs.Char.{is_ascii_digit};
 ghost use Rattle.std.specs.Fmt.{decimal, signed_decimal};
 ghost use Rattle.std.specs.List.{list_all};
 ghost use Rattle.amounts.specs.Money.{IsMoney};
-ghost use Rattle.files.specs.Number.{is_positive, is_number};
+ghost use Rattle.files.specs.Number.{is_positive, is_number, ReadsWhole};
+ghost use Rattle.files.specs.Failure.{IsOfField};
 ghost use Rattle.files.specs.FieldRead.{whole_read};
 ghost use Rattle.files.specs.KindsRead.{money_read, count_read, optional_read};
 
@@ -18,9 +19,9 @@ use std::str::from_utf8;
 pub fn parse_whole(field: &str, low: u64, high: u64) -> Result<u64, FaultKind>
     ensures value { IfOk result (λ number. decimal number ≡ field.now) }
     ensures range { IfOk result (λ number. (low ≤ number) × (number ≤ high)) }
-    ensures reads { (number : ℕ) → decimal number ≡ field.now → low ≤ number → number ≤ high → result ≡ Ok number }
+    ensures reads { ReadsWhole low high field.now result }
     ensures not_of_kind { (result ≡ Err FaultKind.NotOfKind) ↔ (is_number field.now ≡ false) }
-    ensures faults { IfErr result (λ kind. (kind ≡ FaultKind.NotOfKind) ⊎ (kind ≡ FaultKind.OutOfRange)) }
+    ensures faults { IfErr result IsOfField }
 {
     read_whole(field.as_bytes(), low, high)
 }
@@ -29,9 +30,9 @@ pub fn parse_whole(field: &str, low: u64, high: u64) -> Result<u64, FaultKind>
 pub(crate) fn read_whole(field: &[u8], low: u64, high: u64) -> Result<u64, FaultKind>
     ensures value { IfOk result (λ number. decimal number ≡ field.now) }
     ensures range { IfOk result (λ number. (low ≤ number) × (number ≤ high)) }
-    ensures reads { (number : ℕ) → decimal number ≡ field.now → low ≤ number → number ≤ high → result ≡ Ok number }
+    ensures reads { ReadsWhole low high field.now result }
     ensures not_of_kind { (result ≡ Err FaultKind.NotOfKind) ↔ (is_number field.now ≡ false) }
-    ensures faults { IfErr result (λ kind. (kind ≡ FaultKind.NotOfKind) ⊎ (kind ≡ FaultKind.OutOfRange)) }
+    ensures faults { IfErr result IsOfField }
 {
     match short_number(field) {
         Some(number) => within(number, low, high),
@@ -88,9 +89,9 @@ pub(crate) fn digit_of(byte: u8) -> Option<u64>
 fn read_any(field: &[u8], low: u64, high: u64) -> Result<u64, FaultKind>
     ensures value { IfOk result (λ number. decimal number ≡ field.now) }
     ensures range { IfOk result (λ number. (low ≤ number) × (number ≤ high)) }
-    ensures reads { (number : ℕ) → decimal number ≡ field.now → low ≤ number → number ≤ high → result ≡ Ok number }
+    ensures reads { ReadsWhole low high field.now result }
     ensures not_of_kind { (result ≡ Err FaultKind.NotOfKind) ↔ (is_number field.now ≡ false) }
-    ensures faults { IfErr result (λ kind. (kind ≡ FaultKind.NotOfKind) ⊎ (kind ≡ FaultKind.OutOfRange)) }
+    ensures faults { IfErr result IsOfField }
 {
     if !is_number(field) {
         return Err(FaultKind::NotOfKind);
@@ -110,9 +111,9 @@ pub(crate) fn read_ranged<const LOW: u32, const HIGH: u32>(
 ) -> Result<Ranged<LOW, HIGH>, FaultKind>
     ensures value { IfOk result (λ number. decimal number ≡ field.now) }
     ensures range { IfOk result (λ number. (LOW ≤ number) × (number ≤ HIGH)) }
-    ensures reads { (number : ℕ) → decimal number ≡ field.now → LOW ≤ number → number ≤ HIGH → result ≡ Ok number }
+    ensures reads { ReadsWhole LOW HIGH field.now result }
     ensures not_of_kind { (result ≡ Err FaultKind.NotOfKind) ↔ (is_number field.now ≡ false) }
-    ensures faults { IfErr result (λ kind. (kind ≡ FaultKind.NotOfKind) ⊎ (kind ≡ FaultKind.OutOfRange)) }
+    ensures faults { IfErr result IsOfField }
 {
     match read_whole(field, u64::from(LOW), u64::from(HIGH)) {
         Ok(number) => Ok(Ranged::new(number as u32)),
@@ -124,9 +125,10 @@ pub(crate) fn read_ranged<const LOW: u32, const HIGH: u32>(
 pub(crate) fn read_rate(field: &[u8]) -> Result<Rate, FaultKind>
     ensures value { IfOk result (λ number. decimal number ≡ field.now) }
     ensures range { IfOk result (λ number. (0 ≤ number) × (number ≤ 9999)) }
-    ensures reads { (number : ℕ) → decimal number ≡ field.now → number < 10000 → result ≡ Ok number }
+    ensures reads { (number : ℕ) → decimal number ≡ field.now → number < 10000
+        → result ≡ Ok number }
     ensures not_of_kind { (result ≡ Err FaultKind.NotOfKind) ↔ (is_number field.now ≡ false) }
-    ensures faults { IfErr result (λ kind. (kind ≡ FaultKind.NotOfKind) ⊎ (kind ≡ FaultKind.OutOfRange)) }
+    ensures faults { IfErr result IsOfField }
 {
     match read_whole(field, 0, 9_999) {
         Ok(number) => Ok(Rate::new(number as u16)),
@@ -166,9 +168,10 @@ pub(crate) fn read_count(field: &[u8], count: u64) -> Result<u64, FaultKind>
 pub fn parse_cents(field: &str) -> Result<Cents, FaultKind>
     ensures exact { result ≡ money_read field.now }
     ensures value { IfOk result (λ cents. signed_decimal cents ≡ field.now) }
-    ensures reads { (cents : ℤ) → signed_decimal cents ≡ field.now → IsMoney cents → result ≡ Ok cents }
+    ensures reads { (cents : ℤ) → signed_decimal cents ≡ field.now → IsMoney cents
+        → result ≡ Ok cents }
     ensures not_of_kind { (result ≡ Err FaultKind.NotOfKind) ↔ (is_number field.now ≡ false) }
-    ensures faults { IfErr result (λ kind. (kind ≡ FaultKind.NotOfKind) ⊎ (kind ≡ FaultKind.OutOfRange)) }
+    ensures faults { IfErr result IsOfField }
 {
     read_cents(field.as_bytes())
 }
@@ -177,7 +180,7 @@ pub fn parse_cents(field: &str) -> Result<Cents, FaultKind>
 pub(crate) fn read_cents(field: &[u8]) -> Result<Cents, FaultKind>
     ensures exact { result ≡ money_read field.now }
     ensures not_of_kind { (result ≡ Err FaultKind.NotOfKind) ↔ (is_number field.now ≡ false) }
-    ensures faults { IfErr result (λ kind. (kind ≡ FaultKind.NotOfKind) ⊎ (kind ≡ FaultKind.OutOfRange)) }
+    ensures faults { IfErr result IsOfField }
 {
     match from_utf8(field) {
         Ok(word) => cents_of(word),
@@ -189,7 +192,7 @@ pub(crate) fn read_cents(field: &[u8]) -> Result<Cents, FaultKind>
 fn cents_of(field: &str) -> Result<Cents, FaultKind>
     ensures exact { result ≡ money_read field.now }
     ensures not_of_kind { (result ≡ Err FaultKind.NotOfKind) ↔ (is_number field.now ≡ false) }
-    ensures faults { IfErr result (λ kind. (kind ≡ FaultKind.NotOfKind) ⊎ (kind ≡ FaultKind.OutOfRange)) }
+    ensures faults { IfErr result IsOfField }
 {
     if !is_number(field.as_bytes()) {
         return Err(FaultKind::NotOfKind);

@@ -1,7 +1,8 @@
-ghost use Rattle.std.specs.Prelude.{◌≡◌, ◌⊎◌, ◌+◌, ◌-◌, ◌^◌, ◌<◌, ◌++◌, [], false, length, IfOk, IfErr, OnOk, OnErr};
+ghost use Rattle.std.specs.Prelude.{◌≡◌, ◌<◌, ◌++◌, [], false, length, IfOk, IfErr, OnOk, OnErr};
 ghost use Rattle.csv.specs.Records.{fields_of, text_of};
 ghost use Rattle.csv.specs.Writing.{needs_quotes};
-ghost use Rattle.files.specs.Failure.{IsOfWriting};
+ghost use Rattle.files.specs.Failure.{IsFailureAt, IsOfWriting};
+ghost use Rattle.files.specs.Place.{IsNextNumber};
 ghost use Rattle.files.specs.Sending.{Sends, Begins};
 ghost use Rattle.files.specs.Written.{format, record_text};
 
@@ -52,11 +53,13 @@ impl RecordWriter {
     /// may concern earlier records. After an error, the sink has received a prefix of the text written
     /// so far, including this record, and the writer has nothing more to send.
     pub fn write<W: Write>(&mut self, sink: &mut W, row: &NewRecord) -> Result<(), FileError>
-        ensures sent { OnOk result (Sends (W.contents sink.old) (W.contents sink.new) (self.old.text ++ record_text row.now) self.new.text) }
-        ensures begun { OnErr result (Begins (W.contents sink.old) (W.contents sink.new) (self.old.text ++ record_text row.now)) }
+        ensures sent { OnOk result (Sends (W.contents sink.old) (W.contents sink.new)
+            (self.old.text ++ record_text row.now) self.new.text) }
+        ensures begun { OnErr result (Begins (W.contents sink.old) (W.contents sink.new)
+            (self.old.text ++ record_text row.now)) }
         ensures none { OnErr result (self.new.text ≡ []) }
-        ensures number { self.old.number < 2 ^ 64 - 1 → self.new.number ≡ self.old.number + 1 }
-        ensures faults { IfErr result (λ fault. (fault ≡ FileError.NoMemory) ⊎ (fault ≡ FileError.Failed self.new.number)) }
+        ensures number { IsNextNumber self.old.number self.new.number }
+        ensures faults { IfErr result (IsFailureAt self.new.number) }
         ensures writing { IfErr result IsOfWriting }
     {
         self.number = self.number.saturating_add(1);
@@ -70,9 +73,11 @@ impl RecordWriter {
     /// Sends all remaining text to the sink and flushes it. Its errors are those of `write`, with the
     /// number of the last record. After an error, the sink has received a prefix of what was written.
     pub fn finish<W: Write>(mut self, sink: &mut W) -> Result<(), FileError>
-        ensures sent { OnOk result (Sends (W.contents sink.old) (W.contents sink.new) self.text []) }
-        ensures begun { OnErr result (Begins (W.contents sink.old) (W.contents sink.new) self.text) }
-        ensures faults { IfErr result (λ fault. (fault ≡ FileError.NoMemory) ⊎ (fault ≡ FileError.Failed self.number)) }
+        ensures sent { OnOk result
+            (Sends (W.contents sink.old) (W.contents sink.new) self.text []) }
+        ensures begun { OnErr result
+            (Begins (W.contents sink.old) (W.contents sink.new) self.text) }
+        ensures faults { IfErr result (IsFailureAt self.number) }
         ensures writing { IfErr result IsOfWriting }
     {
         self.send_all(sink)?;
@@ -84,9 +89,11 @@ impl RecordWriter {
 
     // Sends the gathered text.
     fn send_all<W: Write>(&mut self, sink: &mut W) -> Result<(), FileError>
-        ensures sent { OnOk result (Sends (W.contents sink.old) (W.contents sink.new) self.old.text self.new.text) }
+        ensures sent { OnOk result
+            (Sends (W.contents sink.old) (W.contents sink.new) self.old.text self.new.text) }
         ensures none { self.new.text ≡ [] }
-        ensures begun { OnErr result (Begins (W.contents sink.old) (W.contents sink.new) self.old.text) }
+        ensures begun { OnErr result
+            (Begins (W.contents sink.old) (W.contents sink.new) self.old.text) }
         ensures number { self.new.number ≡ self.old.number }
         ensures faults { IfErr result (λ fault. fault ≡ FileError.Failed self.old.number) }
         ensures writing { IfErr result IsOfWriting }
@@ -101,7 +108,8 @@ impl RecordWriter {
 
     // Gathers the record. After a failed allocation, nothing is gathered any more.
     fn add(&mut self, row: &ByteRecord) -> Result<(), AllocError>
-        ensures added { OnOk result (self.new.text ≡ self.old.text ++ record_text (fields_of row.now)) }
+        ensures added { OnOk result
+            (self.new.text ≡ self.old.text ++ record_text (fields_of row.now)) }
         ensures none { OnErr result (self.new.text ≡ []) }
         ensures number { self.new.number ≡ self.old.number }
     {

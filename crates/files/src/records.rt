@@ -1,13 +1,11 @@
-ghost use Rattle.std.specs.Prelude.{◌≡◌, ◌≢◌, ◌≤◌, ◌⊎◌, ◌+◌, ◌-◌, ◌^◌, ◌<◌, ◌↔◌, ◌++◌, ℕ, List, [], length, drop, Option, Some, None, true, false, IfOk, IfErr, OnOk, IsTrue, MatchResult};
+ghost use Rattle.std.specs.Prelude.{◌≡◌, ℕ, List, [], Option, None, true, false, IfOk, IfErr, OnOk};
 ghost use Rattle.std.specs.Io.KnownBytes.{IsAtEnd};
-ghost use Rattle.csv.specs.Reading.{default_config};
-ghost use Rattle.csv.specs.declared.parser.State.TheVariants as state;
-ghost use Rattle.csv.proofs.ReadFacts.{Tracks};
-ghost use Rattle.files.specs.Failure.{IsNoFailure, IsOfText};
+ghost use Rattle.std.specs.Option.{ForSome};
+ghost use Rattle.files.specs.Failure.{IfTooLong, IsNoFailure, IsOfText, LastsThrough};
 ghost use Rattle.files.specs.Taken.{fields_left, fault_of};
 ghost use Rattle.files.specs.Line.{BeginsRecord, IsOpen};
-ghost use Rattle.files.specs.Source.{ahead, at_hand, is_begun};
-ghost use Rattle.files.specs.Unquoted.{machine_state, fields_ended, field_begun, IsInTurn};
+ghost use Rattle.files.specs.Source.{ahead, at_hand, is_begun, EndsUnlessFull};
+ghost use Rattle.files.specs.Unquoted.{IsInTurn};
 
 use crate::input::Input;
 use crate::line::{Line, add, cut_line};
@@ -34,14 +32,16 @@ pub struct Records<R> {
 }
 
 impl<R: Input> Records<R> {
-    ghost use Rattle.files.specs.Place.{input, record_number, record_fields, text_left, file_fault, IsCsv, HasRead, HasReadOn, HasLeft, HasLeftAfter, IsKept, IsNext, FirstIsTooLong, NextIsTooLong};
+    ghost use Rattle.files.specs.Place.{Rows, input, record_number, record_fields, text_left, file_fault, ForRecords, IsCsv, HasRead, HasLeft, IsErrorAt, IsKept, IsNext, IsNextNumber, IsUnquoting, NextIsTooLong, NextLeftIsTooLong, ReadsOn, TakesNext};
 
     /// The records of `source`, before the first one.
     pub fn new(alloc: Global, source: R) -> Self
         ensures number { record_number result ≡ 0 }
         ensures input { input result ≡ source }
-        ensures none_read { (text : List ℕ) → R.remaining source ≡ Some text → HasRead R.remaining text [] result }
-        ensures all_left { (text : List ℕ) (rows : List (List (List ℕ))) → R.remaining source ≡ Some text → IsCsv text rows → HasLeft R.remaining rows result }
+        ensures none_read { ForSome (R.remaining source)
+            (λ text. HasRead R.remaining text [] result) }
+        ensures all_left { ForRecords (R.remaining source)
+            (λ rows. HasLeft R.remaining rows result) }
     {
         Records {
             source: Source::new(source),
@@ -59,13 +59,15 @@ impl<R: Input> Records<R> {
     /// around them, plus one byte for the end of each. Returns `NoMemory` if an allocation fails. After
     /// an error, nothing is guaranteed about later records.
     pub fn advance(&mut self) -> Result<bool, FileError>
-        ensures reads { IfOk result (λ found. (text : List ℕ) (rows : List (List (List ℕ))) → HasRead R.remaining text rows self.old → HasReadOn R.remaining text rows found self.new) }
-        ensures reads_next { IfOk result (λ found. (rows : List (List (List ℕ))) → HasLeft R.remaining rows self.old → HasLeftAfter R.remaining rows found self.new) }
+        ensures reads { IfOk result (λ found. ReadsOn R.remaining found self.old self.new) }
+        ensures reads_next { IfOk result (λ found. TakesNext R.remaining found self.old self.new) }
         ensures kept { IfOk result (λ found. found ≡ true → IsKept (record_fields self.new)) }
-        ensures number { record_number self.old < 2 ^ 64 - 1 → record_number self.new ≡ record_number self.old + 1 }
-        ensures faults { IfErr result (λ fault. (fault ≡ FileError.NoMemory) ⊎ (fault ≡ FileError.Failed (record_number self.new)) ⊎ (fault ≡ file_fault FaultKind.WrongShape (record_number self.new))) }
-        ensures too_long { IfErr result (λ fault. fault ≡ file_fault FaultKind.WrongShape (record_number self.new) → (rows : List (List (List ℕ))) → HasLeft R.remaining rows self.old → FirstIsTooLong rows) }
-        ensures lasts { R.lasts (input self.old) → MatchResult result (λ _. R.lasts (input self.new)) IsOfText }
+        ensures number { IsNextNumber (record_number self.old) (record_number self.new) }
+        ensures faults { IfErr result (IsErrorAt FaultKind.WrongShape (record_number self.new)) }
+        ensures too_long { IfErr result (λ fault.
+            fault ≡ file_fault FaultKind.WrongShape (record_number self.new)
+            → NextLeftIsTooLong R.remaining self.old) }
+        ensures lasts { LastsThrough R.lasts (input self.old) (input self.new) result IsOfText }
     {
         match self.next_record() {
             Ok(found) => Ok(found),
@@ -78,12 +80,16 @@ impl<R: Input> Records<R> {
     /// Checks that no record is left. If there is one, returns the fault `AfterEnd`, whatever the
     /// record contains. `NoMemory` and `Failed` are returned as by `advance`.
     pub fn expect_end(&mut self) -> Result<(), FileError>
-        ensures reads { OnOk result ((text : List ℕ) (rows : List (List (List ℕ))) → HasRead R.remaining text rows self.old → IsCsv text rows) }
-        ensures none_left { OnOk result ((rows : List (List (List ℕ))) → HasLeft R.remaining rows self.old → rows ≡ []) }
-        ensures number { record_number self.old < 2 ^ 64 - 1 → record_number self.new ≡ record_number self.old + 1 }
-        ensures faults { IfErr result (λ fault. (fault ≡ FileError.NoMemory) ⊎ (fault ≡ FileError.Failed (record_number self.new)) ⊎ (fault ≡ file_fault FaultKind.AfterEnd (record_number self.new))) }
-        ensures after_end { IfErr result (λ fault. fault ≡ file_fault FaultKind.AfterEnd (record_number self.new) → HasLeft R.remaining [] self.old → ⊥) }
-        ensures lasts { R.lasts (input self.old) → MatchResult result (λ _. R.lasts (input self.new)) IsOfText }
+        ensures reads { OnOk result ((text : List ℕ) (rows : Rows)
+            → HasRead R.remaining text rows self.old → IsCsv text rows) }
+        ensures none_left { OnOk result ((rows : Rows)
+            → HasLeft R.remaining rows self.old → rows ≡ []) }
+        ensures number { IsNextNumber (record_number self.old) (record_number self.new) }
+        ensures faults { IfErr result (IsErrorAt FaultKind.AfterEnd (record_number self.new)) }
+        ensures after_end { IfErr result (λ fault.
+            fault ≡ file_fault FaultKind.AfterEnd (record_number self.new)
+            → HasLeft R.remaining [] self.old → ⊥) }
+        ensures lasts { LastsThrough R.lasts (input self.old) (input self.new) result IsOfText }
     {
         match self.next_record() {
             Ok(false) => Ok(()),
@@ -96,10 +102,11 @@ impl<R: Input> Records<R> {
 
     // Reads the next record.
     fn next_record(&mut self) -> Result<bool, Stop>
-        ensures next { IfOk result (λ found. IsNext R.remaining (text_left R.remaining self.old) found self.new) }
-        ensures too_long { IfErr result (λ stop. stop ≡ Stop.TooLong → NextIsTooLong (text_left R.remaining self.old)) }
-        ensures lasts { R.lasts (input self.old) → MatchResult result (λ _. R.lasts (input self.new)) IsNoFailure }
-        ensures number { record_number self.old < 2 ^ 64 - 1 → record_number self.new ≡ record_number self.old + 1 }
+        ensures next { IfOk result (λ found.
+            IsNext R.remaining (text_left R.remaining self.old) found self.new) }
+        ensures too_long { IfTooLong result (NextIsTooLong (text_left R.remaining self.old)) }
+        ensures lasts { LastsThrough R.lasts (input self.old) (input self.new) result IsNoFailure }
+        ensures number { IsNextNumber (record_number self.old) (record_number self.new) }
     {
         self.number = self.number.saturating_add(1);
         self.leave();
@@ -128,9 +135,10 @@ impl<R: Input> Records<R> {
         requires first { BeginsRecord (at_hand self.old.source) }
         requires none_taken { self.old.taken ≡ 0 }
         requires begun { is_begun self.old.source ≡ true }
-        ensures next { IfOk result (λ found. IsNext R.remaining (ahead R.remaining self.old.source) found self.new) }
-        ensures too_long { IfErr result (λ stop. stop ≡ Stop.TooLong → NextIsTooLong (ahead R.remaining self.old.source)) }
-        ensures lasts { R.lasts (input self.old) → MatchResult result (λ _. R.lasts (input self.new)) IsNoFailure }
+        ensures next { IfOk result (λ found.
+            IsNext R.remaining (ahead R.remaining self.old.source) found self.new) }
+        ensures too_long { IfTooLong result (NextIsTooLong (ahead R.remaining self.old.source)) }
+        ensures lasts { LastsThrough R.lasts (input self.old) (input self.new) result IsNoFailure }
         ensures number { record_number self.new ≡ record_number self.old }
     {
         self.is_quoted = false;
@@ -156,10 +164,11 @@ impl<R: Input> Records<R> {
         requires open { IsOpen (at_hand self.old.source) self.old.spans.items from }
         requires plain { self.old.is_quoted ≡ false }
         requires begun { is_begun self.old.source ≡ true }
-        requires ended { length (at_hand self.old.source) < 65536 → IsAtEnd (R.remaining self.old.source.reader) }
-        ensures next { IfOk result (λ found. IsNext R.remaining (ahead R.remaining self.old.source) found self.new) }
-        ensures too_long { IfErr result (λ stop. stop ≡ Stop.TooLong → NextIsTooLong (ahead R.remaining self.old.source)) }
-        ensures lasts { R.lasts (input self.old) → MatchResult result (λ _. R.lasts (input self.new)) IsNoFailure }
+        requires ended { EndsUnlessFull R.remaining self.old.source }
+        ensures next { IfOk result (λ found.
+            IsNext R.remaining (ahead R.remaining self.old.source) found self.new) }
+        ensures too_long { IfTooLong result (NextIsTooLong (ahead R.remaining self.old.source)) }
+        ensures lasts { LastsThrough R.lasts (input self.old) (input self.new) result IsNoFailure }
         ensures number { record_number self.new ≡ record_number self.old }
     {
         if self.source.is_full() {
@@ -175,9 +184,10 @@ impl<R: Input> Records<R> {
     fn unquote(&mut self) -> Result<bool, Stop>
         requires none_taken { self.old.taken ≡ 0 }
         requires begun { is_begun self.old.source ≡ true }
-        ensures next { IfOk result (λ found. IsNext R.remaining (ahead R.remaining self.old.source) found self.new) }
-        ensures too_long { IfErr result (λ stop. stop ≡ Stop.TooLong → NextIsTooLong (ahead R.remaining self.old.source)) }
-        ensures lasts { R.lasts (input self.old) → MatchResult result (λ _. R.lasts (input self.new)) IsNoFailure }
+        ensures next { IfOk result (λ found.
+            IsNext R.remaining (ahead R.remaining self.old.source) found self.new) }
+        ensures too_long { IfTooLong result (NextIsTooLong (ahead R.remaining self.old.source)) }
+        ensures lasts { LastsThrough R.lasts (input self.old) (input self.new) result IsNoFailure }
         ensures number { record_number self.new ≡ record_number self.old }
     {
         self.is_quoted = true;
@@ -207,9 +217,11 @@ impl<R: Input> Records<R> {
         requires begun { is_begun self.old.source ≡ true }
         requires none_left { at_hand self.old.source ≡ [] }
         requires ended { IsAtEnd (R.remaining self.old.source.reader) }
-        ensures next { IfOk result (λ found. (before : Option (List ℕ)) → Tracks default_config state.StartRecord before (machine_state self.old.unquoted.state) (fields_ended self.old.unquoted self.old.spans.items) (field_begun self.old.unquoted) (ahead R.remaining self.old.source) → IsNext R.remaining before found self.new) }
-        ensures too_long { IfErr result (λ stop. stop ≡ Stop.TooLong → (before : Option (List ℕ)) → Tracks default_config state.StartRecord before (machine_state self.old.unquoted.state) (fields_ended self.old.unquoted self.old.spans.items) (field_begun self.old.unquoted) (ahead R.remaining self.old.source) → NextIsTooLong before) }
-        ensures lasts { R.lasts (input self.old) → MatchResult result (λ _. R.lasts (input self.new)) IsNoFailure }
+        ensures next { IfOk result (λ found. (before : Option (List ℕ))
+            → IsUnquoting R.remaining before self.old → IsNext R.remaining before found self.new) }
+        ensures too_long { IfTooLong result ((before : Option (List ℕ))
+            → IsUnquoting R.remaining before self.old → NextIsTooLong before) }
+        ensures lasts { LastsThrough R.lasts (input self.old) (input self.new) result IsNoFailure }
         ensures number { record_number self.new ≡ record_number self.old }
     {
         if self.unquoted.is_too_long(&self.spans) {

@@ -1,11 +1,9 @@
-ghost use Rattle.std.specs.Prelude.{◌≡◌, ◌≢◌, ◌↔◌, IsTrue, ℕ, ◌<◌, ◌≤◌, List, [], ◌∷◌, ◌++◌, drop, length, Some, true, false, IfOk, IfSome, IfNone, IfErr, OnOk, option_map, IsOk, MatchResult};
-ghost use Rattle.std.specs.Io.KnownBytes.{Keeps, Consumes, IsAtEnd, prepend_known};
-ghost use Rattle.csv.specs.Reading.{default_config, strip_bom};
-ghost use Rattle.csv.specs.declared.parser.State.TheVariants as state;
-ghost use Rattle.csv.proofs.ReadFacts.{Tracks};
+ghost use Rattle.std.specs.Prelude.{◌≡◌, ◌≢◌, ◌↔◌, IsTrue, ℕ, ◌<◌, ◌≤◌, List, [], ◌∷◌, ◌++◌, drop, length, true, false, IfOk, IfSome, IfNone, IfErr, OnOk, option_map, IsOk};
+ghost use Rattle.std.specs.Io.KnownBytes.{Keeps, IsAtEnd};
+ghost use Rattle.csv.specs.Reading.{strip_bom};
 ghost use Rattle.files.specs.ByteOrder.{is_marked};
 ghost use Rattle.files.specs.Line.{BeginsRecord, IsFirst};
-ghost use Rattle.files.specs.Failure.{IsNoFailure};
+ghost use Rattle.files.specs.Failure.{IsNoFailure, LastsThrough};
 
 use crate::input::Input;
 use crate::stop::{Stop, Unreadable};
@@ -21,7 +19,7 @@ pub struct Source<R> {
 }
 
 impl<R: Input> Source<R> {
-    ghost use Rattle.files.specs.Source.{at_hand, ahead, unread, is_begun};
+    ghost use Rattle.files.specs.Source.{at_hand, ahead, unread, is_begun, EndsUnlessFull, KeepsAhead, KeepsNextRecord};
 
     /// All text that `reader` returns.
     pub fn new(reader: R) -> Self
@@ -77,9 +75,11 @@ impl<R: Input> Source<R> {
     /// Reads more bytes into memory and returns whether there were any. There are none at the end of
     /// the file, or if there is no room.
     pub fn more(&mut self) -> Result<bool, Unreadable>
-        ensures keeps { OnOk result (Keeps (ahead R.remaining self.old) (ahead R.remaining self.new)) }
-        ensures grows { IfOk result (λ came. (bytes : List ℕ) × (at_hand self.new ≡ at_hand self.old ++ bytes) × (came ≡ true → 0 < length bytes)) }
-        ensures none { IfOk result (λ came. came ≡ false → (at_hand self.new ≡ at_hand self.old) × (length (at_hand self.new) < 65536 → IsAtEnd (R.remaining self.new.reader))) }
+        ensures keeps { OnOk result (KeepsAhead R.remaining self.old self.new) }
+        ensures grows { IfOk result (λ came. (bytes : List ℕ)
+            × (at_hand self.new ≡ at_hand self.old ++ bytes) × (came ≡ true → 0 < length bytes)) }
+        ensures none { IfOk result (λ came. came ≡ false
+            → (at_hand self.new ≡ at_hand self.old) × EndsUnlessFull R.remaining self.new) }
         ensures begun { is_begun self.new ≡ is_begun self.old }
         ensures lasts { R.lasts self.old.reader → IsOk result × R.lasts self.new.reader }
     {
@@ -92,7 +92,8 @@ impl<R: Input> Source<R> {
 
     /// Skips a byte order mark. This happens once, before anything is taken.
     pub fn begin(&mut self) -> Result<(), Unreadable>
-        ensures unread { OnOk result (Keeps (unread R.remaining self.old) (ahead R.remaining self.new)) }
+        ensures unread { OnOk result
+            (Keeps (unread R.remaining self.old) (ahead R.remaining self.new)) }
         ensures begun { OnOk result (is_begun self.new ≡ true) }
         ensures lasts { R.lasts self.old.reader → IsOk result × R.lasts self.new.reader }
     {
@@ -110,12 +111,13 @@ impl<R: Input> Source<R> {
     /// Takes line ends up to the next record. Returns whether there is a record; its first byte is in
     /// memory then. Returns `NoMemory` if there are more line ends than can be counted.
     pub fn skip_line_ends(&mut self) -> Result<bool, Stop>
-        ensures tracks { OnOk result (Tracks default_config state.StartRecord (ahead R.remaining self.old) state.StartRecord [] [] (ahead R.remaining self.new)) }
+        ensures tracks { OnOk result (KeepsNextRecord R.remaining self.old self.new) }
         ensures first { IfOk result (λ found. found ≡ true → BeginsRecord (at_hand self.new)) }
-        ensures none { IfOk result (λ found. found ≡ false → (at_hand self.new ≡ []) × IsAtEnd (R.remaining self.new.reader)) }
+        ensures none { IfOk result (λ found. found ≡ false
+            → (at_hand self.new ≡ []) × IsAtEnd (R.remaining self.new.reader)) }
         ensures begun { is_begun self.new ≡ is_begun self.old }
         ensures short { IfErr result (λ stop. stop ≢ Stop.TooLong) }
-        ensures lasts { R.lasts self.old.reader → MatchResult result (λ _. R.lasts self.new.reader) IsNoFailure }
+        ensures lasts { LastsThrough R.lasts self.old.reader self.new.reader result IsNoFailure }
     {
         for _ in 0..u64::MAX {
             match first_of(self.at_hand()) {
@@ -133,8 +135,9 @@ impl<R: Input> Source<R> {
 
     // Reads until three bytes are in memory or the file ends.
     fn three_bytes(&mut self) -> Result<(), Unreadable>
-        ensures keeps { OnOk result (Keeps (ahead R.remaining self.old) (ahead R.remaining self.new)) }
-        ensures three { OnOk result (length (at_hand self.new) < 3 → IsAtEnd (R.remaining self.new.reader)) }
+        ensures keeps { OnOk result (KeepsAhead R.remaining self.old self.new) }
+        ensures three { OnOk result
+            (length (at_hand self.new) < 3 → IsAtEnd (R.remaining self.new.reader)) }
         ensures lasts { R.lasts self.old.reader → IsOk result × R.lasts self.new.reader }
     {
         while self.at_hand().len() < 3 {

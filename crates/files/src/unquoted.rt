@@ -1,9 +1,9 @@
-ghost use Rattle.std.specs.Prelude.{◌≡◌, ◌≤◌, ◌<◌, ◌+◌, ◌++◌, ◌∷◌, [], List, ℕ, length, true, false, Ok, IfOk, OnOk, IsTrue, ◌↔◌};
+ghost use Rattle.std.specs.Prelude.{◌≡◌, ◌≤◌, [], length, true, false, Ok, OnOk, IsTrue, ◌↔◌};
 ghost use Rattle.csv.specs.Machine as Machine;
 ghost use Rattle.csv.specs.Reading.{default_config};
 ghost use Rattle.files.specs.Line.{IsBetween, is_in_record};
-ghost use Rattle.files.specs.Span.{record_size};
-ghost use Rattle.files.specs.Unquoted.{machine_state, machine_action, fields_ended, field_begun, size_so_far, IsInTurn};
+ghost use Rattle.files.specs.Span.{record_size, AddsSpan};
+ghost use Rattle.files.specs.Unquoted.{machine_state, machine_step, fields_ended, field_begun, size_so_far, Feeds, IsInTurn};
 
 use crate::line;
 use crate::span::Span;
@@ -42,7 +42,7 @@ pub enum Action {
 
 // The state after a byte, and what the byte does.
 fn step(state: State, byte: u8) -> (State, Action)
-    ensures { (machine_state result.0, machine_action result.1) ≡ Machine.step default_config (machine_state state) byte }
+    ensures { machine_step result ≡ Machine.step default_config (machine_state state) byte }
 {
     match state {
         State::InQuoted => match byte {
@@ -58,7 +58,7 @@ fn step(state: State, byte: u8) -> (State, Action)
 
 // The step from before the first byte of a record.
 fn first_step(byte: u8) -> (State, Action)
-    ensures { (machine_state result.0, machine_action result.1) ≡ Machine.start_record default_config byte }
+    ensures { machine_step result ≡ Machine.start_record default_config byte }
 {
     match byte {
         b'\n' | b'\r' => (State::StartRecord, Action::Skip),
@@ -69,7 +69,7 @@ fn first_step(byte: u8) -> (State, Action)
 
 // The step in a field, or before its first byte if that is not a quotation mark.
 fn field_step(byte: u8) -> (State, Action)
-    ensures { (machine_state result.0, machine_action result.1) ≡ Machine.in_field default_config byte }
+    ensures { machine_step result ≡ Machine.in_field default_config byte }
 {
     match byte {
         b',' => (State::StartField, Action::EndField),
@@ -144,10 +144,11 @@ impl Unquoted {
     /// Processes the next byte. Returns `AllocError` if an allocation fails.
     pub fn feed(&mut self, byte: u8, spans: &mut Vec<Span>) -> Result<Fed, AllocError>
         requires { IsInTurn self.old spans.old.items }
-        ensures goes_on { result ≡ Ok Fed.GoesOn → IsInTurn self.new spans.new.items × Machine.Feeds default_config (machine_state self.old.state) (fields_ended self.old spans.old.items) (field_begun self.old) (byte ∷ [])
-            (machine_state self.new.state) (fields_ended self.new spans.new.items) (field_begun self.new) false }
-        ensures ends { result ≡ Ok Fed.Ends → IsBetween (machine_state self.new.state) × (record_size (fields_ended self.new spans.new.items) ≤ 65536) × Machine.Feeds default_config (machine_state self.old.state) (fields_ended self.old spans.old.items) (field_begun self.old) (byte ∷ [])
-            (machine_state self.new.state) (fields_ended self.new spans.new.items) (field_begun self.new) true }
+        ensures goes_on { result ≡ Ok Fed.GoesOn → IsInTurn self.new spans.new.items
+            × Feeds self.old spans.old.items byte self.new spans.new.items false }
+        ensures ends { result ≡ Ok Fed.Ends → IsBetween (machine_state self.new.state)
+            × (record_size (fields_ended self.new spans.new.items) ≤ 65536)
+            × Feeds self.old spans.old.items byte self.new spans.new.items true }
         ensures too_long { result ≡ Ok Fed.TooLong → 65536 ≤ size_so_far self.old spans.old.items }
     {
         if self.is_too_long(spans) {
@@ -174,8 +175,10 @@ impl Unquoted {
 
     /// Ends the current field.
     pub fn end_field(&mut self, spans: &mut Vec<Span>) -> Result<(), AllocError>
-        ensures ended { OnOk result (spans.new.items ≡ spans.old.items ++ (record { from = self.old.from; to = length self.old.bytes.items } ∷ [])) }
-        ensures same { OnOk result (self.new ≡ record self.old { from = length self.old.bytes.items }) }
+        ensures ended { OnOk result
+            (AddsSpan spans.old.items spans.new.items self.old.from (length self.old.bytes.items)) }
+        ensures same { OnOk result
+            (self.new ≡ record self.old { from = length self.old.bytes.items }) }
     {
         let to = self.bytes.len();
         line::add(spans, self.from, to)?;

@@ -60,9 +60,11 @@ impl Window {
 
     /// Reads once, into the free room after the bytes. Returns the number of bytes read.
     pub fn read_from<R: Input>(&mut self, reader: &mut R) -> io::Result<usize>
-        ensures ok { IfOk result (λ n. (more : List ℕ) × (length more ≡ n) × (items self.new ≡ items self.old ++ more)
+        ensures ok { IfOk result (λ n. (more : List ℕ) × (length more ≡ n)
+            × (items self.new ≡ items self.old ++ more)
             × Consumes (R.remaining reader.old) (R.remaining reader.new) more) }
-        ensures end { IfOk result (λ n. n ≡ 0 → 0 < room self.old → IsAtEnd (R.remaining reader.new)) }
+        ensures end { IfOk result (λ n. n ≡ 0 → 0 < room self.old
+            → IsAtEnd (R.remaining reader.new)) }
         ensures err { OnErr result ((items self.new ≡ items self.old)
             × Keeps (R.remaining reader.old) (R.remaining reader.new)) }
         ensures lasts { R.lasts reader.old → IsOk result × R.lasts reader.new }

@@ -1,4 +1,5 @@
-ghost use Rattle.std.specs.Prelude.{◌≡◌, ◌↔◌, ◌⊎◌, codes, IfErr};
+ghost use Rattle.std.specs.Prelude.{◌≡◌, ◌↔◌, codes, IfErr};
+ghost use Rattle.files.specs.Failure.{IsOfField};
 ghost use Rattle.files.specs.Word.{credit_text, text_read};
 ghost use Rattle.files.specs.KindsRead.{credit_read};
 
@@ -31,7 +32,7 @@ pub fn parse_credit(field: &str) -> Result<Credit, FaultKind>
     ensures exact { result ≡ credit_read field.now }
     ensures good { (result ≡ Ok Credit.Good) ↔ (field.now ≡ codes "GC") }
     ensures bad { (result ≡ Ok Credit.Bad) ↔ (field.now ≡ codes "BC") }
-    ensures faults { IfErr result (λ kind. (kind ≡ FaultKind.NotOfKind) ⊎ (kind ≡ FaultKind.OutOfRange)) }
+    ensures faults { IfErr result IsOfField }
 {
     match field {
         "GC" => Ok(Credit::Good),

@@ -7,4 +7,3 @@ pub mod StockGroups
 pub mod DeliveryGroups
 pub mod Firsts
 pub mod NewOrderGroups
-mod Covering

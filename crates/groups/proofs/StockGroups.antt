@@ -3,6 +3,7 @@ use Rattle.std.proofs.Common.{◌≡◌, ℕ, zero, suc, ◌+◌, ◌<◌, ◌�
 use Rattle.std.specs.List.{range_with_len, AllByRecursion}
 use Rattle.std.proofs.lemmas.Bool.Decides.{nat_tests}
 use Rattle.std.proofs.lemmas.List.FromFn.{map-range_with_len_more}
+use Rattle.rows.specs.declared.limits.TheConstants.{STOCK_GROUPS}
 use Rattle.requests.specs.declared.group.Group.{Group}
 use Rattle.requests.specs.declared.group.Group.TheVariants.{Warehouse, District, Customers, Orders, History, Stock}
 use Rattle.requests.specs.declared.stock_level.StockLevel.{StockLevel}
@@ -36,13 +37,13 @@ module _ (w_id : ℕ) where
             at_residue P (from + 1) count each.1 residue above (omega arith)
       ] refl
 
-  none_of_stock : (p : Group → Bool) → ((residue : ℕ) → p (Stock w_id residue) ≡ false) → count_by p (groups_of (group_wants_from 0 64)) ≡ 0
-  none_of_stock p none = none_passes stock_group_want p none 0 64
+  none_of_stock : (p : Group → Bool) → ((residue : ℕ) → p (Stock w_id residue) ≡ false) → count_by p (groups_of (group_wants_from 0 STOCK_GROUPS)) ≡ 0
+  none_of_stock p none = none_passes stock_group_want p none 0 STOCK_GROUPS
 
-  once : (other residue : ℕ) → count_by (is_same (Stock other residue)) (groups_of (group_wants_from 0 64)) ≤ 1
+  once : (other residue : ℕ) → count_by (is_same (Stock other residue)) (groups_of (group_wants_from 0 STOCK_GROUPS)) ≤ 1
   once other residue =
       once_at_most stock_group_want (is_same (Stock other residue)) residue
-      (λ r apart. ap (λ b. one ((other == w_id) && b)) apart ∙ one-neither (other == w_id)) 0 64
+      (λ r apart. ap (λ b. one ((other == w_id) && b)) apart ∙ one-neither (other == w_id)) 0 STOCK_GROUPS
 
 module _ (asked : StockLevel) where
   abbrev own_district : Group
@@ -52,7 +53,7 @@ module _ (asked : StockLevel) where
   own_orders = Orders asked.home.w_id asked.home.d_id
 
   abbrev stock : List Group
-  stock = groups_of (group_wants_from asked.home.w_id 0 64)
+  stock = groups_of (group_wants_from asked.home.w_id 0 STOCK_GROUPS)
 
   parts : (p : Group → Bool) → count_by p (own_district ∷ own_orders ∷ stock) ≡ one (p own_district) + (one (p own_orders) + count_by p stock)
   parts p = count-cons p own_district (own_orders ∷ stock) ∙ ap (λ n. one (p own_district) + n) (count-cons p own_orders stock)

@@ -2,6 +2,7 @@
 use Rattle.std.specs.Prelude.{ℕ, ◌%◌, ◌==◌, ◌&&◌, Bool}
 use Rattle.std.specs.declared.cmp.Ordering.{Ordering}
 use Rattle.std.specs.Ordering.{nat_cmp, ordering_then}
+use Rattle.rows.specs.declared.limits.TheConstants.{STOCK_GROUPS}
 use Rattle.rows.specs.declared.keys.DistrictKey.{DistrictKey}
 use Rattle.rows.specs.declared.keys.StockKey.{StockKey}
 use Rattle.rows.specs.declared.keys.CustomerKey.{CustomerKey}
@@ -36,9 +37,9 @@ group_of_line key = Orders key.w_id key.d_id
 abbrev pub group_of_history : DistrictKey → Group
 group_of_history key = History key.w_id key.d_id
 
--- the stock of a warehouse is divided by the item's number modulo 64
+-- the stock of a warehouse is divided into STOCK_GROUPS groups, by the item's number modulo STOCK_GROUPS
 abbrev pub group_of_stock : StockKey → Group
-group_of_stock key = Stock key.w_id (key.i_id % 64)
+group_of_stock key = Stock key.w_id (key.i_id % STOCK_GROUPS)
 
 -- ---- the order of groups
 

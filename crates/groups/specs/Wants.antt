@@ -1,9 +1,8 @@
 -- What an action asks to lock: a group, or all groups of a kind in a warehouse. Which groups those are, and when two
--- wants conflict.
-use Rattle.std.specs.Prelude.{◌≡◌, ◌⊎◌, ℕ}
+-- wants overlap.
+use Rattle.std.specs.Prelude.{◌≡◌, ℕ}
 use Rattle.requests.specs.declared.group.Group.{Group}
 use Rattle.groups.specs.Groups.{kind_of, warehouse_of}
-use Rattle.groups.specs.declared.group_wants.Mode.TheVariants.{Exclusive}
 use Rattle.groups.specs.declared.wants.Kind.{Kind}
 use Rattle.groups.specs.declared.wants.Kind.TheVariants.{Warehouse, District, Customers, Orders, History, Stock}
 use Rattle.groups.specs.declared.wants.Prefix.{Prefix}
@@ -36,7 +35,3 @@ Covers want group = IsIn want.extent group
 -- some group is in both wants
 abbrev pub Overlap : Want → Want → Type 0
 Overlap a b = (group : Group) × Covers a group × Covers b group
-
--- some group is in both wants, and one of the two is exclusive
-abbrev pub Conflict : Want → Want → Type 0
-Conflict a b = Overlap a b × ((a.mode ≡ Exclusive) ⊎ (b.mode ≡ Exclusive))

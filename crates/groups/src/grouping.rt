@@ -2,6 +2,7 @@ ghost use Rattle.std.specs.Prelude.{◌≡◌};
 ghost use Rattle.groups.specs.Groups as spec;
 
 use requests::Group;
+use rows::STOCK_GROUPS;
 use schema::StockKey;
 
 /// The group of a stock row.
@@ -10,6 +11,6 @@ pub fn group_of_stock(key: StockKey) -> Group
 {
     Group::Stock {
         w_id: key.w_id,
-        residue: key.i_id % 64,
+        residue: key.i_id % STOCK_GROUPS,
     }
 }

@@ -1,5 +1,5 @@
 //! The groups of rows that are locked together: the group of each row, the content of a group, the
-//! groups that a request claims, and which claims conflict. Clauses named are those of TPC-C 5.11.
+//! groups that a request claims, and what an action asks to lock. Clauses named are those of TPC-C 5.11.
 #![tactic(auto)]
 
 mod content;

@@ -1,6 +1,6 @@
 ghost use Rattle.std.specs.Prelude.{◌≡◌, ◌↔◌, IsTrue};
 ghost use Rattle.groups.specs.Groups as spec;
-ghost use Rattle.groups.specs.Wants.{kind_number, Conflict, Covers, IsUnder, Overlap};
+ghost use Rattle.groups.specs.Wants.{kind_number, Covers, IsUnder};
 
 use crate::Mode;
 use requests::Group;
@@ -83,24 +83,5 @@ impl Want {
             Extent::One(own) => own == group,
             Extent::Every(prefix) => prefix.covers(group),
         }
-    }
-
-    /// Returns whether some group is in both wants.
-    pub fn overlaps(self, other: Want) -> bool
-        ensures { IsTrue result ↔ Overlap self other }
-    {
-        match (self.extent, other.extent) {
-            (Extent::One(group), _) => other.covers(group),
-            (_, Extent::One(group)) => self.covers(group),
-            (Extent::Every(own), Extent::Every(prefix)) => own == prefix,
-        }
-    }
-
-    /// Returns whether some group is in both wants, and one of the two is exclusive.
-    pub fn conflicts(self, other: Want) -> bool
-        ensures { IsTrue result ↔ Conflict self other }
-    {
-        let is_exclusive = self.mode == Mode::Exclusive || other.mode == Mode::Exclusive;
-        is_exclusive && self.overlaps(other)
     }
 }

@@ -1,16 +1,15 @@
 -- The largest number of a customer's orders, as orders come and as the index keeps it.
-use Rattle.std.proofs.Common.{◌≡◌, ℕ, zero, suc, ◌*◌, ◌<◌, ◌≤◌, max, Bool, true, false, cond, ◌&&◌, ◌==◌, List, [], ◌∷◌, ◌++◌, take, drop, length, get_or, slice_get, slice_set, filter, replicate, Some, None, is_some, IsTrue, unwrap_or, inl, inr, refl, sym, ap, subst, ◌∙◌, arith}
+use Rattle.std.proofs.Common.{◌≡◌, ℕ, zero, suc, ◌*◌, ◌<◌, ◌≤◌, max, Bool, true, false, cond, ◌&&◌, ◌==◌, List, [], ◌∷◌, ◌++◌, take, drop, length, get_or, slice_get, slice_set, filter, replicate, Some, None, is_some, IsTrue, refl, sym, ap, subst, ◌∙◌, arith}
 use Rattle.std.specs.List.{list_all}
-use Rattle.std.specs.Option.{option_map_or, option_and_then}
+use Rattle.std.specs.Option.{option_map_or}
 use Rattle.std.specs.declared.cmp.Ordering.TheVariants.{Less, Equal, Greater}
 use Rattle.std.specs.Ordering.{is_eq}
 use Rattle.std.specs.FinMap as map
 use Rattle.std.specs.FinMap.{entries, get-entries, entries-insert}
 use Rattle.std.specs.FinMap.Entries.{find, put, by_order}
 use Rattle.std.proofs.lemmas.Bool.Decides.{nat_tests}
-use Rattle.std.proofs.lemmas.List.{get_or-set_same, get_or-set_other, length-set, set-set, set-get_or, get_or-replicate, length-replicate, take_at, set_past}
-use Rattle.std.proofs.lemmas.Bool.{cases_lt}
-use Rattle.std.proofs.lemmas.Option.{slice_get-get_or, slice_get_within}
+use Rattle.std.proofs.lemmas.List.{get_or-set_same, get_or-set_other, length-set, get_or-replicate, length-replicate, take_at}
+use Rattle.std.proofs.lemmas.Option.{slice_get-get_or}
 use Rattle.rows.specs.declared.keys.CustomerKey.{CustomerKey}
 use Rattle.rows.specs.declared.keys.OrderKey.{OrderKey}
 use Rattle.rows.specs.declared.records.Order.{Order}
@@ -22,8 +21,8 @@ use Rattle.schema.proofs.KeyOrders.{orders_total, orders_exact}
 use Rattle.schema.proofs.EachRows.{EachRow-table}
 use Rattle.partitions.specs.Slots.{Slots, AreApart, AreRows, customer_slot_by}
 use Rattle.indexes.specs.LatestOrder.{is_order_by, largest, latest}
-use Rattle.indexes.specs.LatestIndex.{FitsLatestBy, number_of, with_latest, raised}
-use Rattle.indexes.specs.LatestLaws.{NotedOrderFits, TakenBackIsAsBefore, PutOrderFits}
+use Rattle.indexes.specs.LatestIndex.{FitsLatestBy, number_of, raised}
+use Rattle.indexes.specs.LatestLaws.{PutOrderFits}
 use Rattle.indexes.proofs.Places.{place_exact, place_within}
 
 -- ---- whose an order is
@@ -94,31 +93,6 @@ pub most-insert : (t : Database) (key : OrderKey) (row : Order) → map.get t.or
 most-insert t key row none c =
     ap (most c) (entries-insert orders_total t.orders key row) ∙ most-put c key row (entries t.orders) (sym (get-entries t.orders key) ∙ none)
 
-pub noted_fits : NotedOrderFits
-noted_fits slot index t key row districts_apart fits none larger c place at =
-    let more = most-insert t key row none c in
-    let was : slice_get index place ≡ Some (most c (entries t.orders)) = fits c place at in
-    let below : place < length index = slice_get_within index place _ was in
-    elim (is_order_by c (key, row)) as (λ b. is_order_by c (key, row) ≡ b → slice_get (with_latest slot t.scale.customers index (customer_of_order key row) key.o_id) place ≡ Some (most c (entries (map.insert t.orders key row)))) [
-      | true ↦ λ e.
-          let same : customer_of_order key row ≡ c = by_its_customer c key row e in
-          let there : customer_slot_by slot t.scale.customers (customer_of_order key row) ≡ Some place = ap (customer_slot_by slot t.scale.customers) same ∙ at in
-          let largest_one : most c (entries t.orders) < key.o_id = subst (λ k. most k (entries t.orders) < key.o_id) same larger in
-          let new : most c (entries (map.insert t.orders key row)) ≡ key.o_id = more ∙ ap (λ b. cond b (max key.o_id (most c (entries t.orders))) (most c (entries t.orders))) e ∙ (let m : max key.o_id (most c (entries t.orders)) ≡ key.o_id = omega arith in m) in
-          ap (λ r. slice_get (option_map_or (λ s. slice_set index s key.o_id) r index) place) there
-          ∙ slice_get-get_or (slice_set index place key.o_id) place 0 (let l : place < length (slice_set index place key.o_id) = omega (arith, length-set index place key.o_id) in l)
-          ∙ ap Some (get_or-set_same index place key.o_id 0 below ∙ sym new)
-      | false ↦ λ e.
-          let same : most c (entries (map.insert t.orders key row)) ≡ most c (entries t.orders) = more ∙ ap (λ b. cond b (max key.o_id (most c (entries t.orders))) (most c (entries t.orders))) e in
-          elim (customer_slot_by slot t.scale.customers (customer_of_order key row)) as (λ r. customer_slot_by slot t.scale.customers (customer_of_order key row) ≡ r → slice_get (option_map_or (λ s. slice_set index s key.o_id) r index) place ≡ Some (most c (entries (map.insert t.orders key row)))) [
-            | None ↦ λ there. was ∙ ap Some (sym same)
-            | Some s ↦ λ there.
-                let other : place ≡ s → ⊥ = λ h. apart slot t.scale.customers districts_apart c key row place e at (there ∙ ap Some (sym h)) in
-                slice_get-get_or (slice_set index s key.o_id) place 0 (let l : place < length (slice_set index s key.o_id) = omega (arith, length-set index s key.o_id) in l)
-                ∙ ap Some (get_or-set_other index s place key.o_id 0 other) ∙ sym (slice_get-get_or index place 0 below) ∙ was ∙ ap Some (sym same)
-          ] refl
-    ] refl
-
 -- ---- an order's row that is put again
 
 -- a customer's order counts
@@ -173,27 +147,6 @@ put_fits slot index t key old new found same fits c place at =
     fits c place at
     ∙ ap Some (sym (ap (most c) (entries-insert orders_total t.orders key new)
     ∙ most-put-again c key old new (entries t.orders) (sym (get-entries t.orders key) ∙ found) (ap (λ n. (key.w_id == c.w_id) && ((key.d_id == c.d_id) && (n == c.c_id))) same)))
-
--- ---- restoring the number from before
-
-number_back : (n : ℕ) → unwrap_or (number_of n) 0 ≡ n
-number_back zero = refl
-number_back (suc n) = refl
-
-pub put_back : TakenBackIsAsBefore
-put_back slot customers index c number =
-    elim (customer_slot_by slot customers c) as (λ r.
-    option_map_or (λ s. slice_set (option_map_or (λ s'. slice_set index s' number) r index) s (unwrap_or (option_and_then (λ s'. option_and_then number_of (slice_get index s')) r) 0)) r (option_map_or (λ s'. slice_set index s' number) r index) ≡ index) [
-      | None ↦ refl
-      | Some place ↦
-          elim (cases_lt place (length index)) [
-            | inl below ↦
-                let had : unwrap_or (option_and_then number_of (slice_get index place)) 0 ≡ get_or index place 0 =
-                ap (λ r. unwrap_or (option_and_then number_of r) 0) (slice_get-get_or index place 0 below) ∙ number_back (get_or index place 0) in
-                set-set index place number (unwrap_or (option_and_then number_of (slice_get index place)) 0) ∙ ap (slice_set index place) had ∙ set-get_or index place 0
-            | inr past ↦ ap (λ (l : List ℕ). slice_set l place (unwrap_or (option_and_then number_of (slice_get index place)) 0)) (set_past index place number past) ∙ set_past index place _ past
-          ]
-    ]
 
 -- ---- what the index says
 

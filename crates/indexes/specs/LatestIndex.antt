@@ -1,6 +1,6 @@
 -- The content of an index of latest orders, and when it fits the tables.
 use Rattle.std.specs.Prelude.{◌≡◌, ℕ, zero, suc, ◌<◌, List, length, slice_get, slice_set, slice_index, max, Option, Some, None}
-use Rattle.std.specs.Option.{option_map_or, option_and_then}
+use Rattle.std.specs.Option.{option_map_or}
 use Rattle.rows.specs.declared.keys.CustomerKey.{CustomerKey}
 use Rattle.schema.specs.Scale.{district_slot}
 use Rattle.schema.specs.Database.{Database}
@@ -20,10 +20,6 @@ FitsLatest index t = FitsLatestBy (district_slot t.scale) index t
 abbrev pub number_of : ℕ → Option ℕ
 number_of zero = None
 number_of (suc n) = Some (suc n)
-
--- the index's entry for the customer, if each district has this number of customers
-abbrev pub latest_at : Slots → ℕ → List ℕ → CustomerKey → Option ℕ
-latest_at slot customers index customer = option_and_then (λ place. option_and_then number_of (slice_get index place)) (customer_slot_by slot customers customer)
 
 -- the index with this number for the customer
 abbrev pub with_latest : Slots → ℕ → List ℕ → CustomerKey → ℕ → List ℕ

@@ -1,5 +1,5 @@
 -- Laws of the look-up of latest orders, for any places of the districts.
-use Rattle.std.specs.Prelude.{◌≡◌, ℕ, ◌<◌, List, unwrap_or, Some, None, IfSome}
+use Rattle.std.specs.Prelude.{◌≡◌, ℕ, List, Some, IfSome}
 use Rattle.std.specs.FinMap as map
 use Rattle.rows.specs.declared.keys.CustomerKey.{CustomerKey}
 use Rattle.rows.specs.declared.keys.OrderKey.{OrderKey}
@@ -8,13 +8,7 @@ use Rattle.schema.specs.Database.{Database, customer_of_order}
 use Rattle.schema.specs.Consistency.{greatest}
 use Rattle.partitions.specs.Slots.{Slots, AreApart}
 use Rattle.indexes.specs.LatestOrder.{order_numbers}
-use Rattle.indexes.specs.LatestIndex.{FitsLatestBy, latest_at, with_latest, raised}
-
--- a new order whose number is larger than those of its customer's orders is noted: the index fits
-abbrev pub NotedOrderFits : Type 0
-NotedOrderFits = (slot : Slots) (index : List ℕ) (t : Database) (key : OrderKey) (row : Order) → AreApart slot → FitsLatestBy slot index t → map.get t.orders key ≡ None
-    → greatest (order_numbers t.orders (customer_of_order key row)) < key.o_id
-    → FitsLatestBy slot (with_latest slot t.scale.customers index (customer_of_order key row) key.o_id) (record t { orders = map.insert t.orders key row })
+use Rattle.indexes.specs.LatestIndex.{FitsLatestBy, with_latest, raised}
 
 -- an order is inserted at a free key, or replaces one of the same customer, and the customer's number is raised: the
 -- index fits
@@ -40,11 +34,6 @@ RemovedOrderFits = (slot : Slots) (index : List ℕ) (t : Database) (key : Order
     → FitsLatestBy slot
     (with_latest slot t.scale.customers index (customer_of_order key old) (greatest (order_numbers (map.remove t.orders key) (customer_of_order key old))))
     (record t { orders = map.remove t.orders key })
-
--- recording a number and restoring the one before leaves the index unchanged
-abbrev pub TakenBackIsAsBefore : Type 0
-TakenBackIsAsBefore = (slot : Slots) (customers : ℕ) (index : List ℕ) (customer : CustomerKey) (number : ℕ)
-    → with_latest slot customers (with_latest slot customers index customer number) customer (unwrap_or (latest_at slot customers index customer) 0) ≡ index
 
 -- an order's row is replaced by one with the same customer, as by a delivery: the index still fits
 abbrev pub PutOrderFits : Type 0

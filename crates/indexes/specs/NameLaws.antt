@@ -5,7 +5,7 @@ use Rattle.rows.specs.declared.keys.DistrictKey.{DistrictKey}
 use Rattle.rows.specs.declared.keys.CustomerKey.{CustomerKey}
 use Rattle.rows.specs.declared.records.Customer.{Customer}
 use Rattle.schema.specs.Scale.{customer_key}
-use Rattle.schema.specs.Database.{Database}
+use Rattle.schema.specs.Database.{Database, with_customer_row}
 use Rattle.partitions.specs.Slots.{Slots}
 use Rattle.indexes.specs.Namesakes.{IsMiddleOf}
 use Rattle.indexes.specs.NameOrder.{last_of, first_of, FitsNamesBy}
@@ -32,4 +32,4 @@ SameNamesFit = (slot : Slots) (index : List (List ℕ)) (old new : Database) →
 -- replacing a customer's row by one with the same C_LAST and C_FIRST leaves the names unchanged
 abbrev pub PutKeepsNames : Type 0
 PutKeepsNames = (t : Database) (key : CustomerKey) (old new : Customer) → map.get t.customers key ≡ Some old → new.last ≡ old.last → new.first ≡ old.first
-    → SameNames t (record t { customers = map.insert t.customers key new })
+    → SameNames t (with_customer_row t key new)

@@ -1,14 +1,13 @@
-ghost use Rattle.std.specs.Prelude.{◌≡◌, IfOk, unwrap_or, replicate, max, if◌then◌else◌};
+ghost use Rattle.std.specs.Prelude.{◌≡◌, IfOk, replicate, max, if◌then◌else◌};
 ghost use Rattle.schema.specs.Consistency.{greatest};
 ghost use Rattle.partitions.specs.Slots.{AreRows, customer_slot_by};
 ghost use Rattle.indexes.specs.LatestOrder.{is_order_by, latest, order_numbers};
-ghost use Rattle.indexes.specs.LatestIndex.{FitsLatestBy, HasPlace, latest_at, with_latest, raised, number_of};
+ghost use Rattle.indexes.specs.LatestIndex.{FitsLatestBy, HasPlace, with_latest, raised, number_of};
 
 use partitions::Rows;
 use schema::{CustomerKey, NoMemory, Order, OrderKey};
 use std::alloc::Global;
 use std::marker::Model;
-use std::mem;
 
 /// The number of each customer's latest order, in the order of the customers' keys, four bytes each: of
 /// all customers, or of those of one warehouse. It still fits when rows of orders change, as long as no
@@ -56,32 +55,12 @@ impl LatestOrders {
         number_of(*self.numbers.get(slot)?)
     }
 
-    /// Records an order of that number, from 1, as the customer's latest. Returns what was recorded
-    /// before, for `take_back`. Changes nothing if the customer's row is not here. The index fits the
-    /// rows with that order if its number is larger than those of the customer's other orders
-    /// (`noted_order_fits`).
-    pub fn note_order<T: Rows>(
-        &mut self,
-        rows: &T,
-        customer: CustomerKey,
-        number: u32,
-    ) -> Option<u32>
-        ensures noted { self.new ≡ with_latest (T.slot rows.now) (T.tables rows.now).scale.customers self.old customer number }
-        ensures before { result ≡ latest_at (T.slot rows.now) (T.tables rows.now).scale.customers self.old customer }
-    {
-        let slot = customer_slot(rows, customer)?;
-        if slot < self.numbers.len() {
-            number_of(mem::replace(&mut self.numbers[slot], number))
-        } else {
-            None
-        }
-    }
-
     /// Raises the customer's number to that of an order, from 1, if it was less. Changes nothing if the
     /// customer's row is not here. The index fits any rows with that order if no order was stored at its
     /// key before, or one of the same customer (`raised_order_fits`).
     pub fn raise_order<T: Rows>(&mut self, rows: &T, customer: CustomerKey, number: u32)
-        ensures { self.new ≡ raised (T.slot rows.now) (T.tables rows.now).scale.customers self.old customer number }
+        ensures { self.new ≡ raised (T.slot rows.now) (T.tables rows.now).scale.customers
+            self.old customer number }
     {
         if let Some(slot) = customer_slot(rows, customer) {
             if slot < self.numbers.len() {
@@ -95,25 +74,21 @@ impl LatestOrders {
     /// replaced by another customer's (`replaced_order_fits`), which does not happen in consistent
     /// tables. Changes nothing if the customer's row is not here.
     pub fn look_through<T: Rows>(&mut self, rows: &T, customer: CustomerKey)
-        ensures { self.new ≡ with_latest (T.slot rows.now) (T.tables rows.now).scale.customers self.old customer
-            (greatest (order_numbers (T.tables rows.now).orders customer)) }
+        ensures { self.new ≡ with_latest (T.slot rows.now) (T.tables rows.now).scale.customers
+            self.old customer (greatest (order_numbers (T.tables rows.now).orders customer)) }
     {
-        let number = greatest_number(rows, customer);
-        self.note_order(rows, customer, number);
-    }
-
-    /// Restores what `note_order` returned for that customer, when the order is undone. The index is
-    /// then as it was before (`taken_back_is_as_before`).
-    pub fn take_back<T: Rows>(&mut self, rows: &T, customer: CustomerKey, before: Option<u32>)
-        ensures { self.new ≡ with_latest (T.slot rows.now) (T.tables rows.now).scale.customers self.old customer (unwrap_or before 0) }
-    {
-        self.note_order(rows, customer, before.unwrap_or(0));
+        if let Some(slot) = customer_slot(rows, customer) {
+            if slot < self.numbers.len() {
+                self.numbers[slot] = greatest_number(rows, customer);
+            }
+        }
     }
 }
 
 // Returns the place of the customer's number, `None` if the customer's row is not here.
 fn customer_slot<T: Rows>(rows: &T, customer: CustomerKey) -> Option<usize>
-    ensures slot { result ≡ customer_slot_by (T.slot rows.now) (T.tables rows.now).scale.customers customer }
+    ensures slot { result
+        ≡ customer_slot_by (T.slot rows.now) (T.tables rows.now).scale.customers customer }
     ensures rows { AreRows (T.slot rows.now) (T.districts rows.now) (T.tables rows.now) }
 {
     let customers = rows.scale().customers;
@@ -138,7 +113,8 @@ fn greatest_number<T: Rows>(rows: &T, customer: CustomerKey) -> u32
 
 // Returns the larger of the number and the order's, if the order is the customer's; else the number.
 fn grown(number: u32, customer: CustomerKey, key: OrderKey, order: &Order) -> u32
-    ensures { result ≡ (if is_order_by customer (key, order.now) then max key.o_id number else number) }
+    ensures { result
+        ≡ (if is_order_by customer (key, order.now) then max key.o_id number else number) }
 {
     let is_at = key.w_id == customer.w_id && key.d_id == customer.d_id;
     if is_at && order.c_id == customer.c_id {
@@ -165,7 +141,8 @@ fn zeros(count: usize, alloc: Global) -> Result<Vec<u32>, NoMemory>
 // Records the number for the customer, unless a larger one is recorded.
 fn raise<T: Rows>(numbers: &mut [u32], rows: &T, customer: CustomerKey, number: u32)
     requires { HasPlace (T.slot rows.now) (T.tables rows.now).scale.customers numbers.old customer }
-    ensures { numbers.new ≡ raised (T.slot rows.now) (T.tables rows.now).scale.customers numbers.old customer number }
+    ensures { numbers.new ≡ raised (T.slot rows.now) (T.tables rows.now).scale.customers
+        numbers.old customer number }
 {
     if let Some(slot) = customer_slot(rows, customer) {
         numbers[slot] = numbers[slot].max(number);

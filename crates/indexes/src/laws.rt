@@ -1,6 +1,6 @@
 //! Proved laws of the look-ups, as functions with empty bodies.
 ghost use Rattle.indexes.specs.NameLaws.{MiddleIsOne, MiddleIsThere, SameNamesFit, PutKeepsNames};
-ghost use Rattle.indexes.specs.LatestLaws.{NotedOrderFits, PutOrderFits, RaisedOrderFits, RemovedOrderFits, ReplacedOrderFits, TakenBackIsAsBefore};
+ghost use Rattle.indexes.specs.LatestLaws.{PutOrderFits, RaisedOrderFits, RemovedOrderFits, ReplacedOrderFits};
 
 /// At most one customer of a district is the middle one of those with a given last name.
 pub fn middle_is_one()
@@ -23,12 +23,6 @@ pub fn put_keeps_names()
     ensures { PutKeepsNames }
 {}
 
-/// An index of latest orders that fits tables fits them with one order more, once the order is noted.
-/// The order must be new, with a number larger than those of its customer's orders.
-pub fn noted_order_fits()
-    ensures { NotedOrderFits }
-{}
-
 /// In any tables: an index of latest orders that fits them fits them with an order inserted, once it is
 /// raised to the order's number. At the order's key there must have been no order, or one of the same
 /// customer.
@@ -44,11 +38,6 @@ pub fn replaced_order_fits()
 /// In any tables: if an order is deleted, its customer's orders are searched.
 pub fn removed_order_fits()
     ensures { RemovedOrderFits }
-{}
-
-/// Restoring the recorded number makes the index as it was before the order was noted.
-pub fn taken_back_is_as_before()
-    ensures { TakenBackIsAsBefore }
 {}
 
 /// Replacing an order's row by one with the same customer, as a delivery does, leaves an index of latest

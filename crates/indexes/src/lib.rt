@@ -9,8 +9,7 @@ mod name_run;
 
 pub use latest_orders::LatestOrders;
 pub use laws::{
-    middle_is_one, middle_is_there, noted_order_fits, put_keeps_names, put_order_fits,
-    raised_order_fits, removed_order_fits, replaced_order_fits, same_names_fit,
-    taken_back_is_as_before,
+    middle_is_one, middle_is_there, put_keeps_names, put_order_fits, raised_order_fits,
+    removed_order_fits, replaced_order_fits, same_names_fit,
 };
 pub use name_index::NameIndex;

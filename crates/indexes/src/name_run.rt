@@ -39,8 +39,8 @@ impl NameRun {
     /// it. Takes two binary searches.
     pub(crate) fn middle(&self, rows: &[Customer], last: &str) -> Option<u32>
         requires { IsNameRun (last_at rows.now) (first_at rows.now) (length rows.now) self.now }
-        ensures { (home : DistrictKey)
-            → MatchOption result (namesakes_among rows.now home last.now ≡ []) (IsMiddleAmong rows.now home last.now) }
+        ensures { (home : DistrictKey) → MatchOption result
+            (namesakes_among rows.now home last.now ≡ []) (IsMiddleAmong rows.now home last.now) }
     {
         let from = self
             .places

@@ -142,7 +142,8 @@ impl Mark {
 pub fn meet(one: &mut Mark, other: &mut Mark)
     requires { one.old.table ≡ other.old.table }
     ensures one { one.new ≡ length_view one.old.table (max one.old.entries other.old.entries) }
-    ensures other { other.new ≡ length_view other.old.table (max one.old.entries other.old.entries) }
+    ensures other { other.new
+        ≡ length_view other.old.table (max one.old.entries other.old.entries) }
 {
     if one.entries < other.entries {
         one.learn(other);

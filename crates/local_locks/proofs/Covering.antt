@@ -4,6 +4,7 @@ use Rattle.std.specs.Prelude.{All}
 use Rattle.std.specs.List.{flat_map}
 use Rattle.std.proofs.lemmas.List.{map-append, length-map}
 use Rattle.std.proofs.lemmas.List.Elements.{All-head, All-tail}
+use Rattle.rows.specs.declared.limits.TheConstants.{STOCK_GROUPS}
 use Rattle.requests.specs.declared.group.Group.{Group}
 use Rattle.requests.specs.declared.group.Group.TheVariants as g
 use Rattle.groups.specs.Groups.{kind_of, warehouse_of}
@@ -90,7 +91,7 @@ extent_same {A} warehouses w_id (Every prefix) mode F H home there own same = by
     by_kind kind.Customers w is = numbered_same F H mode (λ d_id. g.Customers w d_id) 10 1 10 (λ n from below. same (g.Customers w n) ((omega (arith, home.0, is), omega (arith, home.1, is)), (from, omega (arith, below))) is)
     by_kind kind.Orders w is = numbered_same F H mode (λ d_id. g.Orders w d_id) 20 1 10 (λ n from below. same (g.Orders w n) ((omega (arith, home.0, is), omega (arith, home.1, is)), (from, omega (arith, below))) is)
     by_kind kind.History w is = numbered_same F H mode (λ d_id. g.History w d_id) 30 1 10 (λ n from below. same (g.History w n) ((omega (arith, home.0, is), omega (arith, home.1, is)), (from, omega (arith, below))) is)
-    by_kind kind.Stock w is = numbered_same F H mode (λ residue. g.Stock w residue) 41 0 64 (λ n from below. same (g.Stock w n) ((omega (arith, home.0, is), omega (arith, home.1, is)), omega (arith, below)) is)
+    by_kind kind.Stock w is = numbered_same F H mode (λ residue. g.Stock w residue) 41 0 STOCK_GROUPS (λ n from below. same (g.Stock w n) ((omega (arith, home.0, is), omega (arith, home.1, is)), omega (arith, below)) is)
 
 map_map : {X Y A : Type 0} (f : Y → A) (h : X → Y) (xs : List X) → map f (map h xs) ≡ map (λ x. f (h x)) xs
 map_map f h [] = refl

@@ -1,6 +1,7 @@
 -- A want has a want for each group that it covers.
 use Rattle.std.proofs.Common.{◌≡◌, ◌⊎◌, ℕ, zero, suc, ◌+◌, ◌<◌, ◌≤◌, [], ◌∷◌, refl, sym, ap, subst, ◌∙◌, ⊎_elim, arith}
 use Rattle.std.specs.Prelude.{Contains}
+use Rattle.rows.specs.declared.limits.TheConstants.{STOCK_GROUPS}
 use Rattle.requests.specs.declared.group.Group.{Group}
 use Rattle.requests.specs.declared.group.Group.TheVariants as g
 use Rattle.groups.specs.Groups.{kind_of, warehouse_of}
@@ -61,7 +62,7 @@ among_own warehouses (g.District w_id d_id) known = numbered_contains (λ n. g.D
 among_own warehouses (g.Customers w_id d_id) known = numbered_contains (λ n. g.Customers w_id n) 1 10 d_id known.1.0 (omega (arith, known.1.1))
 among_own warehouses (g.Orders w_id d_id) known = numbered_contains (λ n. g.Orders w_id n) 1 10 d_id known.1.0 (omega (arith, known.1.1))
 among_own warehouses (g.History w_id d_id) known = numbered_contains (λ n. g.History w_id n) 1 10 d_id known.1.0 (omega (arith, known.1.1))
-among_own warehouses (g.Stock w_id residue) known = numbered_contains (λ n. g.Stock w_id n) 0 64 residue (omega arith) known.1
+among_own warehouses (g.Stock w_id residue) known = numbered_contains (λ n. g.Stock w_id n) 0 STOCK_GROUPS residue (omega arith) known.1
 
 under_among : (warehouses : ℕ) (k : Kind) (w_id : ℕ) (group : Group) → IsGroupOf warehouses group → kind_of group ≡ kind_number k → warehouse_of group ≡ w_id → Contains (groups_under k w_id) group
 under_among warehouses k w_id group known same home =
@@ -74,7 +75,7 @@ among_under kind.District w_id group c = let found = contains_numbered (λ n. g.
 among_under kind.Customers w_id group c = let found = contains_numbered (λ n. g.Customers w_id n) 1 10 group c in (ap kind_of (sym found.1), ap warehouse_of (sym found.1))
 among_under kind.Orders w_id group c = let found = contains_numbered (λ n. g.Orders w_id n) 1 10 group c in (ap kind_of (sym found.1), ap warehouse_of (sym found.1))
 among_under kind.History w_id group c = let found = contains_numbered (λ n. g.History w_id n) 1 10 group c in (ap kind_of (sym found.1), ap warehouse_of (sym found.1))
-among_under kind.Stock w_id group c = let found = contains_numbered (λ n. g.Stock w_id n) 0 64 group c in (ap kind_of (sym found.1), ap warehouse_of (sym found.1))
+among_under kind.Stock w_id group c = let found = contains_numbered (λ n. g.Stock w_id n) 0 STOCK_GROUPS group c in (ap kind_of (sym found.1), ap warehouse_of (sym found.1))
 
 -- ---- what is wanted
 

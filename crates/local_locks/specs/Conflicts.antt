@@ -19,8 +19,7 @@ abbrev pub shared_on : Group → List HeldClaim → ℕ
 shared_on group holdings = count_by (λ holding. is_same holding.group group && is_shared holding.mode) holdings
 
 -- A held claim conflicts with a want: its group is wanted, and one of the two is exclusive, or all eight shared
--- claims on the group are out. For two wants of which none is granted yet only the modes count: that is `Conflict` of
--- `groups`.
+-- claims on the group are out
 pub record ClaimConflicts (holdings : List HeldClaim) (holding : HeldClaim) (want : Want) : Type 0 where
   pub covered : Covers want holding.group
   pub apart : (want.mode ≡ Exclusive) ⊎ ((holding.mode ≡ Exclusive) ⊎ (8 ≤ shared_on holding.group holdings))
@@ -47,3 +46,7 @@ pub record MustDie (holdings : List HeldClaim) (age : ℕ) (wants : List Want) (
   pub older : oldest ≤ age
   pub first : (holding : HeldClaim) → Blocks holdings wants holding → holding.by.age ≤ age → group_cmp group holding.group ≢ Greater
   pub oldest_there : (holding : HeldClaim) → Blocks holdings wants holding → holding.group ≡ group → oldest ≤ holding.by.age
+
+-- an action of this age with these wants does not have to die
+abbrev pub NeedNotDie : List HeldClaim → ℕ → List Want → Type 0
+NeedNotDie holdings age wants = (group : Group) (oldest : ℕ) → MustDie holdings age wants group oldest → ⊥

@@ -1,6 +1,7 @@
 -- The wanted groups, one by one, and what may be asked of a table.
 use Rattle.std.specs.Prelude.{◌≡◌, ℕ, zero, suc, List, [], ◌∷◌, All, AllPairs, map}
 use Rattle.std.specs.List.{flat_map}
+use Rattle.rows.specs.declared.limits.TheConstants.{STOCK_GROUPS}
 use Rattle.requests.specs.declared.group.Group.{Group}
 use Rattle.requests.specs.declared.group.Group.TheVariants as g
 use Rattle.groups.specs.Groups.{warehouse_of}
@@ -25,7 +26,7 @@ groups_under District w_id = numbered (λ d_id. g.District w_id d_id) 1 10
 groups_under Customers w_id = numbered (λ d_id. g.Customers w_id d_id) 1 10
 groups_under Orders w_id = numbered (λ d_id. g.Orders w_id d_id) 1 10
 groups_under History w_id = numbered (λ d_id. g.History w_id d_id) 1 10
-groups_under Stock w_id = numbered (λ residue. g.Stock w_id residue) 0 64
+groups_under Stock w_id = numbered (λ residue. g.Stock w_id residue) 0 STOCK_GROUPS
 
 -- the groups of an extent: one, or all of a kind in a warehouse, in the order of groups
 abbrev pub groups_in : Extent → List Group

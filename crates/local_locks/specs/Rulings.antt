@@ -1,5 +1,6 @@
 -- The ruling on an action's wants, by the places of groups among those of the warehouse.
 use Rattle.std.specs.Prelude.{◌≡◌, ℕ, zero, suc, ◌<◌, ◌≤◌, List, [], ◌∷◌, Contains, map, slice_index_or, nat_lt, if◌then◌else◌}
+use Rattle.rows.specs.declared.limits.TheConstants.{STOCK_GROUPS}
 use Rattle.groups.specs.declared.group_wants.Mode.{Mode}
 use Rattle.groups.specs.declared.wants.Kind.{Kind}
 use Rattle.groups.specs.declared.wants.Kind.TheVariants.{Warehouse, District, Customers, Orders, History, Stock}
@@ -30,7 +31,7 @@ count_of District = 10
 count_of Customers = 10
 count_of Orders = 10
 count_of History = 10
-count_of Stock = 64
+count_of Stock = STOCK_GROUPS
 
 -- the place of the first group of an extent
 abbrev pub first_place : Extent → ℕ

@@ -47,7 +47,8 @@ fn grant_want<J: GroupNames>(
     requires places { 105 ≤ length locks.old }
     requires open { All (IsOpen locks.old) (spots_of want) }
     requires room { vec_len claims.old + length (spots_of want) ≤ vec_capacity claims.old }
-    ensures claims { claims.new.items ≡ claims.old.items ++ map (claim_at by (map stand_in locks.old)) (spots_of want) }
+    ensures claims { claims.new.items ≡ claims.old.items
+        ++ map (claim_at by (map stand_in locks.old)) (spots_of want) }
     ensures count { vec_len claims.new ≡ vec_len claims.old + length (spots_of want) }
     ensures room { vec_capacity claims.new ≡ vec_capacity claims.old }
     ensures granted { AreGranted J.warehouses by (spots_of want) locks.old locks.new }
@@ -69,8 +70,10 @@ pub(crate) fn grant_all<J: GroupNames>(
     requires places { 105 ≤ length locks.old }
     requires open { All (IsOpen locks.old) (flat_map spots_of wants.now) }
     requires once { AllPairs AreElsewhere (flat_map spots_of wants.now) }
-    requires room { vec_len claims.old + length (flat_map spots_of wants.now) ≤ vec_capacity claims.old }
-    ensures claims { claims.new.items ≡ claims.old.items ++ map (claim_at by (map stand_in locks.old)) (flat_map spots_of wants.now) }
+    requires room { vec_len claims.old + length (flat_map spots_of wants.now)
+        ≤ vec_capacity claims.old }
+    ensures claims { claims.new.items ≡ claims.old.items
+        ++ map (claim_at by (map stand_in locks.old)) (flat_map spots_of wants.now) }
     ensures granted { AreGranted J.warehouses by (flat_map spots_of wants.now) locks.old locks.new }
 {
     for want in wants {

@@ -74,7 +74,8 @@ impl<J: GroupNames> Lock<J> {
     pub(crate) fn grant(&mut self, mode: Mode, by: Holder) -> Claim<J>
         requires { conflicting mode self.old ≡ [] }
         ensures claim { result ≡ fresh by self.old.ticket_box.group mode self.old.ticket_box.left }
-        ensures lock { self.new ≡ lock_view (given_out mode self.old.ticket_box) (self.old.holders ++ by ∷ []) }
+        ensures lock { self.new
+            ≡ lock_view (given_out mode self.old.ticket_box) (self.old.holders ++ by ∷ []) }
         ensures agree { IsLocked self.old × IsLocked self.new }
     {
         let granted = match mode {
@@ -95,7 +96,8 @@ impl<J: GroupNames> Lock<J> {
         ensures mode { claim.mode ≡ self.old.ticket_box.mode }
         ensures ticket_box { self.new.ticket_box ≡ taken_back self.old.ticket_box }
         ensures fewer { length self.new.holders + 1 ≡ length self.old.holders }
-        ensures holders { Contains self.old.holders claim.by → IsPermutation self.old.holders (claim.by ∷ self.new.holders) }
+        ensures holders { Contains self.old.holders claim.by
+            → IsPermutation self.old.holders (claim.by ∷ self.new.holders) }
         ensures agree { IsLocked self.old × IsLocked self.new }
     {
         let by = claim.by();
@@ -121,7 +123,9 @@ impl<J: GroupNames> Lock<J> {
         requires exclusive { claim.old.mode ≡ Exclusive }
         ensures left { claim.old.left ≡ self.old.ticket_box.left }
         ensures claim { claim.new ≡ leaving claim.old (C.changed change.now claim.old.left) }
-        ensures lock { self.new ≡ lock_view (with_left self.old.ticket_box (C.changed change.now self.old.ticket_box.left)) self.old.holders }
+        ensures lock { self.new ≡ lock_view
+            (with_left self.old.ticket_box (C.changed change.now self.old.ticket_box.left))
+            self.old.holders }
         ensures agree { IsLocked self.new }
     {
         self.ticket_box.leave(claim, change);
@@ -133,7 +137,8 @@ impl<J: GroupNames> Lock<J> {
         requires exclusive { claim.old.mode ≡ Exclusive }
         ensures back { claim.old.back ≡ self.old.ticket_box.back }
         ensures claim { claim.new ≡ leaving claim.old claim.old.back }
-        ensures lock { self.new ≡ lock_view (with_left self.old.ticket_box self.old.ticket_box.back) self.old.holders }
+        ensures lock { self.new ≡ lock_view
+            (with_left self.old.ticket_box self.old.ticket_box.back) self.old.holders }
         ensures agree { IsLocked self.new }
     {
         self.ticket_box.undo(claim);

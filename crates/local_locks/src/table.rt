@@ -1,12 +1,11 @@
-ghost use Rattle.std.specs.Prelude.{◌≡◌, ◌++◌, ◌∷◌, [], All, Contains, IfNone, IfOk, IfSome, IsOk, OnErr, map, slice_set, slice_index_or, ℕ};
+ghost use Rattle.std.specs.Prelude.{◌≡◌, ◌++◌, ◌∷◌, [], All, Contains, IfNone, IfOk, IfSome, IsOk, OnErr, map, slice_set, slice_index_or};
 ghost use Rattle.std.specs.List.Sorted.{IsPermutation};
-ghost use Rattle.requests.specs.declared.group.Group.{Group as AnyGroup};
 ghost use Rattle.groups.specs.Groups.{warehouse_of};
 ghost use Rattle.groups.specs.declared.group_wants.Mode.TheVariants.{Exclusive};
 ghost use Rattle.tickets.specs.Claims.{leaving};
 ghost use Rattle.tickets.specs.Places.{IsGroupOf};
 ghost use Rattle.local_locks.specs.Asking.{all_kept_after, held_by, kept_after, AreHeld, AreTogether, Answers, AnswersAtOnce, IsOfHome, IsSettled, StillWaits, TakesTurn, leaving_in};
-ghost use Rattle.local_locks.specs.Conflicts.{MustDie};
+ghost use Rattle.local_locks.specs.Conflicts.{NeedNotDie};
 ghost use Rattle.local_locks.specs.Laws.{AreUntouched, CouldAsk, IsClaimOf, NoneConflict};
 ghost use Rattle.local_locks.specs.LockTableView.{back_in, left_in, opened, AreBoxesOf, AreStandsOf};
 ghost use Rattle.local_locks.specs.GroupWants.{CanAsk};
@@ -112,7 +111,7 @@ impl<J: GroupNames> LockTable<J> {
         requires { CanAsk J.warehouses self.old.w_id wants.now }
         ensures answers { IfOk result (λ asked. Answers by wants.now self.old asked self.new) }
         ensures err { OnErr result (self.new ≡ self.old) }
-        ensures death_takes_none { OnErr result ((group : AnyGroup) (age : ℕ) → MustDie self.old.holdings by.age wants.now group age → ⊥) }
+        ensures death_takes_none { OnErr result (NeedNotDie self.old.holdings by.age wants.now) }
         ensures nothing_takes_none { wants.now ≡ [] → IsOk result }
     {
         match self.ask_at_once(alloc, by, wants)? {
@@ -134,9 +133,10 @@ impl<J: GroupNames> LockTable<J> {
         wants: &[Want],
     ) -> Result<Asked<J>, NoMemory>
         requires { CanAsk J.warehouses self.old.w_id wants.now }
-        ensures answers { IfOk result (λ asked. AnswersAtOnce by wants.now self.old asked self.new) }
+        ensures answers { IfOk result (λ asked.
+            AnswersAtOnce by wants.now self.old asked self.new) }
         ensures err { OnErr result (self.new ≡ self.old) }
-        ensures death_takes_none { OnErr result ((group : AnyGroup) (age : ℕ) → MustDie self.old.holdings by.age wants.now group age → ⊥) }
+        ensures death_takes_none { OnErr result (NeedNotDie self.old.holdings by.age wants.now) }
         ensures nothing_takes_none { wants.now ≡ [] → IsOk result }
     {
         match ruling_on(&self.locks, by.age, wants) {
@@ -160,7 +160,8 @@ impl<J: GroupNames> LockTable<J> {
         requires home { IsOfHome self.old.w_id claim }
         requires committed { IsSettled claim }
         ensures out { AreTogether self.old.holdings (held_by claim ∷ []) self.new.holdings }
-        ensures holdings { Contains self.old.holdings (held_by claim) → IsPermutation self.old.holdings (held_by claim ∷ self.new.holdings) }
+        ensures holdings { Contains self.old.holdings (held_by claim)
+            → IsPermutation self.old.holdings (held_by claim ∷ self.new.holdings) }
         ensures stands { self.new.stands ≡ map (kept_after claim) self.old.stands }
         ensures waiters { self.new.waiters ≡ self.old.waiters }
         ensures warehouse { self.new.w_id ≡ self.old.w_id }
@@ -174,7 +175,8 @@ impl<J: GroupNames> LockTable<J> {
         requires home { All (IsOfHome self.old.w_id) claims.items }
         requires committed { All IsSettled claims.items }
         ensures out { AreTogether self.old.holdings (map held_by claims.items) self.new.holdings }
-        ensures holdings { AreHeld self.old.holdings claims.items → IsPermutation self.old.holdings (map held_by claims.items ++ self.new.holdings) }
+        ensures holdings { AreHeld self.old.holdings claims.items
+            → IsPermutation self.old.holdings (map held_by claims.items ++ self.new.holdings) }
         ensures stands { self.new.stands ≡ all_kept_after claims.items self.old.stands }
         ensures waiters { self.new.waiters ≡ self.old.waiters }
         ensures warehouse { self.new.w_id ≡ self.old.w_id }
@@ -228,7 +230,8 @@ impl<J: GroupNames> LockTable<J> {
         ensures known { IsGroupOf J.warehouses claim.old.group }
         ensures left { claim.old.left ≡ left_in self.old.stands claim.old.group }
         ensures claim { claim.new ≡ leaving claim.old (C.changed change.now claim.old.left) }
-        ensures table { self.new ≡ leaving_in self.old claim.old.group (C.changed change.now claim.old.left) }
+        ensures table { self.new
+            ≡ leaving_in self.old claim.old.group (C.changed change.now claim.old.left) }
     {
         let place = place_of_claim(claim);
         self.locks[place].leave(claim, change);

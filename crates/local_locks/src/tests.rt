@@ -169,7 +169,8 @@ fn one(group: Group, mode: Mode) -> Want
 }
 
 fn every(kind: Kind, mode: Mode) -> Want
-    ensures { result ≡ record { extent = Extent.Every (record { kind = kind; w_id = 1 }); mode = mode } }
+    ensures { result
+        ≡ record { extent = Extent.Every (record { kind = kind; w_id = 1 }); mode = mode } }
 {
     Want {
         extent: Extent::Every(Prefix { kind, w_id: 1 }),

@@ -19,7 +19,7 @@ use Rattle.schema.specs.Database.{Database, list_at}
 use Rattle.schema.specs.Consistency.{Consistent, amounts_of, is_payer, delivered, paid, WarehousesSumDistricts, NextOrdersFollow, NewOrdersHaveNoGap, DistrictsCountLines, WarehousesSumPayments, DistrictsSumPayments, BalancesAreOwed, BalancesArePaid}
 use Rattle.schema.proofs.KeyOrders.{districts_total, districts_exact, customers_total, customers_exact}
 use Rattle.requests.specs.declared.payment.Payment.{Payment}
-use Rattle.machine.specs.Payment.{posted, payment_row}
+use Rattle.machine.specs.Payment.{posted, posting, payment_row}
 use Rattle.machine.specs.PaymentLaws.{PaymentKeepsConsistency}
 use Rattle.machine.proofs.PaidRows.{IsPaidBy, warehouse_paid-is, district_paid-is, customer_paid-is}
 use Rattle.machine.proofs.TableChanges.{get-insert_here, get-insert_elsewhere, each_row-insert, column-insert, sum_rows-grow}
@@ -49,7 +49,7 @@ module _ (t : Database) (p : Payment) (payer : CustomerKey) (w new_w : Warehouse
   rows = list_at t.histories p.home
 
   abbrev left : Database
-  left = (posted t p payer row (Some new_w) (Some new_d) (Some new_c)).tables
+  left = (posted t (posting p payer row) (Some new_w) (Some new_d) (Some new_c)).tables
 
   -- ---- conditions 1 and 8: totals by warehouse
 

@@ -19,21 +19,21 @@ use Rattle.requests.specs.declared.new_order.OrderedLine.{OrderedLine}
 use Rattle.requests.specs.declared.reply.Fault.{Fault}
 use Rattle.requests.specs.declared.reply.Fault.TheVariants.{NoCustomer, NoItem, Range}
 use Rattle.machine.specs.Outcome.{Outcome, rolled_back}
-use Rattle.machine.specs.NewOrder.{new_order, ordered, placed_of, placed_within, district_ordered, supplies, supply, items_found, all_there, line_rows}
+use Rattle.machine.specs.NewOrder.{new_order, ordered, placed_of, placed_within, found_rows, district_ordered, supplies, supply, items_found, all_there, line_rows}
 
 -- ---- the cases
 
 within-cases : (t : Database) (n : NewOrder) (w : Warehouse) (d : District) (c : Customer) (items : List Item) (od : Option District) (os : Option (List Stock)) (G : Outcome → Type 0)
     → ((fault : Fault) → G (rolled_back t fault))
-    → ((new_d : District) (stocks : List Stock) → od ≡ Some new_d → os ≡ Some stocks → G (placed_within t n w d c items (Some new_d) (Some stocks)))
-    → G (placed_within t n w d c items od os)
+    → ((new_d : District) (stocks : List Stock) → od ≡ Some new_d → os ≡ Some stocks → G (placed_within t n (found_rows w d c items) (Some new_d) (Some stocks)))
+    → G (placed_within t n (found_rows w d c items) od os)
 within-cases t n w d c items (Some new_d) (Some stocks) G back put = put new_d stocks refl refl
 within-cases t n w d c items None os G back put = back Range
 within-cases t n w d c items (Some new_d) None G back put = back Range
 
 of-cases : (t : Database) (n : NewOrder) (w : Warehouse) (d : District) (c : Customer) (oi : Option (List Item)) (G : Outcome → Type 0)
     → ((fault : Fault) → G (rolled_back t fault))
-    → ((items : List Item) → oi ≡ Some items → G (placed_within t n w d c items (district_ordered d) (supplies t n)))
+    → ((items : List Item) → oi ≡ Some items → G (placed_within t n (found_rows w d c items) (district_ordered d) (supplies t n)))
     → G (placed_of t n w d c oi)
 of-cases t n w d c (Some items) G back put = put items refl
 of-cases t n w d c None G back put = back (NoItem c.last c.credit d.next_o_id)
@@ -53,7 +53,7 @@ pub new_order-cases : (t : Database) (n : NewOrder) (G : Outcome → Type 0)
     → ((w : Warehouse) (d new_d : District) (c : Customer) (items : List Item) (stocks : List Stock)
     → table.get t.warehouses n.home.w_id ≡ Some w → table.get t.districts n.home ≡ Some d → table.get t.customers (customer_key n.home n.c_id) ≡ Some c
     → items_found t n.lines ≡ Some items → district_ordered d ≡ Some new_d → supplies t n ≡ Some stocks
-    → G (placed_within t n w d c items (Some new_d) (Some stocks)))
+    → G (placed_within t n (found_rows w d c items) (Some new_d) (Some stocks)))
     → G (new_order t n)
 new_order-cases t n G back put =
     ordered-cases t n (table.get t.warehouses n.home.w_id) (table.get t.districts n.home) (table.get t.customers (customer_key n.home n.c_id)) G back (λ w d c w_is d_is c_is.

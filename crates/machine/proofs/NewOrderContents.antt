@@ -8,6 +8,7 @@ use Rattle.rows.specs.declared.keys.OrderKey.{OrderKey}
 use Rattle.rows.specs.declared.records.District.{District}
 use Rattle.rows.specs.declared.records.NewOrder.{NewOrder as NewOrderRow}
 use Rattle.rows.specs.declared.records.OrderLine.{OrderLine}
+use Rattle.rows.specs.declared.limits.TheConstants.{STOCK_GROUPS}
 use Rattle.schema.specs.Database.{Database}
 use Rattle.schema.specs.OrderRows.{line_key}
 use Rattle.schema.proofs.KeyOrders.{stocks_total, stocks_exact}
@@ -57,7 +58,7 @@ no_line_names group (line ∷ lines) none key own =
           let is : ((line.supply_w_id == key.w_id) && (line.i_id == key.i_id)) ≡ true = e in
           let warehouse : key.w_id ≡ line.supply_w_id = grind (arith, nat_tests) in
           let item : key.i_id ≡ line.i_id = grind (arith, nat_tests) in
-          absurd (none.0 (own ∙ λ i. g.Stock (warehouse i) (item i % 64)))
+          absurd (none.0 (own ∙ λ i. g.Stock (warehouse i) (item i % STOCK_GROUPS)))
       | false ↦ λ e. no_line_names group lines none.1 key own
     ] refl
 
@@ -68,9 +69,9 @@ nothing_taken_from home lines t (g.Stock w_id residue) none =
     let group = g.Stock w_id residue in
     ap OfStock (rows_of-map_rows_other group_of_stock group stocks_total stocks_exact (λ key row. unwrap_or (stock_taken home row (taken_from key lines)) row) t.stocks
     (λ key row inside.
-    let is : ((key.w_id == w_id) && ((key.i_id % 64) == residue)) ≡ true = inside in
+    let is : ((key.w_id == w_id) && ((key.i_id % STOCK_GROUPS) == residue)) ≡ true = inside in
     let warehouse : w_id ≡ key.w_id = grind (arith, nat_tests) in
-    let rest : residue ≡ key.i_id % 64 = grind (arith, nat_tests) in
+    let rest : residue ≡ key.i_id % STOCK_GROUPS = grind (arith, nat_tests) in
     ap (λ taken. unwrap_or (stock_taken home row taken) row) (no_line_names group lines none key (λ i. g.Stock (warehouse i) (rest i)))
     ∙ nothing_taken home row))
 nothing_taken_from home lines t _ none = refl

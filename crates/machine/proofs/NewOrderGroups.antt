@@ -25,7 +25,7 @@ use Rattle.groups.specs.Laws.{warehouse_in, district_in, customer_in, stock_in}
 use Rattle.groups.proofs.SameGroups.{groups_total, groups_exact, is_same-itself, is_same-other}
 use Rattle.groups.proofs.RowsInGroups.{each_row_stands_in_one_group, same_row}
 use Rattle.machine.specs.Outcome.{Outcome}
-use Rattle.machine.specs.NewOrder.{all_there, district_ordered, items_found, line_rows, new_order, ordered, placed_of, placed_within, stock_key_of, stock_taken, supplies, supply, taken_from}
+use Rattle.machine.specs.NewOrder.{all_there, district_ordered, items_found, line_rows, new_order, ordered, placed_of, placed_within, found_rows, stock_key_of, stock_taken, supplies, supply, taken_from}
 use Rattle.machine.specs.NewOrderLaws.{NewOrderReadsItsGroups, NewOrderKeepsOtherGroups}
 use Rattle.machine.proofs.RowsChanged.{same_or_other}
 use Rattle.machine.proofs.NewOrderCases.{new_order-cases}
@@ -105,7 +105,7 @@ module _ (s t : Database) (n : NewOrder) where
     same_items = ap (λ rows. all_there (map (λ (line : OrderedLine). table.get rows line.i_id) n.lines)) items
 
     alike_within : (w : Warehouse) (d : District) (c : Customer) (found : List Item) (new_d : Option District) (stocks : Option (List Stock))
-        → EndAlike (placed_within s n w d c found new_d stocks) (placed_within t n w d c found new_d stocks)
+        → EndAlike (placed_within s n (found_rows w d c found) new_d stocks) (placed_within t n (found_rows w d c found) new_d stocks)
     unfolding EndAlike
     alike_within w d c found (Some new_d) (Some stocks) = (refl, placed_alike n d.next_o_id new_d (line_rows n.home n.lines found stocks) s t)
     alike_within w d c found None stocks = (refl, λ group same. same)

@@ -19,7 +19,7 @@ use Rattle.requests.specs.declared.reply.Fault.TheVariants.{NoCustomer, NoItem, 
 use Rattle.requests.specs.declared.reply.Shown.TheVariants.{NewOrder as OrderShown}
 use Rattle.machine.specs.declared.new_order_lines.LinePlaced.{LinePlaced}
 use Rattle.machine.specs.Outcome.{done, rolled_back}
-use Rattle.machine.specs.NewOrder.{new_order, ordered, placed, placed_of, placed_within, district_ordered, items_found, all_there, supplies, stock_key_of, stock_taken, stocks_taken, taken_from, line_row, line_rows, new_order_reply}
+use Rattle.machine.specs.NewOrder.{new_order, ordered, placed, placed_of, placed_within, found_rows, district_ordered, items_found, all_there, supplies, stock_key_of, stock_taken, stocks_taken, taken_from, line_row, line_rows, new_order_reply}
 use Rattle.machine.specs.NewOrderLines.{columns, lines_placed, stocks_put}
 use Rattle.machine.proofs.NewOrderCases.{line_rows-length, items_found-length, supplies-length}
 use Rattle.machine.proofs.StocksInTurn.{taken_at, AreTaken, put_in_turn}
@@ -55,12 +55,12 @@ module _ (t : Database) (n : NewOrder) (w : Warehouse) (d : District) (c : Custo
       asked
       ∙ elim (items_found t n.lines) as (λ o. is_some o ≡ true → placed_of t n w d c o ≡ rolled_back t Range) [
         | None ↦ λ e. cc
-        | Some items ↦ λ e. ap (λ o. placed_within t n w d c items o (supplies t n)) none
+        | Some items ↦ λ e. ap (λ o. placed_within t n (found_rows w d c items) o (supplies t n)) none
       ] there
 
   no_lines : (items : List Item) (new_d : District) (o : Option (List LinePlaced)) → Agrees t n 1 n.lines items o → option_map columns o ≡ None
-      → placed_within t n w d c items (Some new_d) (supplies t n) ≡ rolled_back t Range
-  no_lines items new_d None h e = ap (placed_within t n w d c items (Some new_d)) h
+      → placed_within t n (found_rows w d c items) (Some new_d) (supplies t n) ≡ rolled_back t Range
+  no_lines items new_d None h e = ap (placed_within t n (found_rows w d c items) (Some new_d)) h
   no_lines items new_d (Some left) h e = cc
 
   pub no_stock : (new_d : District) → is_some (items_found t n.lines) ≡ true → district_ordered d ≡ Some new_d → None ≡ option_map columns (lines_placed t n 1 n.lines)
@@ -70,7 +70,7 @@ module _ (t : Database) (n : NewOrder) (w : Warehouse) (d : District) (c : Custo
       ∙ elim (items_found t n.lines) as (λ o. items_found t n.lines ≡ o → is_some o ≡ true → placed_of t n w d c o ≡ rolled_back t Range) [
         | None ↦ λ f e. cc
         | Some items ↦ λ f e.
-            ap (λ o. placed_within t n w d c items o (supplies t n)) d_made
+            ap (λ o. placed_within t n (found_rows w d c items) o (supplies t n)) d_made
             ∙ no_lines items new_d (lines_placed t n 1 n.lines) (agrees t n n.lines 1 items f) (sym none)
       ] refl there
 
@@ -154,7 +154,7 @@ module _ (t : Database) (n : NewOrder) (w : Warehouse) (d : District) (c : Custo
         outcome =
             asked t n w d c w_is d_is c_is
             ∙ ap (placed_of t n w d c) f
-            ∙ (λ i. placed_within t n w d c items (d_made i) (h.found i))
+            ∙ (λ i. placed_within t n (found_rows w d c items) (d_made i) (h.found i))
             ∙ (λ i. done (placed t n d.next_o_id new_d (sym h.rows i)) (OrderShown (new_order_reply n w d c (sym h.rows i) (sym h.shown i))));
         put = put_in_turn n.home.w_id t.stocks n.lines (map (λ (l : LinePlaced). l.stock) left) h.taken;
         counted = ap length h.rows ∙ line_rows-length n.home n.lines items h.stocks (items_found-length t n.lines items f) (supplies-length t n h.stocks h.found);

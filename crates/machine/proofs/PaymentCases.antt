@@ -23,7 +23,7 @@ use Rattle.requests.specs.declared.reply.Fault.TheVariants.{NoCustomer, Range}
 use Rattle.machine.specs.Outcome.{Outcome, rolled_back}
 use Rattle.indexes.specs.Namesakes.{Keyed}
 use Rattle.machine.specs.Chosen.{chosen}
-use Rattle.machine.specs.Payment.{payment, paid, posted, payment_row, warehouse_paid, district_paid, customer_paid}
+use Rattle.machine.specs.Payment.{payment, paid, posted, posting, payment_row, warehouse_paid, district_paid, customer_paid}
 use Rattle.machine.proofs.ChosenRows.{chosen_there}
 use Rattle.machine.proofs.TableChanges.{get-insert_elsewhere, sum_rows-grow}
 use Rattle.machine.proofs.ListedPayments.{amounts_of-append, sum_payments-grow}
@@ -32,8 +32,8 @@ use Rattle.machine.specs.PaymentLaws.{ChangesItsRowsAlone, PaymentIsLocal, Payme
 
 posted-cases : (t : Database) (p : Payment) (key : CustomerKey) (row : History) (ow : Option Warehouse) (od : Option District) (oc : Option Customer) (G : Outcome → Type 0)
     → ((fault : Fault) → G (rolled_back t fault))
-    → ((w : Warehouse) (d : District) (c : Customer) → ow ≡ Some w → od ≡ Some d → oc ≡ Some c → G (posted t p key row (Some w) (Some d) (Some c)))
-    → G (posted t p key row ow od oc)
+    → ((w : Warehouse) (d : District) (c : Customer) → ow ≡ Some w → od ≡ Some d → oc ≡ Some c → G (posted t (posting p key row) (Some w) (Some d) (Some c)))
+    → G (posted t (posting p key row) ow od oc)
 posted-cases t p key row (Some w) (Some d) (Some c) G back put = put w d c refl refl refl
 posted-cases t p key row None od oc G back put = back Range
 posted-cases t p key row (Some w) None oc G back put = back Range
@@ -42,7 +42,7 @@ posted-cases t p key row (Some w) (Some d) None G back put = back Range
 paid-cases : (t : Database) (p : Payment) (ow : Option Warehouse) (od : Option District) (oc : Option Keyed) (G : Outcome → Type 0)
     → ((fault : Fault) → G (rolled_back t fault))
     → ((w : Warehouse) (d : District) (c : Keyed) → ow ≡ Some w → od ≡ Some d → oc ≡ Some c
-    → G (posted t p c.0 (payment_row p c.0 w d) (warehouse_paid w (pos p.amount)) (district_paid d (pos p.amount)) (customer_paid c.1 (payment_note c.0 p.home p.amount) (pos p.amount))))
+    → G (posted t (posting p c.0 (payment_row p c.0 w d)) (warehouse_paid w (pos p.amount)) (district_paid d (pos p.amount)) (customer_paid c.1 (payment_note c.0 p.home p.amount) (pos p.amount))))
     → G (paid t p ow od oc)
 paid-cases t p (Some w) (Some d) (Some c) G back put = put w d c refl refl refl
 paid-cases t p None od oc G back put = back NoCustomer
@@ -61,7 +61,7 @@ pub payment-cases : (t : Database) (p : Payment) (G : Outcome → Type 0)
     → ((key : CustomerKey) (w new_w : Warehouse) (d new_d : District) (c new_c : Customer)
     → map.get t.warehouses p.home.w_id ≡ Some w → map.get t.districts p.home ≡ Some d → IsPayer t p key c
     → warehouse_paid w (pos p.amount) ≡ Some new_w → district_paid d (pos p.amount) ≡ Some new_d → customer_paid c (payment_note key p.home p.amount) (pos p.amount) ≡ Some new_c
-    → G (posted t p key (payment_row p key w d) (Some new_w) (Some new_d) (Some new_c)))
+    → G (posted t (posting p key (payment_row p key w d)) (Some new_w) (Some new_d) (Some new_c)))
     → G (payment t p)
 payment-cases t p G back put =
     paid-cases t p (map.get t.warehouses p.home.w_id) (map.get t.districts p.home) (chosen t.customers p.customer_home p.customer) G back (λ w d c w_is d_is c_is.

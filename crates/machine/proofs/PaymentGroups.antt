@@ -26,7 +26,7 @@ use Rattle.groups.proofs.RowsPut.{each_put_changes_one_group}
 use Rattle.machine.specs.Outcome.{Outcome}
 use Rattle.indexes.specs.Namesakes.{Keyed}
 use Rattle.machine.specs.Chosen.{chosen}
-use Rattle.machine.specs.Payment.{payment, paid, posted, payment_row, warehouse_paid, district_paid, customer_paid}
+use Rattle.machine.specs.Payment.{payment, paid, posted, posting, payment_row, warehouse_paid, district_paid, customer_paid}
 use Rattle.machine.specs.PaymentLaws.{PaymentReadsItsGroups, PaymentKeepsOtherGroups}
 use Rattle.machine.proofs.ChosenRows.{chosen_there}
 use Rattle.machine.proofs.SameChosen.{same_chosen}
@@ -44,7 +44,7 @@ module _ (p : Payment) where
 
   module _ (payer : CustomerKey) (of_home : payer ≡ customer_key p.customer_home payer.c_id) (w : Warehouse) (d : District) (c : Customer) (row : History) (t : Database) where
     abbrev pub left : Database
-    left = (posted t p payer row (Some w) (Some d) (Some c)).tables
+    left = (posted t (posting p payer row) (Some w) (Some d) (Some c)).tables
 
     abbrev pub with_w : Database
     with_w = record t { warehouses = map.insert t.warehouses p.home.w_id w }
@@ -133,7 +133,7 @@ module _ (p : Payment) where
         history = history_left payer of_home w d c row s ∙ ap (λ rows. OfHistory (Some (rows ++ row ∷ []))) same_list ∙ sym (history_left payer of_home w d c row t);
       }
 
-      alike_posted : (row : History) (w : Option Warehouse) (d : Option District) (c : Option Customer) → EndAlike (posted s p payer row w d c) (posted t p payer row w d c)
+      alike_posted : (row : History) (w : Option Warehouse) (d : Option District) (c : Option Customer) → EndAlike (posted s (posting p payer row) w d c) (posted t (posting p payer row) w d c)
       unfolding EndAlike
       alike_posted row (Some w) (Some d) (Some c) = (refl, alike_left w d c row)
       alike_posted row None d c = (refl, alike)

@@ -11,6 +11,7 @@ use Rattle.rows.specs.declared.keys.StockKey.{StockKey}
 use Rattle.rows.specs.declared.keys.OrderLineKey.{OrderLineKey}
 use Rattle.rows.specs.declared.records.Stock.{Stock}
 use Rattle.rows.specs.declared.records.OrderLine.{OrderLine}
+use Rattle.rows.specs.declared.limits.TheConstants.{STOCK_GROUPS}
 use Rattle.schema.specs.Database.{Database, is_of_district}
 use Rattle.schema.specs.OrderRows.{is_in_span}
 use Rattle.schema.proofs.KeyOrders.{stocks_total, stocks_exact, lines_total, lines_exact}
@@ -67,13 +68,13 @@ module _ (w_id : ℕ) where
   get-of_warehouse : (stocks : Stocks) (q : StockKey) → get (retain_keys stocks of_warehouse) q ≡ cond (of_warehouse q) (get stocks q) None
   get-of_warehouse stocks q = get-retain_keys stocks of_warehouse q (λ x tied. ap of_warehouse (sym (stocks_exact q x tied)))
 
-  module _ (s t : Database) (alike : (residue : ℕ) → residue < 64 → content s (g.Stock w_id residue) ≡ content t (g.Stock w_id residue)) where
+  module _ (s t : Database) (alike : (residue : ℕ) → residue < STOCK_GROUPS → content s (g.Stock w_id residue) ≡ content t (g.Stock w_id residue)) where
     same_stock : (q : StockKey) → of_warehouse q ≡ true → get s.stocks q ≡ get t.stocks q
     same_stock q there =
         let same : w_id ≡ q.w_id = grind (arith, nat_tests) in
-        let small : q.i_id % 64 < 64 = omega arith in
+        let small : q.i_id % STOCK_GROUPS < STOCK_GROUPS = omega arith in
         same_row s t s.stocks t.stocks group_of_stock stock_in (each_row_stands_in_one_group s).stocks (each_row_stands_in_one_group t).stocks q
-        (subst (λ w. content s (g.Stock w (q.i_id % 64)) ≡ content t (g.Stock w (q.i_id % 64))) same (alike (q.i_id % 64) small))
+        (subst (λ w. content s (g.Stock w (q.i_id % STOCK_GROUPS)) ≡ content t (g.Stock w (q.i_id % STOCK_GROUPS))) same (alike (q.i_id % STOCK_GROUPS) small))
 
     same_stocks : retain_keys s.stocks of_warehouse ≡ retain_keys t.stocks of_warehouse
     same_stocks =
@@ -107,8 +108,8 @@ stock_level_reads_its_groups s t asked alike =
     same_row s t s.districts t.districts group_of_district district_in (each_row_stands_in_one_group s).districts (each_row_stands_in_one_group t).districts home each.0 in
     let items : recent_items s home (next_order (get s.districts home)) ≡ recent_items t home (next_order (get t.districts home)) =
     same_items home (next_order (get s.districts home)) s t each.1.0 ∙ ap (λ row. recent_items t home (next_order row)) district in
-    let stock : (residue : ℕ) → residue < 64 → content s (g.Stock home.w_id residue) ≡ content t (g.Stock home.w_id residue) =
-    λ residue below. at_residue home.w_id (λ group. content s group ≡ content t group) 0 64 each.1.1 residue (omega arith) (omega arith) in
+    let stock : (residue : ℕ) → residue < STOCK_GROUPS → content s (g.Stock home.w_id residue) ≡ content t (g.Stock home.w_id residue) =
+    λ residue below. at_residue home.w_id (λ group. content s group ≡ content t group) 0 STOCK_GROUPS each.1.1 residue (omega arith) (omega arith) in
     let low : low_stock s home.w_id asked.threshold (recent_items s home (next_order (get s.districts home)))
     ≡ low_stock t home.w_id asked.threshold (recent_items t home (next_order (get t.districts home))) =
     ap (low_stock s home.w_id asked.threshold) items ∙ same_low home.w_id s t stock asked.threshold (recent_items t home (next_order (get t.districts home))) in

@@ -193,18 +193,30 @@ placed t n o_id district rows =
     })
     (order_key n.home o_id) (order_row n) rows
 
+-- The rows that a New-Order finds: those of its warehouse, its district and its customer, and its lines' rows of ITEM.
+pub record FoundRows : Type 0 where
+  pub warehouse : Warehouse
+  pub district : District
+  pub customer : Customer
+  pub items : List Item
+
+-- these rows together
+abbrev pub found_rows : Warehouse → District → Customer → List Item → FoundRows
+found_rows w d c items = record { warehouse = w; district = d; customer = c; items = items }
+
 -- the outcome if every item exists: the order is placed if D_NEXT_O_ID and every row of STOCK stay in range, else
 -- nothing changes
-abbrev pub placed_within : Database → NewOrder → Warehouse → District → Customer → List Item → Option District → Option (List Stock) → Outcome
-placed_within t n w d c items (Some district) (Some stocks) =
-    let rows = line_rows n.home n.lines items stocks in
-    done (placed t n d.next_o_id district rows) (OrderShown (new_order_reply n w d c rows (lines_shown n.lines 1 n.lines items stocks)))
-placed_within t n w d c items _ _ = rolled_back t Range
+abbrev pub placed_within : Database → NewOrder → FoundRows → Option District → Option (List Stock) → Outcome
+placed_within t n found (Some district) (Some stocks) =
+    let rows = line_rows n.home n.lines found.items stocks in
+    done (placed t n found.district.next_o_id district rows)
+    (OrderShown (new_order_reply n found.warehouse found.district found.customer rows (lines_shown n.lines 1 n.lines found.items stocks)))
+placed_within t n found _ _ = rolled_back t Range
 
 -- The outcome if the rows of warehouse, district and customer exist. If a line's item is missing, the fault still shows
 -- the number that the order would have got (clause 2.4.3.4).
 abbrev pub placed_of : Database → NewOrder → Warehouse → District → Customer → Option (List Item) → Outcome
-placed_of t n w d c (Some items) = placed_within t n w d c items (district_ordered d) (supplies t n)
+placed_of t n w d c (Some items) = placed_within t n (found_rows w d c items) (district_ordered d) (supplies t n)
 placed_of t n w d c None = rolled_back t (NoItem c.last c.credit d.next_o_id)
 
 -- the outcome, given the rows of warehouse, district and customer

@@ -1,18 +1,20 @@
 -- The results of the lines of a New-Order, one after another (clause 2.4.2.2).
-use Rattle.std.specs.Prelude.{ℕ, ◌+◌, ◌≤◌, List, [], ◌∷◌, length, map, take, Option, Some, None}
-use Rattle.std.specs.List.{All}
+use Rattle.std.specs.Prelude.{ℕ, ◌+◌, ◌≤◌, IsTrue, List, [], ◌∷◌, length, map, take, Option, Some, None}
+use Rattle.std.specs.List.{All, list_all}
 use Rattle.std.specs.Option.{option_map}
 use Rattle.std.specs.FinMap as table
+use Rattle.rows.specs.declared.records.District.{District}
 use Rattle.rows.specs.declared.records.Item.{Item}
 use Rattle.rows.specs.declared.records.Stock.{Stock}
 use Rattle.rows.specs.declared.records.OrderLine.{OrderLine}
 use Rattle.rows.specs.declared.limits.TheConstants.{MOST_LINES}
 use Rattle.schema.specs.Database.{Database}
+use Rattle.schema.specs.OrderRows.{with_order}
 use Rattle.requests.specs.declared.new_order.NewOrder.{NewOrder}
 use Rattle.requests.specs.declared.new_order.OrderedLine.{OrderedLine}
 use Rattle.requests.specs.declared.new_order.NewOrderLine.{NewOrderLine}
 use Rattle.machine.specs.declared.new_order_lines.LinePlaced.{LinePlaced}
-use Rattle.machine.specs.NewOrder.{Stocks, stock_key_of, taken_from, quantity_after, stock_taken, line_row, line_shown}
+use Rattle.machine.specs.NewOrder.{Stocks, stock_key_of, taken_from, quantity_after, stock_taken, line_row, line_shown, order_key, order_row}
 
 -- ---- the precondition
 
@@ -25,6 +27,10 @@ pub record IsOrderWithin (n : NewOrder) : Type 0 where
   pub some_line : 1 ≤ length n.lines
   pub most_lines : length n.lines ≤ MOST_LINES
   pub quantities : AreQuantities n.lines
+
+-- each line's row of STOCK is stored
+abbrev pub HaveStocks : Stocks → List OrderedLine → Type 0
+HaveStocks stocks lines = IsTrue (list_all (λ line. table.contains_key stocks (stock_key_of line)) lines)
 
 -- ---- the results of a line
 
@@ -66,3 +72,13 @@ columns left = (map (λ l. l.row) left, map (λ l. l.shown) left, map (λ l. l.s
 abbrev pub stocks_put : List OrderedLine → List Stock → Stocks → Stocks
 stocks_put (line ∷ lines) (row ∷ rows) stocks = table.insert (stocks_put lines rows stocks) (stock_key_of line) row
 stocks_put _ _ stocks = stocks
+
+-- the tables with the order, the row of its district, and these rows of STOCK for its lines
+abbrev pub with_order_put : Database → NewOrder → ℕ → District → List OrderLine → List Stock → Database
+with_order_put t n o_id district rows stocks =
+    with_order
+    (record t {
+      districts = table.insert t.districts n.home district;
+      stocks = stocks_put n.lines stocks t.stocks;
+    })
+    (order_key n.home o_id) (order_row n) rows

@@ -75,23 +75,33 @@ payment_reply key c = record {
   «data» = data_shown c.credit c.data;
 }
 
+-- a payment with its customer and its row of HISTORY
+pub record Posting : Type 0 where
+  pub request : Payment
+  pub customer : CustomerKey
+  pub row : History
+
+-- these together
+abbrev pub posting : Payment → CustomerKey → History → Posting
+posting p key row = record { request = p; customer = key; row = row }
+
 -- all rows change at once; none changes if a sum would leave its range
-abbrev pub posted : Database → Payment → CustomerKey → History → Option Warehouse → Option District → Option Customer → Outcome
-posted t p key row (Some w) (Some d) (Some c) =
+abbrev pub posted : Database → Posting → Option Warehouse → Option District → Option Customer → Outcome
+posted t put (Some w) (Some d) (Some c) =
     done
     (record t {
-      warehouses = map.insert t.warehouses p.home.w_id w;
-      districts = map.insert t.districts p.home d;
-      customers = map.insert t.customers key c;
-      histories = with_payment t.histories p.home row;
+      warehouses = map.insert t.warehouses put.request.home.w_id w;
+      districts = map.insert t.districts put.request.home d;
+      customers = map.insert t.customers put.customer c;
+      histories = with_payment t.histories put.request.home put.row;
     })
-    (Paid (payment_reply key c))
-posted t p key row _ _ _ = rolled_back t Range
+    (Paid (payment_reply put.customer c))
+posted t put _ _ _ = rolled_back t Range
 
 -- the outcome, given the rows; within the scale only the customer can be missing
 abbrev pub paid : Database → Payment → Option Warehouse → Option District → Option Keyed → Outcome
 paid t p (Some w) (Some d) (Some c) =
-    posted t p c.0 (payment_row p c.0 w d)
+    posted t (posting p c.0 (payment_row p c.0 w d))
     (warehouse_paid w (pos p.amount)) (district_paid d (pos p.amount))
     (customer_paid c.1 (payment_note c.0 p.home p.amount) (pos p.amount))
 paid t p _ _ _ = rolled_back t NoCustomer

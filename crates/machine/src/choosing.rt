@@ -18,7 +18,8 @@ pub fn chosen<'a, T: Rows>(
     choice: &Choice,
 ) -> Option<(CustomerKey, &'a Customer)>
     requires { FitsNamesBy (T.slot tables.now) names.now (T.tables tables.now) }
-    ensures { option_map (λ c. (c.0, c.1.now)) result ≡ spec.chosen (T.tables tables.now).customers home choice.now }
+    ensures { option_map (λ c. (c.0, c.1.now)) result
+        ≡ spec.chosen (T.tables tables.now).customers home choice.now }
 {
     let number = chosen_number(tables, names, home, choice)?;
     let key = CustomerKey {
@@ -39,7 +40,8 @@ fn chosen_number<T: Rows>(
     requires { FitsNamesBy (T.slot tables.now) names.now (T.tables tables.now) }
     ensures { MatchOption result
         (spec.chosen (T.tables tables.now).customers home choice.now ≡ None)
-        (λ number. spec.keyed_at (T.tables tables.now).customers (customer_key home number) ≡ spec.chosen (T.tables tables.now).customers home choice.now) }
+        (λ number. spec.keyed_at (T.tables tables.now).customers (customer_key home number)
+        ≡ spec.chosen (T.tables tables.now).customers home choice.now) }
 {
     match choice {
         Choice::Number(number) => Some(*number),

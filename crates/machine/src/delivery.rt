@@ -42,7 +42,8 @@ fn deliver_first(
 ) -> Result<DeliveryReply, Fault>
     requires most { count ≤ 10 }
     requires carrier { carrier ≡ delivery.now.carrier_id }
-    ensures reply { steps.first_answer count result ≡ (steps.first_delivered tables.old delivery.now count).reply }
+    ensures reply { steps.first_answer count result
+        ≡ (steps.first_delivered tables.old delivery.now count).reply }
     ensures ten { IfOk result (λ shown. length shown.orders ≡ 10) }
     ensures tables { tables.new ≡ (steps.first_delivered tables.old delivery.now count).tables }
 {
@@ -149,7 +150,8 @@ fn hand_over(
     carrier: CarrierId,
     moment: Moment,
 ) -> Option<u32>
-    requires { IfSome due (λ handover. IsTrue (map.contains_key tables.old.customers handover.customer)) }
+    requires { IfSome due (λ handover.
+        IsTrue (map.contains_key tables.old.customers handover.customer)) }
     ensures tables { tables.new ≡ (steps.turn_with tables.old carrier moment due).tables }
     ensures number { result ≡ (steps.turn_with tables.old carrier moment due).o_id }
 {

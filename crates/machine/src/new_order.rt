@@ -4,10 +4,10 @@ ghost use Rattle.std.specs.FinMap as table;
 ghost use Rattle.rows.specs.declared.limits.TheConstants.{MOST_LINES};
 ghost use Rattle.schema.specs.Database.{Database, is_order_id, customer_of_order};
 ghost use Rattle.schema.specs.Scale.{has_customer, customer_key};
-ghost use Rattle.schema.specs.OrderRows.{is_line_within, with_order};
+ghost use Rattle.schema.specs.OrderRows.{is_line_within};
 ghost use Rattle.indexes.specs.LatestIndex.{FitsLatest};
 ghost use Rattle.machine.specs.NewOrder as spec;
-ghost use Rattle.machine.specs.NewOrderLines.{IsOrderWithin, stocks_put};
+ghost use Rattle.machine.specs.NewOrderLines.{HaveStocks, IsOrderWithin, stocks_put, with_order_put};
 ghost use Rattle.machine.specs.LatestNoted.{IsOrderPut};
 
 use crate::new_order_lines::{LinesPlaced, has_items, place_lines, stock_key};
@@ -84,15 +84,15 @@ fn post(
     requires within { IsOrderWithin order.now }
     requires number { IsTrue (is_order_id o_id) }
     requires district_is_there { IsTrue (table.contains_key tables.old.districts order.now.home) }
-    requires customer_is_there { IsTrue (has_customer tables.old.scale (customer_of_order (spec.order_key order.now.home o_id) (spec.order_row order.now))) }
+    requires customer_is_there { IsTrue (has_customer tables.old.scale
+        (customer_of_order (spec.order_key order.now.home o_id) (spec.order_row order.now))) }
     requires few { length rows.items ≤ MOST_LINES }
     requires lines { IsTrue (list_all (is_line_within tables.old.scale) rows.items) }
-    requires stocks_are_there { IsTrue (list_all (λ line. table.contains_key tables.old.stocks (spec.stock_key_of line)) order.now.lines) }
+    requires stocks_are_there { HaveStocks tables.old.stocks order.now.lines }
     requires as_many { length stocks.items ≡ length order.now.lines }
     requires latest { FitsLatest latest.old tables.old }
-    ensures ok { OnOk result (tables.new ≡ with_order
-        (record tables.old { districts = table.insert tables.old.districts order.now.home district; stocks = stocks_put order.now.lines stocks.items tables.old.stocks })
-        (spec.order_key order.now.home o_id) (spec.order_row order.now) rows.items) }
+    ensures ok { OnOk result (tables.new
+        ≡ with_order_put tables.old order.now o_id district rows.items stocks.items) }
     ensures latest { FitsLatest latest.new tables.new }
     ensures err { OnErr result (tables.new ≡ tables.old) }
 {
@@ -114,7 +114,8 @@ fn note_latest(
     replaced: Option<Order>,
 )
     ensures { (before : Database)
-        → IsOrderPut before tables.now (spec.order_key order.now.home o_id) (spec.order_row order.now) replaced
+        → IsOrderPut before tables.now
+        (spec.order_key order.now.home o_id) (spec.order_row order.now) replaced
         → FitsLatest latest.old before → FitsLatest latest.new tables.now }
 {
     // Called for its contract: no two districts have the same place.
@@ -129,9 +130,10 @@ fn note_latest(
 
 // Replaces the rows of STOCK that supply the lines, from the last line to the first.
 fn put_stocks(tables: &mut Tables, lines: &[OrderedLine], stocks: Vec<Stock>)
-    requires there { IsTrue (list_all (λ line. table.contains_key tables.old.stocks (spec.stock_key_of line)) lines.now) }
+    requires there { HaveStocks tables.old.stocks lines.now }
     requires as_many { length stocks.items ≡ length lines.now }
-    ensures { tables.new ≡ record tables.old { stocks = stocks_put lines.now stocks.items tables.old.stocks } }
+    ensures { tables.new
+        ≡ record tables.old { stocks = stocks_put lines.now stocks.items tables.old.stocks } }
 {
     let mut rest = stocks;
     while let Some(row) = rest.pop() {
@@ -189,7 +191,8 @@ pub fn new_order_reply(
     shown: Vec<NewOrderLine>,
 ) -> NewOrderReply
     requires { length rows.now ≤ MOST_LINES }
-    ensures { result ≡ spec.new_order_reply order.now warehouse.now district.now customer.now rows.now shown.items }
+    ensures { result ≡ spec.new_order_reply
+        order.now warehouse.now district.now customer.now rows.now shown.items }
 {
     let sum = Cents::new(i64::from(sum_of(rows)));
     NewOrderReply {

@@ -148,7 +148,8 @@ fn raised_by(home: u32, key: StockKey, lines: &[OrderedLine]) -> Raised
     requires quantities { AreQuantities lines.now }
     ensures ytd { result.ytd ≡ sum_by (λ line. line.quantity) (spec.taken_from key lines.now) }
     ensures order_cnt { result.order_cnt ≡ length (spec.taken_from key lines.now) }
-    ensures remote_cnt { result.remote_cnt ≡ length (filter (spec.is_remote home) (spec.taken_from key lines.now)) }
+    ensures remote_cnt { result.remote_cnt
+        ≡ length (filter (spec.is_remote home) (spec.taken_from key lines.now)) }
 {
     let mut raised = Raised {
         ytd: 0,

@@ -177,12 +177,14 @@ fn post(
     district: District,
     customer: Customer,
 ) -> Result<(), NoMemory>
-    requires warehouse_is_there { IsTrue (map.contains_key tables.old.warehouses payment.now.home.w_id) }
+    requires warehouse_is_there { IsTrue
+        (map.contains_key tables.old.warehouses payment.now.home.w_id) }
     requires district_is_there { IsTrue (map.contains_key tables.old.districts payment.now.home) }
     requires customer_is_there { IsTrue (map.contains_key tables.old.customers key) }
     requires payer_is_the_customer { row.customer ≡ key }
-    ensures ok { OnOk result (tables.new ≡
-        (spec.posted tables.old payment.now key row (Some warehouse) (Some district) (Some customer)).tables) }
+    ensures ok { OnOk result (tables.new
+        ≡ (spec.posted tables.old (spec.posting payment.now key row)
+        (Some warehouse) (Some district) (Some customer)).tables) }
     ensures err { OnErr result (tables.new ≡ tables.old) }
 {
     tables.push_history(payment.home, row)?;

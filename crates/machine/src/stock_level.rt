@@ -36,7 +36,8 @@ pub fn recent_items<T: Rows>(
     home: DistrictKey,
     next: u32,
 ) -> Result<Vec<u32>, NoMemory>
-    ensures value { IfOk result (λ items. items.items ≡ spec.recent_items (T.tables rows.now) home next) }
+    ensures value { IfOk result (λ items.
+        items.items ≡ spec.recent_items (T.tables rows.now) home next) }
     ensures few { IfOk result (λ items. length items.items ≤ RECENT_LINES) }
 {
     let mut items = Vec::with_capacity(alloc, RECENT_LINES)?;

@@ -21,11 +21,15 @@ carrier_at orders key = option_and_then (λ row. row.carrier_id) (table.get orde
 abbrev pub moment_at : LineTable → OrderLineKey → Option ℕ
 moment_at lines key = option_and_then (λ row. row.delivery_d) (table.get lines key)
 
+-- These are the moments at which the order's lines were delivered, by OL_NUMBER from 1.
+abbrev pub AreMomentsOf : LineTable → OrderKey → List (Option ℕ) → Type 0
+AreMomentsOf lines order moments = (n : ℕ) → n < MOST_LINES → slice_index_or moments n None ≡ moment_at lines (line_key order (n + 1))
+
 -- this is what was stored before the order was delivered
 pub record StoodBefore (t : Database) (order : OrderKey) (before : BeforeDelivery) : Type 0 where
   pub carrier : before.carrier_id ≡ carrier_at t.orders order
-  pub fifteen : length before.moments ≡ MOST_LINES
-  pub moments : (n : ℕ) → n < MOST_LINES → slice_index_or before.moments n None ≡ moment_at t.lines (line_key order (n + 1))
+  pub most_lines : length before.moments ≡ MOST_LINES
+  pub moments : AreMomentsOf t.lines order before.moments
   pub new_order : before.new_order ≡ table.get t.new_orders order
 
 -- the order's row gets this carrier back, or none

@@ -2,6 +2,7 @@ pub mod NewOrders
 pub mod Deliveries
 pub mod Slots
 pub mod Parts
+pub mod RowChanges
 pub mod Partitions
 pub mod Splits
 pub mod Appends

@@ -1,5 +1,5 @@
 -- The places of the rows of districts, stock and customers, among those that are here.
-use Rattle.std.specs.Prelude.{◌≡◌, ℕ, ◌+◌, ◌-◌, ◌*◌, ◌<◌, ◌≤◌, Option, Some, None, is_some, if◌then◌else◌}
+use Rattle.std.specs.Prelude.{◌≡◌, ℕ, ◌+◌, ◌-◌, ◌*◌, ◌<◌, ◌≤◌, List, slice_get, Option, Some, None, is_some, if◌then◌else◌}
 use Rattle.std.specs.Option.{option_map}
 use Rattle.std.specs.FinMap as map
 use Rattle.rows.specs.Keys.{district_of_customer}
@@ -8,7 +8,9 @@ use Rattle.rows.specs.declared.keys.DistrictKey.{DistrictKey}
 use Rattle.rows.specs.declared.keys.StockKey.{StockKey}
 use Rattle.rows.specs.declared.keys.CustomerKey.{CustomerKey}
 use Rattle.rows.specs.declared.limits.TheConstants.{MOST_WAREHOUSES}
+use Rattle.rows.specs.declared.records.Customer.{Customer}
 use Rattle.schema.specs.declared.scale.Scale.{Scale}
+use Rattle.schema.specs.Scale.{customer_key}
 use Rattle.schema.specs.Database.{Database, customer_of_order, OrdersNumbered}
 use Rattle.schema.specs.EachRow.{EachRow}
 use Rattle.partitions.specs.Parts.{has_district_of, has_stock_of}
@@ -21,6 +23,10 @@ Slots = DistrictKey → Option ℕ
 abbrev pub customer_slot_by : Slots → ℕ → CustomerKey → Option ℕ
 customer_slot_by slot customers key =
     if is_between 1 customers key.c_id then option_map (λ place. place * customers + (key.c_id - 1)) (slot (district_of_customer key)) else None
+
+-- These are the district's customers, by C_ID from 1.
+abbrev pub AreCustomersOf : Database → DistrictKey → List Customer → Type 0
+AreCustomersOf t home rows = (c : ℕ) → slice_get rows c ≡ map.get t.customers (customer_key home (c + 1))
 
 -- no two districts have the same place
 abbrev pub AreApart : Slots → Type 0

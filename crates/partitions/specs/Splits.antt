@@ -57,6 +57,12 @@ pub record IsHomeAt (scale : Scale) (rows : TableRows) (place : ℕ) (home : Hom
   pub new_orders : home.new_orders ≡ entries_at (λ (key : OrderKey). key.w_id) place rows.new_orders.entries
   pub lines : home.lines ≡ entries_at (λ (key : OrderLineKey). key.w_id) place rows.lines
 
+-- The rows are those of the first warehouse that was left, and the others are left now, whatever tables they are of.
+abbrev pub TakesFirstHome : Homes → HomeRows → Homes → Type 0
+TakesFirstHome old home new =
+    (scale : Scale) (rows : TableRows) (place : ℕ) → AreHomesFrom scale rows place old
+    → IsHomeAt scale rows place home × AreHomesFrom scale rows (place + 1) new
+
 -- at least one warehouse is left
 pub record HasHome (homes : Homes) : Type 0 where
   pub warehouses : 0 < length homes.warehouses.items

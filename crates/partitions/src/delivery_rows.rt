@@ -1,12 +1,12 @@
 //! Undoing a delivery, over the rows of one warehouse.
-ghost use Rattle.std.specs.Prelude.{◌≡◌, ◌+◌, ◌<◌, ℕ, None, length, slice_index_or};
+ghost use Rattle.std.specs.Prelude.{◌≡◌, length};
 ghost use Rattle.rows.specs.Keys.{order_cmp};
 ghost use Rattle.rows.specs.declared.limits.TheConstants.{MOST_LINES};
 ghost use Rattle.schema.specs.EachRow.{EachRow};
 ghost use Rattle.schema.specs.MapRows.{table_of, map_rows};
 ghost use Rattle.schema.specs.Database.{is_line_number};
 ghost use Rattle.schema.specs.OrderRows.{line_key, line_table};
-ghost use Rattle.partitions.specs.Deliveries.{carrier_at, moment_at, with_carrier_back, with_moments_back};
+ghost use Rattle.partitions.specs.Deliveries.{AreMomentsOf, carrier_at, with_carrier_back, with_moments_back};
 
 use crate::new_order_rows::RowRoom;
 use rows::{LAST_LINE, MOST_LINES};
@@ -34,8 +34,8 @@ pub(crate) fn carrier_of(orders: &BTreeMap<OrderKey, Order>, key: OrderKey) -> O
 
 /// Returns the moments at which the order's lines were delivered, by OL_NUMBER from 1.
 pub(crate) fn moments_of(lines: &OrderLines, order: OrderKey) -> [Option<Moment>; MOST_LINES]
-    ensures fifteen { length result ≡ MOST_LINES }
-    ensures each { (n : ℕ) → n < MOST_LINES → slice_index_or result n None ≡ moment_at (line_table lines.now) (line_key order (n + 1)) }
+    ensures most_lines { length result ≡ MOST_LINES }
+    ensures each { AreMomentsOf (line_table lines.now) order result }
 {
     let mut moments = [None; MOST_LINES];
     for (key, row) in lines.of_order(order) {
@@ -53,7 +53,8 @@ pub(crate) fn put_carrier_back(
     key: OrderKey,
     carrier: Option<CarrierId>,
 )
-    ensures { table_of order_cmp orders.new ≡ map_rows (with_carrier_back key carrier) (table_of order_cmp orders.old) }
+    ensures { table_of order_cmp orders.new
+        ≡ map_rows (with_carrier_back key carrier) (table_of order_cmp orders.old) }
 {
     if let Some(row) = orders.get_mut(&key) {
         row.carrier_id = carrier;
@@ -66,9 +67,10 @@ pub(crate) fn put_moments_back(
     order: OrderKey,
     moments: [Option<Moment>; MOST_LINES],
 )
-    requires fifteen { length moments ≡ MOST_LINES }
+    requires most_lines { length moments ≡ MOST_LINES }
     requires numbered { EachRow (λ key _. is_line_number key.number) (line_table lines.old) }
-    ensures { line_table lines.new ≡ map_rows (with_moments_back order moments) (line_table lines.old) }
+    ensures { line_table lines.new
+        ≡ map_rows (with_moments_back order moments) (line_table lines.old) }
 {
     for place in 0..MOST_LINES {
         lines.set_delivery(line_key(order, place as u32 + 1), moments[place]);

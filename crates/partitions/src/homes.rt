@@ -1,8 +1,6 @@
-ghost use Rattle.std.specs.Prelude.{◌≡◌, ℕ, ◌+◌, IfOk};
-ghost use Rattle.schema.specs.declared.scale.Scale.{Scale};
-ghost use Rattle.schema.specs.declared.table_rows.TableRows.{TableRows};
+ghost use Rattle.std.specs.Prelude.{◌≡◌, IfOk};
 ghost use Rattle.schema.specs.Rows.{HasCounts};
-ghost use Rattle.partitions.specs.Splits.{AreRowsOfWarehouses, AreHomesFrom, IsHomeAt, HasHome};
+ghost use Rattle.partitions.specs.Splits.{AreRowsOfWarehouses, AreHomesFrom, HasHome, TakesFirstHome};
 
 use crate::home_rows::HomeRows;
 use crate::new_order_rows::NewOrderRows;
@@ -59,7 +57,7 @@ impl Homes {
     /// Removes and returns the rows of the first warehouse that is left.
     pub(crate) fn take_first(&mut self) -> HomeRows
         requires { HasHome self.old }
-        ensures { (scale : Scale) (rows : TableRows) (place : ℕ) → AreHomesFrom scale rows place self.old → IsHomeAt scale rows place result × AreHomesFrom scale rows (place + 1) self.new }
+        ensures { TakesFirstHome self.old result self.new }
     {
         HomeRows {
             warehouse: self.warehouses.pop().unwrap(),

@@ -26,7 +26,8 @@ pub fn whole(catalog: Catalog, parts: Vec<Partition>) -> Result<Tables, NoMemory
 
 // Returns the rows of ITEM: moved if nothing else shares them, else copied.
 fn into_items(catalog: Catalog) -> Result<Vec<Item>, NoMemory>
-    ensures rows { IfOk result (λ items. map.from_entries (zip (item_ids catalog.scale) items.items) ≡ catalog.items) }
+    ensures rows { IfOk result (λ items.
+        map.from_entries (zip (item_ids catalog.scale) items.items) ≡ catalog.items) }
     ensures count { IfOk result (λ items. length items.items ≡ catalog.scale.items) }
 {
     Ok(Arc::unwrap_or_clone(catalog.items)?)

@@ -1,11 +1,9 @@
-ghost use Rattle.std.specs.Prelude.{◌≡◌, ◌+◌, ◌^◌, ◌<◌, ℕ, length, is_some, IfSome, Some};
+ghost use Rattle.std.specs.Prelude.{◌≡◌, ◌^◌, ◌<◌, length, is_some, IfSome, Some};
 ghost use Rattle.std.specs.Option.{option_copied};
 ghost use Rattle.std.specs.FinMap as map;
-ghost use Rattle.std.specs.List.{slice_get};
-ghost use Rattle.schema.specs.Scale.{customer_key};
 ghost use Rattle.schema.specs.Database.{rows_where, is_of_order, LinesNumbered};
 ghost use Rattle.schema.specs.OrderRows.{is_in_span};
-ghost use Rattle.partitions.specs.Slots.{AreRows};
+ghost use Rattle.partitions.specs.Slots.{AreCustomersOf, AreRows};
 
 use schema::{
     Customer, CustomerKey, DistrictKey, Item, Lines, Order, OrderKey, Orders, Scale, Stock,
@@ -55,7 +53,7 @@ pub trait Rows {
     /// Returns the customers of a district, by C_ID from 1; `None` if its rows are not here.
     fn customers_of(&self, home: DistrictKey) -> Option<&[Customer]>
         ensures district { is_some result ≡ is_some (slot self.now home) }
-        ensures rows { IfSome result (λ rows. (c : ℕ) → slice_get rows.now c ≡ map.get (tables self.now).customers (customer_key home (c + 1))) };
+        ensures rows { IfSome result (λ rows. AreCustomersOf (tables self.now) home rows.now) };
 
     /// Returns the customer's row, `None` if there is none here.
     fn customer(&self, key: CustomerKey) -> Option<&Customer>

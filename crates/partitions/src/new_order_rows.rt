@@ -1,18 +1,17 @@
 //! The rows of NEW-ORDER of one warehouse. Restoring a row that a delivery deleted allocates nothing:
 //! the row goes into room that the delivery set aside, in a list beside the ordered map of the other
 //! rows.
-ghost use Rattle.std.specs.Prelude.{◌≡◌, ◌+◌, ◌<◌, ◌≤◌, ℕ, length, map, Some, IfOk, OnOk, OnErr, IsTrue};
+ghost use Rattle.std.specs.Prelude.{◌≡◌, ◌≤◌, length, map, Some, IfOk, OnOk, OnErr, IsTrue};
 ghost use Rattle.std.specs.FinMap as table;
-ghost use Rattle.rows.specs.declared.records.NewOrder as new_order;
 ghost use Rattle.rows.specs.Keys.{order_cmp};
 ghost use Rattle.rows.specs.declared.limits.TheConstants.{MOST_LINES};
 ghost use Rattle.schema.specs.EachRow.{EachRow};
 ghost use Rattle.schema.specs.MapRows.{table_of, put_row, map_rows};
-ghost use Rattle.schema.specs.Database.{rows_where, is_of_district, is_order_id, is_line_number};
-ghost use Rattle.schema.specs.Consistency.{numbers};
-ghost use Rattle.schema.specs.OrderRows.{put_lines, lines_at, line_key, line_table, smallest, with_carrier, with_moment};
+ghost use Rattle.schema.specs.Database.{is_order_id, is_line_number};
+ghost use Rattle.schema.specs.OrderRows.{put_lines, lines_at, line_table, with_carrier, with_moment};
 ghost use Rattle.partitions.specs.Appends.{AddsRows};
-ghost use Rattle.partitions.specs.NewOrders.{with_returned, lesser_of};
+ghost use Rattle.partitions.specs.NewOrders.{NewOrderTable, lesser_of, new_order_table, oldest_of, with_returned};
+ghost use Rattle.partitions.specs.RowChanges.{HasLines};
 
 use schema::row_writes::{put, remove};
 use schema::{
@@ -99,8 +98,8 @@ impl NewOrderRows {
 
     /// Returns the number of the district's oldest new order, `None` if it has none here.
     pub(crate) fn oldest_number(&self, home: DistrictKey) -> Option<u32>
-        requires { EachRow (λ key _. is_order_id key.o_id) (table.from_entries {R = order_cmp} self.now) }
-        ensures { result ≡ smallest (numbers (rows_where (is_of_district home) (table.from_entries {R = order_cmp} self.now))) }
+        requires { EachRow (λ key _. is_order_id key.o_id) (new_order_table self.now) }
+        ensures { result ≡ oldest_of home (new_order_table self.now) }
     {
         let oldest = oldest_number(&self.rows, home);
         oldest_with(&self.returned, home, oldest)
@@ -116,14 +115,21 @@ impl NewOrderRows {
         rows: Vec<OrderLine>,
     ) -> Result<Replaced, NoMemory>
         requires { length rows.items ≤ MOST_LINES }
-        ensures order { OnOk result (table_of order_cmp orders.new ≡ table.insert (table_of order_cmp orders.old) key order) }
-        ensures new_order { OnOk result (table.from_entries {R = order_cmp} self.new ≡ table.insert (table.from_entries self.old) key (record {})) }
-        ensures lines { OnOk result (line_table lines.new ≡ put_lines key 1 (map Some rows.items) (line_table lines.old)) }
-        ensures was_order { IfOk result (λ replaced. replaced.order ≡ table.get (table_of order_cmp orders.old) key) }
-        ensures was_new { IfOk result (λ replaced. replaced.new_order ≡ table.get (table.from_entries {R = order_cmp} self.old) key) }
-        ensures were_lines { IfOk result (λ replaced. replaced.lines.items ≡ lines_at (line_table lines.old) key 1 (length rows.items)) }
-        ensures err_order { OnErr result (table_of order_cmp orders.new ≡ table_of order_cmp orders.old) }
-        ensures err_new { OnErr result (table.from_entries {R = order_cmp} self.new ≡ table.from_entries self.old) }
+        ensures order { OnOk result (table_of order_cmp orders.new
+            ≡ table.insert (table_of order_cmp orders.old) key order) }
+        ensures new_order { OnOk result
+            (new_order_table self.new ≡ table.insert (new_order_table self.old) key (record {})) }
+        ensures lines { OnOk result (line_table lines.new
+            ≡ put_lines key 1 (map Some rows.items) (line_table lines.old)) }
+        ensures was_order { IfOk result (λ replaced.
+            replaced.order ≡ table.get (table_of order_cmp orders.old) key) }
+        ensures was_new { IfOk result (λ replaced.
+            replaced.new_order ≡ table.get (new_order_table self.old) key) }
+        ensures were_lines { IfOk result (λ replaced.
+            replaced.lines.items ≡ lines_at (line_table lines.old) key 1 (length rows.items)) }
+        ensures err_order { OnErr result
+            (table_of order_cmp orders.new ≡ table_of order_cmp orders.old) }
+        ensures err_new { OnErr result (new_order_table self.new ≡ new_order_table self.old) }
         ensures err_lines { OnErr result (line_table lines.new ≡ line_table lines.old) }
     {
         settle(&mut self.rows, &mut self.returned)?;
@@ -140,11 +146,14 @@ impl NewOrderRows {
     )
         requires few { length replaced.lines.items ≤ MOST_LINES }
         requires order { IsTrue (table.contains_key (table_of order_cmp orders.old) key) }
-        requires new_order { IsTrue (table.contains_key (table.from_entries {R = order_cmp} self.old) key) }
-        requires lines { (n : ℕ) → n < length replaced.lines.items → IsTrue (table.contains_key (line_table lines.old) (line_key key (1 + n))) }
-        ensures order { table_of order_cmp orders.new ≡ put_row (table_of order_cmp orders.old) key replaced.order }
-        ensures new_order { table.from_entries {R = order_cmp} self.new ≡ put_row (table.from_entries self.old) key replaced.new_order }
-        ensures lines { line_table lines.new ≡ put_lines key 1 replaced.lines.items (line_table lines.old) }
+        requires new_order { IsTrue (table.contains_key (new_order_table self.old) key) }
+        requires lines { HasLines (line_table lines.old) key (length replaced.lines.items) }
+        ensures order { table_of order_cmp orders.new
+            ≡ put_row (table_of order_cmp orders.old) key replaced.order }
+        ensures new_order { new_order_table self.new
+            ≡ put_row (new_order_table self.old) key replaced.new_order }
+        ensures lines { line_table lines.new
+            ≡ put_lines key 1 replaced.lines.items (line_table lines.old) }
     {
         // All rows of NEW-ORDER are equal: a row that was stored before is still stored.
         if replaced.new_order.is_none() {
@@ -165,11 +174,15 @@ impl NewOrderRows {
         moment: Moment,
     ) -> Result<(Option<NewOrder>, RowRoom), NoMemory>
         requires { EachRow (λ key _. is_line_number key.number) (line_table lines.old) }
-        ensures order { OnOk result (table_of order_cmp orders.new ≡ map_rows (with_carrier key carrier) (table_of order_cmp orders.old)) }
-        ensures new_order { OnOk result (table.from_entries {R = order_cmp} self.new ≡ table.remove (table.from_entries self.old) key) }
-        ensures lines { OnOk result (line_table lines.new ≡ map_rows (with_moment key moment) (line_table lines.old)) }
-        ensures was { IfOk result (λ was. was.0 ≡ table.get (table.from_entries {R = order_cmp} self.old) key) }
-        ensures err { OnErr result ((self.new ≡ self.old) × (orders.new ≡ orders.old) × (lines.new ≡ lines.old)) }
+        ensures order { OnOk result (table_of order_cmp orders.new
+            ≡ map_rows (with_carrier key carrier) (table_of order_cmp orders.old)) }
+        ensures new_order { OnOk result
+            (new_order_table self.new ≡ table.remove (new_order_table self.old) key) }
+        ensures lines { OnOk result (line_table lines.new
+            ≡ map_rows (with_moment key moment) (line_table lines.old)) }
+        ensures was { IfOk result (λ was. was.0 ≡ table.get (new_order_table self.old) key) }
+        ensures err { OnErr result
+            ((self.new ≡ self.old) × (orders.new ≡ orders.old) × (lines.new ≡ lines.old)) }
     {
         let room = Box::new(alloc, Returned::Nothing)?;
         settle(&mut self.rows, &mut self.returned)?;
@@ -180,7 +193,7 @@ impl NewOrderRows {
 
     /// Restores what was stored at the key: a row or none. Never allocates.
     pub(crate) fn put_back(&mut self, key: OrderKey, was: Option<NewOrder>, room: RowRoom)
-        ensures { table.from_entries {R = order_cmp} self.new ≡ put_row (table.from_entries self.old) key was }
+        ensures { new_order_table self.new ≡ put_row (new_order_table self.old) key was }
     {
         match was {
             Some(_) => {
@@ -194,7 +207,7 @@ impl NewOrderRows {
 
     // Deletes the row at the key, if there is one. Never allocates.
     fn remove(&mut self, key: OrderKey)
-        ensures { table.from_entries {R = order_cmp} self.new ≡ table.remove (table.from_entries self.old) key }
+        ensures { new_order_table self.new ≡ table.remove (new_order_table self.old) key }
     {
         forget(&mut self.returned, key);
         remove(&mut self.rows, key);
@@ -203,8 +216,9 @@ impl NewOrderRows {
 
 // Moves the restored rows into the map. The rows of both together stay the same, also after an error.
 fn settle(rows: &mut BTreeMap<OrderKey, NewOrder>, returned: &mut Returned) -> Result<(), NoMemory>
-    ensures same { with_returned returned.new (table_of order_cmp rows.new) ≡ with_returned returned.old (table_of order_cmp rows.old) }
-    ensures all { OnOk result ((rows : table.FinMap order_cmp new_order.NewOrder) → with_returned returned.new rows ≡ rows) }
+    ensures same { with_returned returned.new (table_of order_cmp rows.new)
+        ≡ with_returned returned.old (table_of order_cmp rows.old) }
+    ensures all { OnOk result ((rows : NewOrderTable) → with_returned returned.new rows ≡ rows) }
 {
     if let Returned::Row(key, rest) = returned {
         settle(rows, rest)?;
@@ -216,7 +230,8 @@ fn settle(rows: &mut BTreeMap<OrderKey, NewOrder>, returned: &mut Returned) -> R
 
 // Inserts the restored rows into a map. After an error some rows are left out.
 fn put_all(returned: &Returned, rows: &mut BTreeMap<OrderKey, NewOrder>) -> Result<(), NoMemory>
-    ensures { OnOk result (table_of order_cmp rows.new ≡ with_returned returned.now (table_of order_cmp rows.old)) }
+    ensures { OnOk result
+        (table_of order_cmp rows.new ≡ with_returned returned.now (table_of order_cmp rows.old)) }
 {
     if let Returned::Row(key, rest) = returned {
         put_all(rest, rows)?;
@@ -227,7 +242,9 @@ fn put_all(returned: &Returned, rows: &mut BTreeMap<OrderKey, NewOrder>) -> Resu
 
 // Removes the row at the key from the restored rows. Never allocates.
 fn forget(returned: &mut Returned, key: OrderKey)
-    ensures { (rows : table.FinMap order_cmp new_order.NewOrder) → with_returned returned.new (table.remove rows key) ≡ table.remove (with_returned returned.old rows) key }
+    ensures { (rows : NewOrderTable)
+        → with_returned returned.new (table.remove rows key)
+        ≡ table.remove (with_returned returned.old rows) key }
 {
     if let Returned::Row(own, rest) = returned {
         forget(rest, key);
@@ -241,8 +258,8 @@ fn forget(returned: &mut Returned, key: OrderKey)
 // Returns the number of the district's oldest order among the restored rows and other rows, whose oldest
 // is `other`.
 fn oldest_with(returned: &Returned, home: DistrictKey, other: Option<u32>) -> Option<u32>
-    ensures { (rows : table.FinMap order_cmp new_order.NewOrder) → other ≡ smallest (numbers (rows_where (is_of_district home) rows))
-        → result ≡ smallest (numbers (rows_where (is_of_district home) (with_returned returned.now rows))) }
+    ensures { (rows : NewOrderTable) → other ≡ oldest_of home rows
+        → result ≡ oldest_of home (with_returned returned.now rows) }
 {
     let Returned::Row(key, rest) = returned else {
         return other;

@@ -1,14 +1,15 @@
-ghost use Rattle.std.specs.Prelude.{◌≡◌, ◌+◌, ◌^◌, ◌<◌, ◌≤◌, ℕ, length, IsTrue, is_some, IfSome, IfOk, OnOk, OnErr};
+ghost use Rattle.std.specs.Prelude.{◌≡◌, ◌^◌, ◌<◌, ◌≤◌, length, IsTrue, is_some, IfSome, IfOk, OnOk, OnErr};
 ghost use Rattle.std.specs.Option.{option_copied};
 ghost use Rattle.std.specs.FinMap as map;
-ghost use Rattle.std.specs.List.{list_all, slice_get};
+ghost use Rattle.std.specs.List.{list_all};
 ghost use Rattle.rows.specs.declared.limits.TheConstants.{MOST_LINES};
-ghost use Rattle.schema.specs.Scale.{has_customer, customer_key};
-ghost use Rattle.schema.specs.Database.{customer_of_order, is_order_id, with_payment, without_payment, rows_where, is_of_order};
-ghost use Rattle.schema.specs.OrderRows.{StoodThere, is_in_span, is_line_within, line_key, oldest_new_order, with_delivery, with_order, without_order};
-ghost use Rattle.partitions.specs.Deliveries.{StoodBefore, without_delivery};
+ghost use Rattle.schema.specs.Scale.{has_customer};
+ghost use Rattle.schema.specs.Database.{customer_of_order, is_order_id, rows_where, is_of_order};
+ghost use Rattle.schema.specs.OrderRows.{StoodThere, is_in_span, is_line_within, oldest_new_order};
+ghost use Rattle.partitions.specs.Deliveries.{StoodBefore};
 ghost use Rattle.partitions.specs.Parts.{IsPart, has_district_of};
-ghost use Rattle.partitions.specs.Slots.{customer_slot_by, home_slot, home_stock_slot};
+ghost use Rattle.partitions.specs.RowChanges.{AddsOrder, AddsPayment, DeliversOrder, HasLines, PutsCustomer, PutsDistrict, PutsStock, PutsWarehouse, RemovesPayment, TakesBackDelivery, part_without_order};
+ghost use Rattle.partitions.specs.Slots.{AreCustomersOf, customer_slot_by, home_slot, home_stock_slot};
 
 use crate::Catalog;
 use crate::delivery_rows::{
@@ -155,7 +156,7 @@ impl Partition {
     /// warehouse's.
     pub fn customers_of(&self, home: DistrictKey) -> Option<&[Customer]>
         ensures district { is_some result ≡ has_district_of self.now.home home }
-        ensures rows { IfSome result (λ rows. (c : ℕ) → slice_get rows.now c ≡ map.get self.now.tables.customers (customer_key home (c + 1))) }
+        ensures rows { IfSome result (λ rows. AreCustomersOf self.now.tables home rows.now) }
     {
         let slot = self.slot_of_district(home)?;
         let customers = self.scale().customers as usize;
@@ -168,7 +169,7 @@ impl Partition {
     /// their tables.
     pub fn replace_warehouse(&mut self, w_id: u32, row: Warehouse) -> Option<Warehouse>
         requires { IsTrue (map.contains_key self.old.tables.warehouses w_id) }
-        ensures tables { self.new ≡ record self.old { tables = record self.old.tables { warehouses = map.insert self.old.tables.warehouses w_id row } } }
+        ensures tables { PutsWarehouse w_id row self.old self.new }
         ensures was { result ≡ map.get self.old.tables.warehouses w_id }
     {
         if w_id == self.home {
@@ -180,7 +181,7 @@ impl Partition {
 
     pub fn replace_district(&mut self, key: DistrictKey, row: District) -> Option<District>
         requires { IsTrue (map.contains_key self.old.tables.districts key) }
-        ensures tables { self.new ≡ record self.old { tables = record self.old.tables { districts = map.insert self.old.tables.districts key row } } }
+        ensures tables { PutsDistrict key row self.old self.new }
         ensures was { result ≡ map.get self.old.tables.districts key }
     {
         let slot = self.slot_of_district(key)?;
@@ -189,7 +190,7 @@ impl Partition {
 
     pub fn replace_stock(&mut self, key: StockKey, row: Stock) -> Option<Stock>
         requires { IsTrue (map.contains_key self.old.tables.stocks key) }
-        ensures tables { self.new ≡ record self.old { tables = record self.old.tables { stocks = map.insert self.old.tables.stocks key row } } }
+        ensures tables { PutsStock key row self.old self.new }
         ensures was { result ≡ map.get self.old.tables.stocks key }
     {
         let slot = self.slot_of_stock(key)?;
@@ -198,7 +199,7 @@ impl Partition {
 
     pub fn replace_customer(&mut self, key: CustomerKey, row: Customer) -> Option<Customer>
         requires { IsTrue (map.contains_key self.old.tables.customers key) }
-        ensures tables { self.new ≡ record self.old { tables = record self.old.tables { customers = map.insert self.old.tables.customers key row } } }
+        ensures tables { PutsCustomer key row self.old self.new }
         ensures was { result ≡ map.get self.old.tables.customers key }
     {
         let slot = self.slot_of_customer(key)?;
@@ -210,7 +211,7 @@ impl Partition {
     pub fn push_history(&mut self, key: DistrictKey, row: History) -> Result<(), NoMemory>
         requires district { IsTrue (map.contains_key self.old.tables.districts key) }
         requires payer { IsTrue (has_customer self.old.tables.scale row.customer) }
-        ensures ok { OnOk result (self.new ≡ record self.old { tables = record self.old.tables { histories = with_payment self.old.tables.histories key row } }) }
+        ensures ok { OnOk result (AddsPayment key row self.old self.new) }
         ensures err { OnErr result (self.new ≡ self.old) }
     {
         match self.slot_of_district(key) {
@@ -222,7 +223,7 @@ impl Partition {
     /// Removes the last payment of the district's list, if there is one. Never allocates.
     pub fn pop_history(&mut self, key: DistrictKey)
         requires { IsTrue (map.contains_key self.old.tables.districts key) }
-        ensures { self.new ≡ record self.old { tables = record self.old.tables { histories = without_payment self.old.tables.histories key } } }
+        ensures { RemovesPayment key self.old self.new }
     {
         if let Some(slot) = self.slot_of_district(key) {
             self.rows.histories[slot].pop();
@@ -240,10 +241,11 @@ impl Partition {
     ) -> Result<Replaced, NoMemory>
         requires home { key.w_id ≡ self.old.home }
         requires number { IsTrue (is_order_id key.o_id) }
-        requires customer { IsTrue (has_customer self.old.tables.scale (customer_of_order key order)) }
+        requires customer { IsTrue
+            (has_customer self.old.tables.scale (customer_of_order key order)) }
         requires few { length lines.items ≤ MOST_LINES }
         requires lines { IsTrue (list_all (is_line_within self.old.tables.scale) lines.items) }
-        ensures ok { OnOk result (self.new ≡ record self.old { tables = with_order self.old.tables key order lines.items }) }
+        ensures ok { OnOk result (AddsOrder key order lines.items self.old self.new) }
         ensures replaced { IfOk result (StoodThere self.old.tables key (length lines.items)) }
         ensures err { OnErr result (self.new ≡ self.old) }
     {
@@ -262,9 +264,9 @@ impl Partition {
         requires few { length replaced.lines.items ≤ MOST_LINES }
         requires order { IsTrue (map.contains_key self.old.tables.orders key) }
         requires new_order { IsTrue (map.contains_key self.old.tables.new_orders key) }
-        requires lines { (n : ℕ) → n < length replaced.lines.items → IsTrue (map.contains_key self.old.tables.lines (line_key key (1 + n))) }
-        requires within { IsPart (record self.old { tables = without_order self.old.tables key replaced }) }
-        ensures { self.new ≡ record self.old { tables = without_order self.old.tables key replaced } }
+        requires lines { HasLines self.old.tables.lines key (length replaced.lines.items) }
+        requires within { IsPart (part_without_order self.old key replaced) }
+        ensures { self.new ≡ part_without_order self.old key replaced }
     {
         self.rows
             .new_orders
@@ -289,7 +291,7 @@ impl Partition {
         moment: Moment,
     ) -> Result<BeforeDelivery, NoMemory>
         requires { IsTrue (map.contains_key self.old.tables.orders key) }
-        ensures ok { OnOk result (self.new ≡ record self.old { tables = with_delivery self.old.tables key carrier moment }) }
+        ensures ok { OnOk result (DeliversOrder key carrier moment self.old self.new) }
         ensures before { IfOk result (StoodBefore self.old.tables key) }
         ensures err { OnErr result (self.new ≡ self.old) }
     {
@@ -314,8 +316,8 @@ impl Partition {
     /// Undoes `deliver_order`: restores what was stored before it. Never allocates.
     pub fn take_back_delivery(&mut self, key: OrderKey, before: BeforeDelivery)
         requires order { IsTrue (map.contains_key self.old.tables.orders key) }
-        requires fifteen { length before.moments ≡ MOST_LINES }
-        ensures { self.new ≡ record self.old { tables = without_delivery self.old.tables key before } }
+        requires most_lines { length before.moments ≡ MOST_LINES }
+        ensures { TakesBackDelivery key before self.old self.new }
     {
         put_carrier_back(&mut self.rows.orders, key, before.carrier_id);
         put_moments_back(&mut self.rows.lines, key, before.moments);
@@ -349,7 +351,8 @@ impl Partition {
 
     // Returns the place of the customer's row, likewise.
     fn slot_of_customer(&self, key: CustomerKey) -> Option<usize>
-        ensures { result ≡ customer_slot_by (home_slot self.now.home) self.now.tables.scale.customers key }
+        ensures { result
+            ≡ customer_slot_by (home_slot self.now.home) self.now.tables.scale.customers key }
     {
         let district = self.slot_of_district(key.district())?;
         let customers = self.scale().customers;

@@ -17,7 +17,8 @@ pub(crate) fn split<T: Drop>(
 ) -> Result<Vec<Vec<T>>, NoMemory>
     requires some { 1 ≤ parts }
     requires even { length rows.items ≡ parts * each }
-    ensures { IfOk result (λ made. AreLastFirst (λ place part. part.items ≡ chunk each place rows.items) 0 parts made.items) }
+    ensures { IfOk result (λ made.
+        AreLastFirst (λ place part. part.items ≡ chunk each place rows.items) 0 parts made.items) }
 {
     let mut split = Vec::with_capacity(alloc, parts)?;
     let mut rest = rows;
@@ -50,8 +51,10 @@ pub(crate) trait ByWarehouse: Drop + Sized {
     /// Removes and returns the rows of this and all later warehouses. After an error some rows may be
     /// lost.
     fn split_off_from(&mut self, warehouse: u32) -> Result<Self, NoMemory>
-        ensures from { IfOk result (λ later. entries later ≡ filter (λ e. nat_le warehouse (warehouse_of e.0)) (entries self.old)) }
-        ensures below { OnOk result (entries self.new ≡ filter (λ e. nat_lt (warehouse_of e.0) warehouse) (entries self.old)) };
+        ensures from { IfOk result (λ later.
+            entries later ≡ filter (λ e. nat_le warehouse (warehouse_of e.0)) (entries self.old)) }
+        ensures below { OnOk result (entries self.new
+            ≡ filter (λ e. nat_lt (warehouse_of e.0) warehouse) (entries self.old)) };
 }
 
 impl<V: Drop> ByWarehouse for BTreeMap<OrderKey, V> {
@@ -95,7 +98,9 @@ pub(crate) fn split_by_warehouse<R: ByWarehouse>(
 ) -> Result<Vec<R>, NoMemory>
     requires some { 1 ≤ warehouses }
     requires within { AreOfWarehouses R.warehouse_of warehouses (R.entries rows) }
-    ensures { IfOk result (λ made. AreLastFirst (λ place part. R.entries part ≡ entries_at R.warehouse_of place (R.entries rows)) 0 warehouses made.items) }
+    ensures { IfOk result (λ made. AreLastFirst
+        (λ place part. R.entries part ≡ entries_at R.warehouse_of place (R.entries rows))
+        0 warehouses made.items) }
 {
     let mut split = Vec::with_capacity(alloc, warehouses as usize)?;
     let mut rest = rows;

@@ -1,12 +1,10 @@
 //! Writing a picture.
-ghost use Rattle.std.specs.Prelude.{◌≡◌, ◌≤◌, ℕ, List, [], IfErr, IfSome, OnErr, OnOk, Some};
+ghost use Rattle.std.specs.Prelude.{◌≡◌, ◌≤◌, List, IfErr, IfSome, OnErr, OnOk};
 ghost use Rattle.std.specs.Io.KnownBytes.{Appends};
 ghost use Rattle.files.specs.Failure.{IsOfWriting};
 ghost use Rattle.files.specs.Sending.{Begins};
 ghost use Rattle.picture.specs.declared.asides.Aside.{Aside as AnyAside};
-ghost use Rattle.picture.specs.Drawing.{picture_text, texts};
-ghost use Rattle.picture.specs.Lanes.{sessions_from};
-ghost use Rattle.picture.specs.Rows as spec;
+ghost use Rattle.picture.specs.Drawing.{OfTexts, drawing_text};
 
 use crate::asides::Aside;
 use crate::course::put_course;
@@ -39,10 +37,12 @@ pub fn write_picture<W: Write>(
     executors: u32,
 ) -> Result<(), FileError>
     requires { 1 ≤ executors }
-    ensures written { OnOk result ((asides : List AnyAside) × Appends (W.contents sink.old) (W.contents sink.new)
-        (picture_text (sessions_from [] schedule.now) executors (spec.rows_of log.now 1 schedule.now outputs.now) asides)) }
-    ensures begun { OnErr result ((asides : List AnyAside) × Begins (W.contents sink.old) (W.contents sink.new)
-        (picture_text (sessions_from [] schedule.now) executors (spec.rows_of log.now 1 schedule.now outputs.now) asides)) }
+    ensures written { OnOk result
+        ((asides : List AnyAside) × Appends (W.contents sink.old) (W.contents sink.new)
+        (drawing_text executors schedule.now outputs.now log.now asides)) }
+    ensures begun { OnErr result
+        ((asides : List AnyAside) × Begins (W.contents sink.old) (W.contents sink.new)
+        (drawing_text executors schedule.now outputs.now log.now asides)) }
     ensures failed { IfErr result IsOfWriting }
 {
     let rows = rows_of(alloc, schedule, outputs, log)?;
@@ -82,10 +82,10 @@ fn draw_all<W: Write, D: Display>(
     line: &mut String,
     signs: &[D],
 ) -> Result<(), FileError>
-    ensures written { OnOk result ((text : D → List ℕ) → ((sign : D) → D.output sign ≡ Some (text sign))
-        → Appends (W.contents sink.old) (W.contents sink.new) (texts text signs.now)) }
-    ensures begun { OnErr result ((text : D → List ℕ) → ((sign : D) → D.output sign ≡ Some (text sign))
-        → Begins (W.contents sink.old) (W.contents sink.new) (texts text signs.now)) }
+    ensures written { OnOk result
+        (OfTexts D.output signs.now (Appends (W.contents sink.old) (W.contents sink.new))) }
+    ensures begun { OnErr result
+        (OfTexts D.output signs.now (Begins (W.contents sink.old) (W.contents sink.new))) }
     ensures failed { IfErr result IsOfWriting }
 {
     for sign in signs {
@@ -96,8 +96,10 @@ fn draw_all<W: Write, D: Display>(
 
 // Writes the text of a sign.
 fn draw<W: Write, D: Display>(sink: &mut W, line: &mut String, sign: &D) -> Result<(), FileError>
-    ensures written { OnOk result (IfSome (D.output sign.now) (Appends (W.contents sink.old) (W.contents sink.new))) }
-    ensures begun { OnErr result (IfSome (D.output sign.now) (Begins (W.contents sink.old) (W.contents sink.new))) }
+    ensures written { OnOk result
+        (IfSome (D.output sign.now) (Appends (W.contents sink.old) (W.contents sink.new))) }
+    ensures begun { OnErr result
+        (IfSome (D.output sign.now) (Begins (W.contents sink.old) (W.contents sink.new))) }
     ensures failed { IfErr result IsOfWriting }
 {
     line.clear();

@@ -18,7 +18,8 @@ pub struct Lanes {
 
 /// The lanes of a schedule.
 pub fn lanes_of(alloc: Global, schedule: &[Scheduled], executors: u32) -> Result<Lanes, NoMemory>
-    ensures sessions { IfOk result (λ lanes. lanes.sessions.items ≡ spec.sessions_from [] schedule.now) }
+    ensures sessions { IfOk result
+        (λ lanes. lanes.sessions.items ≡ spec.sessions_from [] schedule.now) }
     ensures executors { IfOk result (λ lanes. lanes.executors ≡ executors) }
 {
     let mut sessions = Vec::new(alloc);
@@ -33,7 +34,8 @@ pub fn lanes_of(alloc: Global, schedule: &[Scheduled], executors: u32) -> Result
 
 // Adds the submitting session, if it has no lane yet.
 fn put_submitter(sessions: &mut Vec<u32>, item: &Scheduled) -> Result<(), NoMemory>
-    ensures { OnOk result (sessions.new.items ≡ spec.with_submitter sessions.old.items (spec.submitter item.now)) }
+    ensures { OnOk result (sessions.new.items
+        ≡ spec.with_submitter sessions.old.items (spec.submitter item.now)) }
 {
     match submitter(item) {
         Some(session) => put_session(sessions, session),

@@ -132,7 +132,8 @@ fn put_rounds<'a>(
     outputs: &'a [Output],
     log: &[Entry],
 ) -> Result<&'a [Output], NoMemory>
-    ensures rows { OnOk result (rows.new.items ≡ rows.old.items ++ spec.rows_in_rounds log.now outputs.now) }
+    ensures rows { OnOk result
+        (rows.new.items ≡ rows.old.items ++ spec.rows_in_rounds log.now outputs.now) }
     ensures later { IfOk result (λ later. later.now ≡ spec.after_rounds outputs.now) }
 {
     for (index, output) in outputs.iter().enumerate() {

@@ -11,7 +11,8 @@ use std::alloc::Global;
 
 /// The marks of rows, one row after the other.
 pub fn marks_of(alloc: Global, lanes: &Lanes, rows: &[Row]) -> Result<Vec<Mark>, NoMemory>
-    ensures { IfOk result (λ marks. marks.items ≡ spec.all_marks lanes.now.sessions.items lanes.now.executors 0 rows.now) }
+    ensures { IfOk result (λ marks. marks.items
+        ≡ spec.all_marks lanes.now.sessions.items lanes.now.executors 0 rows.now) }
 {
     let mut marks = Vec::new(alloc);
     for (at, row) in rows.iter().enumerate() {
@@ -22,7 +23,8 @@ pub fn marks_of(alloc: Global, lanes: &Lanes, rows: &[Row]) -> Result<Vec<Mark>,
 
 // Adds the marks of the row at this index.
 fn put_row(marks: &mut Vec<Mark>, lanes: &Lanes, at: usize, row: Row) -> Result<(), NoMemory>
-    ensures { OnOk result (marks.new.items ≡ marks.old.items ++ spec.row_marks lanes.now.sessions.items lanes.now.executors at row) }
+    ensures { OnOk result (marks.new.items ≡ marks.old.items
+        ++ spec.row_marks lanes.now.sessions.items lanes.now.executors at row) }
 {
     match row {
         Row::Event {
@@ -80,7 +82,9 @@ fn put_number(
     number: u64,
     scheduled: Phrase,
 ) -> Result<(), NoMemory>
-    ensures { OnOk result (marks.new.items ≡ marks.old.items ++ Mark.Words Style.Number 40 at (Phrase.Number number) ∷ Mark.Words Style.Plain 52 at scheduled ∷ []) }
+    ensures { OnOk result (marks.new.items ≡ marks.old.items
+        ++ Mark.Words Style.Number 40 at (Phrase.Number number)
+        ∷ Mark.Words Style.Plain 52 at scheduled ∷ []) }
 {
     marks.push(words(Style::Number, 40, at, Phrase::Number(number)))?;
     marks.push(words(Style::Plain, 52, at, scheduled))?;
@@ -95,7 +99,8 @@ fn put_event(
     deed: Deed,
     reported: RowAnswer,
 ) -> Result<(), NoMemory>
-    ensures { OnOk result (marks.new.items ≡ marks.old.items ++ spec.event_signs lanes.now.sessions.items lanes.now.executors at deed reported) }
+    ensures { OnOk result (marks.new.items ≡ marks.old.items
+        ++ spec.event_signs lanes.now.sessions.items lanes.now.executors at deed reported) }
 {
     match deed {
         Deed::Submit { session, .. } => {
@@ -150,7 +155,8 @@ fn put_reported(
     at: usize,
     reported: RowAnswer,
 ) -> Result<(), NoMemory>
-    ensures { OnOk result (marks.new.items ≡ marks.old.items ++ spec.reported_signs lanes.now.sessions.items lanes.now.executors at reported) }
+    ensures { OnOk result (marks.new.items ≡ marks.old.items
+        ++ spec.reported_signs lanes.now.sessions.items lanes.now.executors at reported) }
 {
     match reported {
         RowAnswer::Logged { place } => {
@@ -184,7 +190,8 @@ fn put_arrow(
     at: usize,
     reported: RowAnswer,
 ) -> Result<(), NoMemory>
-    ensures { OnOk result (marks.new.items ≡ marks.old.items ++ spec.reported_arrow lanes.now.sessions.items lanes.now.executors from at reported) }
+    ensures { OnOk result (marks.new.items ≡ marks.old.items
+        ++ spec.reported_arrow lanes.now.sessions.items lanes.now.executors from at reported) }
 {
     let (style, to) = match reported {
         RowAnswer::Logged { .. } => (Style::Done, lanes.log_left()),

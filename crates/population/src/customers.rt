@@ -18,7 +18,8 @@ pub(crate) fn add_customers(
     scale: Scale,
     now: Moment,
 ) -> Result<HistoryList, NoMemory>
-    ensures rows { OnOk result (AddsCustomers now scale.customers customers.old.items customers.new.items) }
+    ensures rows { OnOk result
+        (AddsCustomers now scale.customers customers.old.items customers.new.items) }
     ensures payments { IfOk result (AreOpeningPayments now home scale.customers) }
 {
     let mut payments = HistoryList::new(alloc);

@@ -126,7 +126,8 @@ impl Draws {
         requires room { 8 ≤ length text.now }
         requires short { length text.now < 2 ^ 32 }
         ensures count { length result ≡ length text.now }
-        ensures each { IsTrue (list_all is_letter_or_digit text.now) → IsTrue (list_all is_letter_or_digit result) }
+        ensures each { IsTrue (list_all is_letter_or_digit text.now)
+            → IsTrue (list_all is_letter_or_digit result) }
     {
         let words = text.as_str();
         let place = self.random(0, words.len() as u32 - 8) as usize;
@@ -143,7 +144,8 @@ impl Draws {
         requires short { length alphabet.now < 2 ^ 32 }
         requires printable { IsTrue (list_all is_printable_byte alphabet.now) }
         ensures count { count ≤ WIDTH → length result ≡ count }
-        ensures each { (kind : ℕ → Bool) → IsTrue (list_all kind alphabet.now) → IsTrue (list_all kind result) }
+        ensures each { (kind : ℕ → Bool) → IsTrue (list_all kind alphabet.now)
+            → IsTrue (list_all kind result) }
     {
         let count = WIDTH.min(count as usize);
         let mut bytes = [b' '; WIDTH];

@@ -12,7 +12,8 @@ use std::alloc::Global;
 pub(crate) fn items(alloc: Global, draws: &mut Draws, count: u32) -> Result<Vec<Item>, NoMemory>
     ensures count { IfOk result (λ items. length items.items ≡ count) }
     ensures rows { IfOk result (λ items. All IsOpeningItem items.items) }
-    ensures first { IfOk result (λ items. (row : item_kind.Item) → slice_get items.items 0 ≡ Some row → row.im_id ≡ random_of 1 10000 draws.old.numbers) }
+    ensures first { IfOk result (λ items. (row : item_kind.Item)
+        → slice_get items.items 0 ≡ Some row → row.im_id ≡ random_of 1 10000 draws.old.numbers) }
 {
     let mut items = Vec::new(alloc);
     for _ in 0..count {

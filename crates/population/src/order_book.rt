@@ -4,9 +4,9 @@ ghost use Rattle.std.specs.Map.{keys_of};
 ghost use Rattle.std.specs.BTreeMap.{IsOrdered};
 ghost use Rattle.rows.specs.Ranged.{is_between};
 ghost use Rattle.schema.specs.declared.scale.Scale as scale_kind;
-ghost use Rattle.schema.specs.Scale.{has_customer, has_district};
+ghost use Rattle.schema.specs.Scale.{customer_key, has_customer, has_district};
 ghost use Rattle.schema.specs.Database.{is_order_id};
-ghost use Rattle.rows.specs.Keys.{order_cmp};
+ghost use Rattle.rows.specs.Keys.{district_of_order, order_cmp};
 ghost use Rattle.population.specs.Append.{AreBefore};
 ghost use Rattle.population.specs.Book.{IsBookOf, AreOfEarlierDistricts, all_owned, owned_by, is_new_order};
 
@@ -55,7 +55,8 @@ impl OrderBook {
         requires owners { All (λ owner. IsTrue (is_between 1 scale.customers owner)) owners.now }
         requires earlier { AreOfEarlierDistricts home self.old.orders.entries }
         requires book { IsBookOf scale now self.old }
-        ensures owned { OnOk result (all_owned self.new ≡ all_owned self.old ++ owned_by home 1 owners.now) }
+        ensures owned { OnOk result
+            (all_owned self.new ≡ all_owned self.old ++ owned_by home 1 owners.now) }
         ensures book { OnOk result (IsBookOf scale now self.new) }
     {
         for (place, customer) in owners.iter().enumerate() {
@@ -79,10 +80,12 @@ impl OrderBook {
         customer: u32,
     ) -> Result<(), NoMemory>
         requires number { IsTrue (is_order_id key.o_id) }
-        requires customer { IsTrue (has_customer scale (record { w_id = key.w_id; d_id = key.d_id; c_id = customer })) }
+        requires customer { IsTrue
+            (has_customer scale (customer_key (district_of_order key) customer)) }
         requires earlier { AreBefore order_cmp key self.old.orders.entries }
         requires book { IsBookOf scale now self.old }
-        ensures owned { OnOk result (all_owned self.new ≡ all_owned self.old ++ (key, customer) ∷ []) }
+        ensures owned { OnOk result
+            (all_owned self.new ≡ all_owned self.old ++ (key, customer) ∷ []) }
         ensures book { OnOk result (IsBookOf scale now self.new) }
     {
         let carrier_id = carrier(draws, scale, key.o_id);
@@ -109,7 +112,8 @@ fn add_if_new(
 ) -> Result<(), NoMemory>
     requires earlier { AreBefore order_cmp key new_orders.old.entries }
     requires ordered { IsOrdered order_cmp new_orders.old }
-    ensures keys { OnOk result (keys_of new_orders.new.entries ≡ keys_of new_orders.old.entries ++ filter (is_new_order scale) (key ∷ [])) }
+    ensures keys { OnOk result (keys_of new_orders.new.entries
+        ≡ keys_of new_orders.old.entries ++ filter (is_new_order scale) (key ∷ [])) }
     ensures ordered { IsOrdered order_cmp new_orders.new }
 {
     if is_new(scale, key.o_id) {

@@ -41,7 +41,8 @@ pub(crate) fn add_lines(
     requires before { AreOfEarlierOrders order lines.old }
     requires rows { All (λ e. IsOpeningLine scale now e.0 e.1) lines.old }
     requires ordered { IsStrictlySortedBy line_cmp (keys_of lines.old) }
-    ensures keys { OnOk result (keys_of lines.new ≡ keys_of lines.old ++ map (line_key order) (range_with_len 1 count)) }
+    ensures keys { OnOk result
+        (keys_of lines.new ≡ keys_of lines.old ++ map (line_key order) (range_with_len 1 count)) }
     ensures rows { OnOk result (All (λ e. IsOpeningLine scale now e.0 e.1) lines.new) }
     ensures ordered { OnOk result (IsStrictlySortedBy line_cmp (keys_of lines.new)) }
 {

@@ -25,7 +25,8 @@ pub(crate) fn add_stocks(
     items: u32,
 ) -> Result<(), NoMemory>
     ensures count { OnOk result (length stocks.new.items ≡ length stocks.old.items + items) }
-    ensures rows { OnOk result (All IsOpeningStock stocks.old.items → All IsOpeningStock stocks.new.items) }
+    ensures rows { OnOk result (All IsOpeningStock stocks.old.items
+        → All IsOpeningStock stocks.new.items) }
 {
     for _ in 0..items {
         stocks.push(stock(draws))?;

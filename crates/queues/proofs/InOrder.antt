@@ -1,6 +1,6 @@
 -- Each step keeps the rule of an inbox's queue.
 use Rattle.std.proofs.Common.{◌≡◌, ◌≢◌, ℕ, zero, suc, ◌+◌, ◌≤◌, ◌⊎◌, true, true≢false, List, [], ◌∷◌, ◌++◌, length, set, refl, sym, ap, ◌∙◌, subst, inl, inr, ⊎_elim, append_assoc, eq-eqb, ne_eqb, arith}
-use Rattle.std.specs.Prelude.{◌==◌, if◌then◌else◌}
+use Rattle.std.specs.Prelude.{◌<◌, ◌==◌, if◌then◌else◌}
 use mathlib.Core.Option.{some, some-ne-none, some-injective}
 use lib.ListN.{get_elem?}
 use Rattle.crossbeam_queue.specs.Fifo.{Pushes, Pops, Forks, Merges, Learns}
@@ -8,7 +8,7 @@ use Rattle.crossbeam_queue.proofs.Lists.{at_set, set_else}
 use Rattle.queues.specs.declared.sent.Sent.{Sent}
 use Rattle.queues.specs.declared.rule.View.{View}
 use Rattle.queues.specs.Order.{of}
-use Rattle.queues.specs.Rule.{taker_view, sender_view, both_views, spent_view, IsInOrder, AreInOrder, IsCompared}
+use Rattle.queues.specs.Rule.{taker_view, sender_view, both_views, spent_view, inbox_history, IsInOrder, AreInOrder, IsCompared}
 use Rattle.queues.proofs.Order.{of-append, of-own, of-other, of-none}
 
 -- the seat of one number is at this place
@@ -44,14 +44,14 @@ module _ {T : Type 0} where
       ⊎_elim (all j u) (λ (t : (length vs ≡ j) × (w ≡ u)). subst (λ (y : ℕ × View T). F y.0 y.1) (λ k. (t.0 k, t.1 k)) mine) (at_snoc vs w u j e)
 
   -- of a place that neither puts nor takes nothing is asked
-  in_order_spent : (taker senders : ℕ) (seat : ℕ → ℕ) (all got : List (Sent T)) (place : ℕ) → IsInOrder taker senders seat all got place spent_view
+  in_order_spent : (taker senders : ℕ) (seat : ℕ → ℕ) (all got : List (Sent T)) (place : ℕ) → IsInOrder (inbox_history taker senders seat all got) place spent_view
   in_order_spent taker senders seat all got place = record { as_sender = λ e. absurd (true≢false (sym e)); as_taker = λ e. absurd (true≢false (sym e)) }
 
   pub begins : AreInOrder {T = T} [] (taker_view 0 [] ∷ [])
   begins = record { taker = 0; senders = 0; seat = λ n. 0; all = []; got = []; one_order = refl; no_other = λ n h. refl; each = one }
     where
-      one : All (IsInOrder 0 0 (λ n. 0) [] []) (taker_view 0 [] ∷ [])
-      one zero v e = subst (IsInOrder 0 0 (λ n. 0) [] [] 0) (some-injective _ _ e) (record { as_sender = λ h. absurd (true≢false (sym h)); as_taker = λ _. (refl, refl, refl) })
+      one : All (IsInOrder (inbox_history 0 0 (λ n. 0) [] [])) (taker_view 0 [] ∷ [])
+      one zero v e = subst (IsInOrder (inbox_history 0 0 (λ n. 0) [] []) 0) (some-injective _ _ e) (record { as_sender = λ h. absurd (true≢false (sym h)); as_taker = λ _. (refl, refl, refl) })
       one (suc j) v e = absurd (some-ne-none v (sym e))
 
   -- a sender may put a message of its number
@@ -68,8 +68,8 @@ module _ {T : Type 0} where
           all = all;
           got = holds.got;
           one_order = ap (λ l. l ++ s ∷ []) holds.one_order ∙ append_assoc holds.got standing (s ∷ []);
-          no_other = λ number high. of-other number holds.all s (λ same. let low = mine.0 in let e = sym own ∙ same in omega arith) ∙ holds.no_other number high;
-          each = all_set (IsInOrder holds.taker holds.senders holds.seat all holds.got) views id w
+          no_other = λ number high. of-other number holds.all s (λ same. let low : v.number < holds.senders = mine.0 in let e = sym own ∙ same in omega arith) ∙ holds.no_other number high;
+          each = all_set (IsInOrder (inbox_history holds.taker holds.senders holds.seat all holds.got)) views id w
               (λ j u apart e.
               let theirs = holds.each j u e in
               record {
@@ -104,7 +104,7 @@ module _ {T : Type 0} where
           got = got;
           one_order = holds.one_order ∙ sym (append_assoc holds.got (s ∷ []) standing);
           no_other = holds.no_other;
-          each = all_set (IsInOrder holds.taker holds.senders holds.seat holds.all got) views id w
+          each = all_set (IsInOrder (inbox_history holds.taker holds.senders holds.seat holds.all got)) views id w
               (λ j u apart e. let theirs = holds.each j u e in record { as_sender = theirs.as_sender; as_taker = λ h. absurd (apart ((theirs.as_taker h).0 ∙ sym mine.0)) })
               (record { as_sender = λ h. absurd (true≢false (sym h)); as_taker = λ _. (mine.0, mine.1, ap (λ l. l ++ s ∷ []) mine.2) });
         },
@@ -117,10 +117,10 @@ module _ {T : Type 0} where
       let left = taker_view (v.senders + 1) v.got in
       let right = sender_view v.senders [] in
       let mine = (holds.each id v at).as_taker may in
-      let known = mine.1 in
+      let known : v.senders ≡ holds.senders = mine.1 in
       let vs : List (View T) = set views id left in
       let seat = moved holds.seat v.senders (length vs) in
-      let F = IsInOrder holds.taker (v.senders + 1) seat holds.all holds.got in
+      let F = IsInOrder (inbox_history holds.taker (v.senders + 1) seat holds.all holds.got) in
       record {
         taker = holds.taker;
         senders = v.senders + 1;
@@ -134,12 +134,12 @@ module _ {T : Type 0} where
             (λ j u apart e.
             let theirs = holds.each j u e in
             record {
-              as_sender = λ h. let their = theirs.as_sender h in let low = their.0 in (omega arith, moved_else holds.seat v.senders (length vs) u.number (λ same. omega arith) ∙ their.1, their.2);
+              as_sender = λ h. let their = theirs.as_sender h in let low : u.number < holds.senders = their.0 in let below : u.number < v.senders + 1 = omega arith in (below, moved_else holds.seat v.senders (length vs) u.number (λ same. omega arith) ∙ their.1, their.2);
               as_taker = λ h. absurd (apart ((theirs.as_taker h).0 ∙ sym mine.0));
             })
             (record { as_sender = λ h. absurd (true≢false (sym h)); as_taker = λ _. (mine.0, refl, mine.2) }))
             (record {
-              as_sender = λ _. (omega arith, moved_here holds.seat v.senders (length vs), sym (holds.no_other v.senders (omega arith)));
+              as_sender = λ _. let next : v.senders < v.senders + 1 = omega arith in (next, moved_here holds.seat v.senders (length vs), sym (holds.no_other v.senders (omega arith)));
               as_taker = λ h. absurd (true≢false (sym h));
             });
       }
@@ -147,7 +147,7 @@ module _ {T : Type 0} where
   -- any place may make a place that may do nothing
   pub spares : (id : ℕ) (v : View T) → Forks AreInOrder id v v spent_view
   spares id v standing views holds at =
-      let F = IsInOrder holds.taker holds.senders holds.seat holds.all holds.got in
+      let F = IsInOrder (inbox_history holds.taker holds.senders holds.seat holds.all holds.got) in
       record {
         taker = holds.taker;
         senders = holds.senders;
@@ -168,7 +168,7 @@ module _ {T : Type 0} where
       let mine = (holds.each id v at).as_taker may in
       let theirs = (holds.each other w was).as_sender sends in
       let seat = moved holds.seat w.number id in
-      let F = IsInOrder holds.taker holds.senders seat holds.all holds.got in
+      let F = IsInOrder (inbox_history holds.taker holds.senders seat holds.all holds.got) in
       let F' : ℕ → View T → Type 0 = λ j u. j ≢ other → F j u in
       let now : All F' (set views id both) =
       all_set F' views id both
@@ -200,7 +200,7 @@ module _ {T : Type 0} where
       let own = (holds.each id v at).as_sender sends in
       let vs : List (View T) = set views id left in
       let seat = moved holds.seat v.number (length vs) in
-      let F = IsInOrder holds.taker holds.senders seat holds.all holds.got in
+      let F = IsInOrder (inbox_history holds.taker holds.senders seat holds.all holds.got) in
       record {
         taker = holds.taker;
         senders = holds.senders;
@@ -226,8 +226,8 @@ module _ {T : Type 0} where
   compares id v may sends standing views holds at =
       let mine = (holds.each id v at).as_taker may in
       let own = (holds.each id v at).as_sender sends in
-      let known = mine.1 in
-      let low = own.0 in
+      let known : v.senders ≡ holds.senders = mine.1 in
+      let low : v.number < holds.senders = own.0 in
       let all : holds.all ≡ v.got ++ standing = holds.one_order ∙ ap (λ l. l ++ standing) (sym mine.2) in
       record {
         put = own.2 ∙ ap (of v.number) all ∙ of-append v.number v.got standing;

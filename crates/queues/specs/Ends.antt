@@ -1,5 +1,5 @@
 -- The views that contracts have of a sender and of a taker.
-use Rattle.std.specs.Prelude.{ℕ, List}
+use Rattle.std.specs.Prelude.{ℕ, List, [], ◌∷◌, ◌++◌}
 use Rattle.atomic_table.specs.Seated.{TableId}
 use Rattle.queues.specs.declared.sent.Sent.{Sent}
 
@@ -23,3 +23,11 @@ module _ {T : Type 0} where
   -- the taker of this inbox
   abbrev pub taking : TableId → ℕ → List (Sent T) → TakerView T
   taking inbox senders got = record { inbox = inbox; senders = senders; got = got }
+
+  -- the sender after it put a message
+  abbrev pub after_put : SenderView T → T → SenderView T
+  after_put sender message = sending sender.inbox sender.number (sender.put ++ message ∷ [])
+
+  -- the taker after it got a message
+  abbrev pub after_take : TakerView T → Sent T → TakerView T
+  after_take taker sent = taking taker.inbox taker.senders (taker.got ++ sent ∷ [])

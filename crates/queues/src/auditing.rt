@@ -23,8 +23,10 @@ pub fn audit_all<T: Drop, J: InboxNames>(desks: &mut Vec<Desk<T, J>>) -> bool
 fn audit_one<T: Drop, J: InboxNames>(desks: &mut Vec<Desk<T, J>>, taker: usize) -> bool
     requires { taker < vec_len desks.old }
     ensures same { desks.new.items ≡ desks.old.items }
-    ensures in_order { (sender : ℕ) → sender < vec_len desks.old → PairInOrder desks.old.items taker sender }
-    ensures whole { IsTrue result → (sender : ℕ) → sender < vec_len desks.old → PairWhole desks.old.items taker sender }
+    ensures in_order { (sender : ℕ) → sender < vec_len desks.old
+        → PairInOrder desks.old.items taker sender }
+    ensures whole { IsTrue result → (sender : ℕ) → sender < vec_len desks.old
+        → PairWhole desks.old.items taker sender }
 {
     let mut whole = true;
     for sender in 0..desks.len() {

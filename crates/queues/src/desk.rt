@@ -1,5 +1,6 @@
-ghost use Rattle.std.specs.Prelude.{◌≡◌, ◌++◌, ◌<◌, ◌≤◌, ℕ, List, [], IsTrue, IfErr, OnOk, MatchOption};
-ghost use Rattle.queues.specs.Desks.{put_to, with_put, with_got};
+ghost use Rattle.std.specs.Prelude.{◌≡◌, ◌<◌, ◌≤◌, ℕ, [], IsTrue, IfErr, OnOk, MatchOption};
+ghost use Rattle.queues.specs.Audited.{GotBeginning, GotWhole};
+ghost use Rattle.queues.specs.Desks.{with_put, with_got};
 ghost use Rattle.queues.specs.Order.{of};
 
 use crate::{InboxNames, Sender, Sent, Taker};
@@ -54,7 +55,8 @@ impl<T: Drop, J: InboxNames> Desk<T, J> {
 
     /// Takes the first message of its own inbox, with the number of the desk that put it; `None` if the inbox is empty.
     pub fn take<R: Wait>(&mut self, rt: &R) -> Option<Sent<T>>
-        ensures { MatchOption result (self.new ≡ self.old) (λ sent. self.new ≡ with_got self.old sent) }
+        ensures { MatchOption result (self.new ≡ self.old)
+            (λ sent. self.new ≡ with_got self.old sent) }
     {
         self.taker.take(rt)
     }
@@ -64,8 +66,8 @@ impl<T: Drop, J: InboxNames> Desk<T, J> {
     /// desk has put there.
     pub fn audit(&mut self, other: &mut Desk<T, J>) -> bool
         ensures same { (self.new ≡ self.old) × (other.new ≡ other.old) }
-        ensures beginning { (rest : List T) × (put_to other.old self.old.number ≡ of other.old.number self.old.got ++ rest) }
-        ensures whole { IsTrue result → put_to other.old self.old.number ≡ of other.old.number self.old.got }
+        ensures beginning { GotBeginning self.old other.old }
+        ensures whole { IsTrue result → GotWhole self.old other.old }
         ensures no_other { (number : ℕ) → J.inboxes ≤ number → of number self.old.got ≡ [] }
     {
         self.taker.audit(&mut other.senders[self.number as usize])
@@ -74,8 +76,8 @@ impl<T: Drop, J: InboxNames> Desk<T, J> {
     /// The same for what the desk itself has put into its inbox.
     pub fn audit_own(&mut self) -> bool
         ensures same { self.new ≡ self.old }
-        ensures beginning { (rest : List T) × (put_to self.old self.old.number ≡ of self.old.number self.old.got ++ rest) }
-        ensures whole { IsTrue result → put_to self.old self.old.number ≡ of self.old.number self.old.got }
+        ensures beginning { GotBeginning self.old self.old }
+        ensures whole { IsTrue result → GotWhole self.old self.old }
     {
         let Desk {
             number,

@@ -17,7 +17,8 @@ pub fn open<T: Drop>(
     requires { 0 < room }
     ensures taker { IfOk result (λ ends. ends.1 ≡ taking ends.1.inbox senders []) }
     ensures count { IfOk result (λ ends. vec_len ends.0 ≡ senders) }
-    ensures senders { IfOk result (λ ends. (number : ℕ) → number < senders → slice_get ends.0.items number ≡ Some (sending ends.1.inbox number [])) }
+    ensures senders { IfOk result (λ ends. (number : ℕ) → number < senders
+        → slice_get ends.0.items number ≡ Some (sending ends.1.inbox number [])) }
 {
     let mut taker = Taker::open(alloc, room)?;
     let mut all = Vec::new(alloc);
@@ -48,7 +49,8 @@ pub fn desks<T: Drop, J: InboxNames>(
     requires named { AreTakersOf J.inboxes J.inbox 0 takers.items }
     requires most { J.inboxes < 2 ^ 32 }
     ensures count { IfOk result (λ desks. vec_len desks ≡ J.inboxes) }
-    ensures each { IfOk result (λ desks. (number : ℕ) → number < J.inboxes → slice_get desks.items number ≡ Some (new_desk J.inboxes number)) }
+    ensures each { IfOk result (λ desks. (number : ℕ) → number < J.inboxes
+        → slice_get desks.items number ≡ Some (new_desk J.inboxes number)) }
 {
     let count = takers.len();
     let mut all = VecDeque::new(alloc);
@@ -80,7 +82,8 @@ fn senders_of<T: Drop, J: InboxNames>(
 ) -> Result<Vec<Sender<T>>, AllocError>
     requires takers { AreTakersOf J.inboxes J.inbox number takers.old.items }
     requires most { number + 1 < 2 ^ 32 }
-    ensures takers { IfOk result (λ senders. AreTakersOf J.inboxes J.inbox (number + 1) takers.new.items) }
+    ensures takers { IfOk result (λ senders.
+        AreTakersOf J.inboxes J.inbox (number + 1) takers.new.items) }
     ensures senders { IfOk result (λ senders. AreSendersOf J.inboxes J.inbox number senders.items) }
 {
     let mut senders = Vec::new(alloc);

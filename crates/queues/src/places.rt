@@ -1,8 +1,8 @@
 //! The single steps on a place at an inbox's queue.
-ghost use Rattle.std.specs.Prelude.{◌≡◌, ◌+◌, ◌∷◌, [], ◌++◌, ◌<◌, ℕ, List, true, false, IfOk, MatchOption, MatchResult, IsTrue};
+ghost use Rattle.std.specs.Prelude.{◌≡◌, ◌+◌, [], ◌<◌, ℕ, List, true, false, IfOk, MatchOption, MatchResult, IsTrue};
 ghost use Rattle.std.specs.Arc.{arc_value};
 ghost use Rattle.crossbeam_queue.specs.Passes.{view, IsPassOf};
-ghost use Rattle.queues.specs.Rule.{taker_view, sender_view, both_views, IsCompared};
+ghost use Rattle.queues.specs.Rule.{taker_view, sender_view, both_views, view_after_put, view_after_take, IsCompared};
 
 use crate::Sent;
 use crate::rule::{Compares, HandBack, OneMore, OneOrder, Puts, Spare, TakeIn, Takes, View};
@@ -31,7 +31,8 @@ pub fn one_more<T>(board: &Board<T>, place: &mut Place<T>) -> Place<T>
     requires place { IsPassOf (arc_value board.now) place.old }
     requires taker { (view place.old).takes ≡ true }
     ensures place { IsPassOf (arc_value board.now) place.new }
-    ensures taker { view place.new ≡ taker_view ((view place.old).senders + 1) (view place.old).got }
+    ensures taker { view place.new
+        ≡ taker_view ((view place.old).senders + 1) (view place.old).got }
     ensures new_place { IsPassOf (arc_value board.now) result }
     ensures sender { view result ≡ sender_view (view place.old).senders [] }
 {
@@ -83,7 +84,9 @@ pub fn put<T, R: Wait>(
     requires sender { (view place.old).sends ≡ true }
     requires number { sent.sender ≡ (view place.old).number }
     ensures place { IsPassOf (arc_value board.now) place.new }
-    ensures view { MatchResult result (λ _. view place.new ≡ sender_view (view place.old).number ((view place.old).put ++ sent.message ∷ [])) (λ back. (back ≡ sent) × (view place.new ≡ view place.old)) }
+    ensures view { MatchResult result
+        (λ _. view place.new ≡ view_after_put (view place.old) sent.message)
+        (λ back. (back ≡ sent) × (view place.new ≡ view place.old)) }
 {
     board.push_as::<Puts, R>(rt, place, sent)
 }
@@ -93,7 +96,8 @@ pub fn take<T, R: Wait>(board: &Board<T>, rt: &R, place: &mut Place<T>) -> Optio
     requires place { IsPassOf (arc_value board.now) place.old }
     requires taker { (view place.old).takes ≡ true }
     ensures place { IsPassOf (arc_value board.now) place.new }
-    ensures view { MatchOption result (view place.new ≡ view place.old) (λ sent. view place.new ≡ taker_view (view place.old).senders ((view place.old).got ++ sent ∷ [])) }
+    ensures view { MatchOption result (view place.new ≡ view place.old)
+        (λ sent. view place.new ≡ view_after_take (view place.old) sent) }
 {
     board.pop_as::<Takes, R>(rt, place)
 }

@@ -76,10 +76,10 @@ impl<T> Split<View<T>> for HandBack {
 pub struct Puts;
 
 impl<T> Outcome<Sent<T>, View<T>> for Puts {
-    ghost use Rattle.std.specs.Prelude.{◌≡◌, ◌∷◌, [], ◌++◌};
-    ghost use Rattle.queues.specs.Rule.{sender_view};
+    ghost use Rattle.std.specs.Prelude.{◌≡◌};
+    ghost use Rattle.queues.specs.Rule.{view_after_put};
 
-    ghost then = { λ v sent w. w ≡ sender_view v.number (v.put ++ sent.message ∷ []) };
+    ghost then = { λ v sent w. w ≡ view_after_put v sent.message };
 }
 
 impl<T> Lesson<Sent<T>, View<T>> for Puts {
@@ -92,10 +92,10 @@ impl<T> Lesson<Sent<T>, View<T>> for Puts {
 pub struct Takes;
 
 impl<T> Outcome<Sent<T>, View<T>> for Takes {
-    ghost use Rattle.std.specs.Prelude.{◌≡◌, ◌∷◌, [], ◌++◌};
-    ghost use Rattle.queues.specs.Rule.{taker_view};
+    ghost use Rattle.std.specs.Prelude.{◌≡◌};
+    ghost use Rattle.queues.specs.Rule.{view_after_take};
 
-    ghost then = { λ v sent w. w ≡ taker_view v.senders (v.got ++ sent ∷ []) };
+    ghost then = { λ v sent w. w ≡ view_after_take v sent };
 }
 
 impl<T> Lesson<Sent<T>, View<T>> for Takes {

@@ -1,5 +1,5 @@
-ghost use Rattle.std.specs.Prelude.{◌≡◌, ◌∷◌, [], ◌++◌, IfErr, OnOk};
-ghost use Rattle.queues.specs.Ends.{sending};
+ghost use Rattle.std.specs.Prelude.{◌≡◌, IfErr, OnOk};
+ghost use Rattle.queues.specs.Ends.{after_put};
 
 use crate::Sent;
 use crate::places::{self, Board, Place};
@@ -36,7 +36,7 @@ impl<T: Drop> Sender<T> {
 
     /// Puts a message at the end of the inbox. If the inbox has no room, returns the message; nothing changes then.
     pub fn put<R: Wait>(&mut self, rt: &R, message: T) -> Result<(), T>
-        ensures put { OnOk result (self.new ≡ sending self.old.inbox self.old.number (self.old.put ++ message ∷ [])) }
+        ensures put { OnOk result (self.new ≡ after_put self.old message) }
         ensures full { IfErr result (λ back. (back ≡ message) × (self.new ≡ self.old)) }
         ensures same { (self.new.inbox ≡ self.old.inbox) × (self.new.number ≡ self.old.number) }
     {

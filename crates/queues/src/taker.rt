@@ -1,5 +1,5 @@
-ghost use Rattle.std.specs.Prelude.{◌≡◌, ◌∷◌, [], ◌++◌, ◌<◌, ◌≤◌, ◌+◌, ◌^◌, ℕ, List, IsTrue, IfOk, OnOk, OnErr, MatchOption};
-ghost use Rattle.queues.specs.Ends.{taking, sending};
+ghost use Rattle.std.specs.Prelude.{◌≡◌, [], ◌++◌, ◌<◌, ◌≤◌, ◌+◌, ◌^◌, ℕ, List, IsTrue, IfOk, OnOk, OnErr, MatchOption};
+ghost use Rattle.queues.specs.Ends.{taking, sending, after_take};
 ghost use Rattle.queues.specs.Order.{of};
 
 use crate::places::{self, Board, Place};
@@ -48,8 +48,10 @@ impl<T: Drop> Taker<T> {
     /// inbox has more ends than an `Arc` can count; nothing changes then.
     pub fn sender(&mut self) -> Result<Sender<T>, AllocError>
         requires { self.old.senders + 1 < 2 ^ 32 }
-        ensures sender { IfOk result (λ sender. sender ≡ sending self.old.inbox self.old.senders []) }
-        ensures taker { OnOk result (self.new ≡ taking self.old.inbox (self.old.senders + 1) self.old.got) }
+        ensures sender { IfOk result (λ sender.
+            sender ≡ sending self.old.inbox self.old.senders []) }
+        ensures taker { OnOk result
+            (self.new ≡ taking self.old.inbox (self.old.senders + 1) self.old.got) }
         ensures failed { OnErr result (self.new ≡ self.old) }
     {
         let board = Arc::try_clone(&self.board)?;
@@ -65,7 +67,8 @@ impl<T: Drop> Taker<T> {
 
     /// Takes the first message of the inbox, with the number of its sender; `None` if the inbox is empty.
     pub fn take<R: Wait>(&mut self, rt: &R) -> Option<Sent<T>>
-        ensures taken { MatchOption result (self.new ≡ self.old) (λ sent. self.new ≡ taking self.old.inbox self.old.senders (self.old.got ++ sent ∷ [])) }
+        ensures taken { MatchOption result (self.new ≡ self.old)
+            (λ sent. self.new ≡ after_take self.old sent) }
         ensures same { (self.new.inbox ≡ self.old.inbox) × (self.new.senders ≡ self.old.senders) }
     {
         places::take(&self.board, rt, &mut self.place)
@@ -77,7 +80,8 @@ impl<T: Drop> Taker<T> {
     pub fn audit(&mut self, sender: &mut Sender<T>) -> bool
         requires { sender.old.inbox ≡ self.old.inbox }
         ensures same { (self.new ≡ self.old) × (sender.new ≡ sender.old) }
-        ensures beginning { (rest : List T) × (sender.old.put ≡ of sender.old.number self.old.got ++ rest) }
+        ensures beginning { (rest : List T)
+            × (sender.old.put ≡ of sender.old.number self.old.got ++ rest) }
         ensures whole { IsTrue result → sender.old.put ≡ of sender.old.number self.old.got }
         ensures number { sender.old.number < self.old.senders }
         ensures no_other { (number : ℕ) → self.old.senders ≤ number → of number self.old.got ≡ [] }

@@ -100,6 +100,19 @@ placement_taken placement here to = record { place = Travels to; notes = slice_s
 abbrev pub placement_installed : Placement → ℕ → Placement
 placement_installed placement here = record placement { place = Rests here }
 
+module _ (h : PlacementsView) (w_id : ℕ) where
+  -- the placements after the warehouse's move begins at its destination
+  abbrev pub placements_moved : ℕ → PlacementsView
+  placements_moved to = with_placement h w_id (placement_moved (placement_of h w_id) to)
+
+  -- the placements after the warehouse's slice is taken out at an executor, which notes its destination
+  abbrev pub placements_taken : ℕ → ℕ → PlacementsView
+  placements_taken here to = with_placement h w_id (placement_taken (placement_of h w_id) here to)
+
+  -- the placements after the warehouse's slice is installed at an executor
+  abbrev pub placements_installed : ℕ → PlacementsView
+  placements_installed here = with_placement h w_id (placement_installed (placement_of h w_id) here)
+
 -- ---- the opening
 
 -- a slice at an executor, without notes

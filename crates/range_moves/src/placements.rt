@@ -2,7 +2,7 @@
 ghost use Rattle.std.specs.Prelude.{◌≡◌, ◌↔◌, ◌<◌, ◌≤◌, ◌-◌, All, IfOk, IfSome, IsTrue, MatchOption, length};
 ghost use Rattle.routing.specs.Routes.{Routes};
 ghost use Rattle.range_moves.specs.Orders.{IsWithin, size_of};
-ghost use Rattle.range_moves.specs.Placements.{AreKept, IsPlacementOf, IsOpenedBy, IsWarehouse, fetched_from, found_by, placement_installed, placement_moved, placement_of, placement_taken, no_placement, place_of, route_of, with_placement};
+ghost use Rattle.range_moves.specs.Placements.{AreKept, IsPlacementOf, IsOpenedBy, IsWarehouse, fetched_from, found_by, no_placement, place_of, placement_of, placements_installed, placements_moved, placements_taken, route_of};
 
 use crate::order::MoveOrder;
 use crate::placement::{Found, Placement, Whereabouts};
@@ -89,7 +89,8 @@ impl Placements {
 
     /// Returns whether the move can be ordered now: it is possible, and no move is outstanding.
     pub fn can_order(&self, order: &MoveOrder) -> bool
-        ensures { IsTrue result ↔ ((self.now.awaited ≡ 0) × IsWithin (length self.now.placements) self.now.executors order.now) }
+        ensures { IsTrue result ↔ ((self.now.awaited ≡ 0)
+            × IsWithin (length self.now.placements) self.now.executors order.now) }
     {
         self.awaited == 0 && order.is_within(self.placements.len() as u32, self.executors)
     }
@@ -107,7 +108,7 @@ impl Placements {
     pub fn move_to(&mut self, w_id: u32, to: u32) -> Option<u32>
         requires warehouse { IsWarehouse self.old w_id }
         requires to { to < self.old.executors }
-        ensures placement { self.new ≡ with_placement self.old w_id (placement_moved (placement_of self.old w_id) to) }
+        ensures placement { self.new ≡ placements_moved self.old w_id to }
         ensures from { result ≡ fetched_from (place_of self.old w_id) to }
         ensures below { IfSome result (λ from. from < self.old.executors) }
     {
@@ -122,7 +123,7 @@ impl Placements {
         requires warehouse { IsWarehouse self.old w_id }
         requires here { here < self.old.executors }
         requires to { to < self.old.executors }
-        ensures { self.new ≡ with_placement self.old w_id (placement_taken (placement_of self.old w_id) here to) }
+        ensures { self.new ≡ placements_taken self.old w_id here to }
     {
         let at = (w_id - 1) as usize;
         self.placements[at] = self.placements[at].taken(here, to);
@@ -132,7 +133,7 @@ impl Placements {
     pub fn install(&mut self, w_id: u32, here: u32)
         requires warehouse { IsWarehouse self.old w_id }
         requires here { here < self.old.executors }
-        ensures { self.new ≡ with_placement self.old w_id (placement_installed (placement_of self.old w_id) here) }
+        ensures { self.new ≡ placements_installed self.old w_id here }
     {
         let at = (w_id - 1) as usize;
         self.placements[at] = self.placements[at].installed(here);
@@ -165,7 +166,9 @@ impl Placements {
 
     // Returns the placement of a warehouse, `None` if there is no such warehouse.
     fn placement(&self, w_id: u32) -> Option<&Placement>
-        ensures placement { MatchOption result (placement_of self.now w_id ≡ no_placement) (λ placement. (placement.now ≡ placement_of self.now w_id) × IsPlacementOf self.now.executors placement.now) }
+        ensures placement { MatchOption result (placement_of self.now w_id ≡ no_placement)
+            (λ placement. (placement.now ≡ placement_of self.now w_id)
+            × IsPlacementOf self.now.executors placement.now) }
         ensures executors { 1 ≤ self.now.executors }
     {
         if 1 <= w_id {

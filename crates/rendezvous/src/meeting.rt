@@ -71,7 +71,8 @@ impl<R> Meeting<R> {
         requires { slice_get self.old place ≡ Some None }
         ensures last { IsLast result ↔ (awaited_from 0 (slice_set self.old place (Some own)) ≡ []) }
         ensures meeting { OnNotLast result (self.new ≡ slice_set self.old place (Some own)) }
-        ensures results { IfLast result (λ results. map Some results ≡ slice_set self.old place (Some own)) }
+        ensures results { IfLast result
+            (λ results. map Some results ≡ slice_set self.old place (Some own)) }
         ensures over { IfLast result (λ _. self.new ≡ []) }
     {
         match mem::replace(&mut self.reports[place], Some(own)) {

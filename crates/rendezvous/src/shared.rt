@@ -8,4 +8,4 @@ mod steps;
 pub use meeting::{Convener, Meeting, Places};
 pub use place::{Place, Receipt};
 pub use results::{Reported, Results};
-pub use rule::{Anything, Topic};
+pub use rule::{Anything, Picked, Topic};

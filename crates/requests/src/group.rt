@@ -13,7 +13,7 @@ pub enum Group {
     Orders { w_id: u32, d_id: u32 },
     /// The payments taken at the district.
     History { w_id: u32, d_id: u32 },
-    /// The warehouse's stock of the items whose number modulo 64 is `residue`, 0 to 63.
+    /// The warehouse's stock of the items whose number modulo `STOCK_GROUPS` is `residue`.
     Stock { w_id: u32, residue: u32 },
 }
 

@@ -1,38 +1,41 @@
 ghost use Rattle.std.specs.Prelude.{◌≡◌};
 
 use crate::Group;
+use rows::{FEWEST_LINES, MOST_ENTRIES, MOST_LINES};
+use thiserror::Error;
 
 /// The reason why a request was not carried out. It was not logged, and no table has changed.
-#[derive(Clone, Copy, Debug, PartialEq, Eq)]
+#[derive(Clone, Copy, Debug, Drop, Error, PartialEq, Eq)]
 pub enum Refusal {
-    /// The home warehouse or the customer's is not in the scale.
+    #[error("the home warehouse or the customer's is not in the scale")]
     BadWarehouse,
-    /// The home district or the customer's is not 1 to 10.
+    #[error("the home district or the customer's is not 1 to 10")]
     BadDistrict,
-    /// There are not `FEWEST_LINES` to `MOST_LINES` lines.
+    #[error("there are not {fewest} to {most} lines", fewest = FEWEST_LINES, most = MOST_LINES)]
     BadLines,
-    /// The quantity of a line is not 1 to 10.
+    #[error("the quantity of a line is not 1 to 10")]
     BadQuantity,
-    /// The supply warehouse of a line is not in the scale.
+    #[error("the supply warehouse of a line is not in the scale")]
     BadSupply,
-    /// The amount is not 100 to 500,000 cents.
+    #[error("the amount is not 100 to 500,000 cents")]
     BadAmount,
-    /// The threshold is not 10 to 20.
+    #[error("the threshold is not 10 to 20")]
     BadThreshold,
-    /// The carrier is not 1 to 10.
+    #[error("the carrier is not 1 to 10")]
     BadCarrier,
-    /// The maximum number of transactions is active.
+    #[error("the maximum number of transactions is active")]
     Busy,
-    /// The session's last request has no answer yet.
+    #[error("the session's last request has no answer yet")]
     SessionBusy,
     /// An older transaction, or one as old, holds the group. `holder` is its age: the number of
     /// transactions admitted before it.
+    #[error("an older transaction, or one as old, of age {holder}, holds {group}")]
     Died { group: Group, holder: u64 },
-    /// An allocation failed.
+    #[error("no memory")]
     NoMemory,
-    /// The engine was closed.
+    #[error("the engine was closed")]
     Closed,
-    /// The log has `MOST_ENTRIES` entries.
+    #[error("the log is full, with {most} entries", most = MOST_ENTRIES)]
     LogFull,
 }
 

@@ -16,6 +16,7 @@ mod text;
 pub use keys::{CustomerKey, DistrictKey, OrderKey, OrderLineKey, StockKey};
 pub use limits::{
     FEWEST_LINES, INBOX, LAST_LINE, MOST_ENTRIES, MOST_LINES, MOST_WAREHOUSES, RECENT_LINES,
+    SESSIONS, STOCK_GROUPS,
 };
 pub use moment::Moment;
 pub use names::last_name;

@@ -16,6 +16,12 @@ pub const RECENT_LINES: usize = 20 * MOST_LINES;
 /// The most warehouses of a database.
 pub const MOST_WAREHOUSES: u32 = 64;
 
+/// The groups into which a warehouse's stock is divided, by item number.
+pub const STOCK_GROUPS: u32 = 64;
+
+/// The sessions of an engine or of a world, numbered from 0.
+pub const SESSIONS: usize = 64;
+
 /// The most entries of a log.
 pub const MOST_ENTRIES: usize = 16_777_216;
 

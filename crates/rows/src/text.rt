@@ -8,13 +8,14 @@ use memchr::memchr;
 use std::fmt;
 use std::marker::Model;
 use std::str::from_utf8_unchecked;
+use thiserror::Error;
 
 /// Why a string is not a text of a column.
-#[derive(Clone, Copy, Debug, PartialEq, Eq)]
+#[derive(Clone, Copy, Debug, Drop, Error, PartialEq, Eq)]
 pub enum TextFault {
-    /// It contains a byte outside 32 to 126.
+    #[error("the text contains a byte outside 32 to 126")]
     Byte,
-    /// It is longer than the column is wide.
+    #[error("the text is longer than the column is wide")]
     Width,
 }
 

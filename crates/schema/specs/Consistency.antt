@@ -15,7 +15,7 @@ use Rattle.rows.specs.declared.records.NewOrder.{NewOrder}
 use Rattle.rows.specs.declared.records.OrderLine.{OrderLine}
 use Rattle.rows.specs.Keys.{order_of_line}
 use Rattle.schema.specs.Sums.{sum_rows}
-use Rattle.schema.specs.Database.{Database, list_at, rows_where, is_of_district, is_of_order}
+use Rattle.schema.specs.Database.{Database, list_at, rows_where, is_of_district, is_line_of_district, is_of_order}
 
 -- ---- terms that the conditions use
 
@@ -44,7 +44,7 @@ new_orders_of t home = rows_where (is_of_district home) t.new_orders
 
 -- the lines of a district
 abbrev pub district_lines : Database → DistrictKey → List (OrderLineKey × OrderLine)
-district_lines t home = rows_where (λ key. is_of_district home (order_of_line key)) t.lines
+district_lines t home = rows_where (is_line_of_district home) t.lines
 
 -- the lines of an order
 abbrev pub lines_of : Database → OrderKey → List (OrderLineKey × OrderLine)

@@ -1,6 +1,6 @@
 -- How contracts see the nine tables: as finite maps from keys to rows (clause 1.3).
-use Rattle.std.specs.Prelude.{◌≡◌, ℕ, ◌-◌, Bool, ◌&&◌, ◌==◌, List, [], ◌∷◌, ◌++◌, length, take, unwrap_or}
-use Rattle.std.specs.List.{list_all, filter}
+use Rattle.std.specs.Prelude.{◌≡◌, ℕ, ◌+◌, ◌-◌, Bool, ◌&&◌, ◌==◌, List, [], ◌∷◌, ◌++◌, length, take, unwrap_or}
+use Rattle.std.specs.List.{list_all, filter, slice_get}
 use Rattle.std.specs.declared.cmp.Ordering.{Ordering}
 use Rattle.std.specs.Ordering.{nat_cmp}
 use Rattle.std.specs.FinMap as map
@@ -22,7 +22,7 @@ use Rattle.rows.specs.Keys.{district_cmp, stock_cmp, customer_cmp, order_cmp, li
 use Rattle.rows.specs.Ranged.{is_between}
 use Rattle.rows.specs.declared.limits.TheConstants.{LAST_LINE}
 use Rattle.schema.specs.declared.scale.Scale.{Scale}
-use Rattle.schema.specs.Scale.{has_item, has_warehouse, has_district, has_stock, has_customer}
+use Rattle.schema.specs.Scale.{has_item, has_warehouse, has_district, has_stock, has_customer, customer_key}
 use Rattle.schema.specs.EachRow.{EachRow}
 
 -- HISTORY: the list of each district's payments, oldest first
@@ -57,6 +57,32 @@ pub record Database : Type 0 where
   pub orders : map.FinMap order_cmp Order
   pub new_orders : map.FinMap order_cmp NewOrder
   pub lines : map.FinMap line_cmp OrderLine
+
+-- ---- writes of one row
+
+-- the tables with this row of the warehouse
+abbrev pub with_warehouse_row : Database → ℕ → Warehouse → Database
+with_warehouse_row t warehouse row = record t { warehouses = map.insert t.warehouses warehouse row }
+
+-- the tables with this row of the district
+abbrev pub with_district_row : Database → DistrictKey → District → Database
+with_district_row t key row = record t { districts = map.insert t.districts key row }
+
+-- the tables with this row of STOCK
+abbrev pub with_stock_row : Database → StockKey → Stock → Database
+with_stock_row t key row = record t { stocks = map.insert t.stocks key row }
+
+-- the tables with this row of the customer
+abbrev pub with_customer_row : Database → CustomerKey → Customer → Database
+with_customer_row t key row = record t { customers = map.insert t.customers key row }
+
+-- the tables with one more payment at the end of the district's list
+abbrev pub with_history_row : Database → DistrictKey → History → Database
+with_history_row t key row = record t { histories = with_payment t.histories key row }
+
+-- the tables without the last payment of the district's list
+abbrev pub without_history_row : Database → DistrictKey → Database
+without_history_row t key = record t { histories = without_payment t.histories key }
 
 -- ---- the rules of the scale
 
@@ -136,6 +162,14 @@ rows_where test table = filter (λ e. test e.0) (map.entries table)
 abbrev pub is_of_district : DistrictKey → OrderKey → Bool
 is_of_district home key = (key.w_id == home.w_id) && (key.d_id == home.d_id)
 
+-- whether the line is of an order of this district
+abbrev pub is_line_of_district : DistrictKey → OrderLineKey → Bool
+is_line_of_district home key = is_of_district home (order_of_line key)
+
 -- whether the line is of this order
 abbrev pub is_of_order : OrderKey → OrderLineKey → Bool
 is_of_order order key = (key.w_id == order.w_id) && ((key.d_id == order.d_id) && (key.o_id == order.o_id))
+
+-- the rows are those of the district's customers in the order of C_ID, from 1
+abbrev pub AreCustomersOf : Database → DistrictKey → List Customer → Type 0
+AreCustomersOf t home rows = (c : ℕ) → slice_get rows c ≡ map.get t.customers (customer_key home (c + 1))

@@ -1,5 +1,5 @@
 -- The tables after an order is added, taken back or delivered, and selections of orders.
-use Rattle.std.specs.Prelude.{◌≡◌, ℕ, zero, suc, ◌+◌, Bool, ◌&&◌, ◌==◌, nat_le, nat_lt, if◌then◌else◌, List, [], ◌∷◌, length, map, Option, Some, None}
+use Rattle.std.specs.Prelude.{◌≡◌, ℕ, zero, suc, ◌+◌, ◌<◌, Bool, ◌&&◌, ◌==◌, nat_le, nat_lt, if◌then◌else◌, List, [], ◌∷◌, length, map, Option, Some, None, IsTrue}
 use Rattle.std.specs.FinMap as table
 use Rattle.rows.specs.declared.keys.DistrictKey.{DistrictKey}
 use Rattle.rows.specs.declared.keys.OrderKey.{OrderKey}
@@ -7,12 +7,12 @@ use Rattle.rows.specs.declared.keys.OrderLineKey.{OrderLineKey}
 use Rattle.rows.specs.declared.records.Order.{Order}
 use Rattle.rows.specs.declared.records.NewOrder.{NewOrder}
 use Rattle.rows.specs.declared.records.OrderLine.{OrderLine}
-use Rattle.rows.specs.Keys.{line_cmp, order_of_line}
+use Rattle.rows.specs.Keys.{line_cmp}
 use Rattle.schema.specs.declared.scale.Scale.{Scale}
 use Rattle.schema.specs.declared.order_rows.Replaced.{Replaced}
 use Rattle.schema.specs.MapRows.{map_rows, put_row}
 use Rattle.schema.specs.Scale.{has_item, has_warehouse}
-use Rattle.schema.specs.Database.{Database, is_of_district, is_of_order}
+use Rattle.schema.specs.Database.{Database, is_line_of_district, is_of_order}
 use Rattle.schema.specs.Consistency.{least, numbers, new_orders_of}
 
 -- ---- adding an order (clause 2.4.2.2)
@@ -33,6 +33,14 @@ line_key order number = record { w_id = order.w_id; d_id = order.d_id; o_id = or
 abbrev pub put_lines : OrderKey → ℕ → List (Option OrderLine) → LineTable → LineTable
 put_lines order number [] lines = lines
 put_lines order number (row ∷ rows) lines = put_row (put_lines order (number + 1) rows lines) (line_key order number) row
+
+-- the table with these lines of the order, numbered from 1
+abbrev pub with_lines : OrderKey → List OrderLine → LineTable → LineTable
+with_lines order rows lines = put_lines order 1 (map Some rows) lines
+
+-- the table has the order's lines numbered from 1 to count
+abbrev pub HasLines : LineTable → OrderKey → ℕ → Type 0
+HasLines lines order count = (n : ℕ) → n < count → IsTrue (table.contains_key lines (line_key order (1 + n)))
 
 -- the rows stored at so many line keys of the order, from that number on
 abbrev pub lines_at : LineTable → OrderKey → ℕ → ℕ → List (Option OrderLine)
@@ -84,6 +92,10 @@ carried_by carrier row = record row { carrier_id = Some carrier }
 abbrev pub delivered_at : ℕ → OrderLine → OrderLine
 delivered_at moment row = record row { delivery_d = Some moment }
 
+-- the row of a line with this delivery moment, or with none
+abbrev pub with_delivery_d : Option ℕ → OrderLine → OrderLine
+with_delivery_d moment row = record row { delivery_d = moment }
+
 -- the row, with the carrier set if it is this order's
 abbrev pub with_carrier : OrderKey → ℕ → OrderKey → Order → Order
 with_carrier order carrier key row = if is_order order key then carried_by carrier row else row
@@ -113,4 +125,4 @@ oldest_new_order t home = smallest (numbers (new_orders_of t home))
 
 -- whether the line belongs to one of the district's orders with from <= O_ID < to
 abbrev pub is_in_span : DistrictKey → ℕ → ℕ → OrderLineKey → Bool
-is_in_span home from to key = is_of_district home (order_of_line key) && (nat_le from key.o_id && nat_lt key.o_id to)
+is_in_span home from to key = is_line_of_district home key && (nat_le from key.o_id && nat_lt key.o_id to)

@@ -10,7 +10,7 @@ use Rattle.rows.specs.declared.keys.OrderKey.{OrderKey}
 use Rattle.rows.specs.declared.keys.OrderLineKey.{OrderLineKey}
 use Rattle.rows.specs.declared.records.OrderLine.{OrderLine}
 use Rattle.rows.specs.Keys.{order_cmp}
-use Rattle.schema.specs.OrderRows.{line_key}
+use Rattle.schema.specs.OrderRows.{LineTable, line_key, line_table}
 
 -- the lines of an order as a table, keyed by number
 abbrev pub numbered : List (ℕ × OrderLine) → table.FinMap nat_cmp OrderLine
@@ -30,6 +30,14 @@ with_keys order (line ∷ lines) = (line_key order line.0, line.1) ∷ with_keys
 abbrev pub all_lines : List (OrderKey × List (ℕ × OrderLine)) → List (OrderLineKey × OrderLine)
 all_lines [] = []
 all_lines (order ∷ orders) = with_keys order.0 order.1 ++ all_lines orders
+
+-- the table that consists of the lines of an order
+abbrev pub order_lines_table : OrderKey → List (ℕ × OrderLine) → LineTable
+order_lines_table order lines = line_table (with_keys order lines)
+
+-- the table that consists of the lines of all orders
+abbrev pub all_lines_table : BTreeMap OrderKey (List (ℕ × OrderLine)) → LineTable
+all_lines_table orders = line_table (all_lines orders.entries)
 
 -- the lines of each order are in ascending order of number
 abbrev pub AreNumbered : List (OrderKey × List (ℕ × OrderLine)) → Type 0

@@ -1,14 +1,14 @@
 //! The rows of ORDER-LINE of one order, packed in a vector.
-ghost use Rattle.std.specs.Prelude.{◌≡◌, ℕ, ◌+◌, ◌≤◌, [], length, map, is_some, nat_eq, if◌then◌else◌, IsTrue, IfOk, IfErr, OnOk, OnErr};
+ghost use Rattle.std.specs.Prelude.{◌≡◌, ◌+◌, ◌≤◌, [], length, map, nat_eq, IsTrue, IfOk, IfErr, OnOk, OnErr};
 ghost use Rattle.std.specs.FinMap as table;
 ghost use Rattle.std.specs.List.Sorted.{IsStrictlySortedBy};
 ghost use Rattle.std.specs.Map.{keys_of};
-ghost use Rattle.std.specs.Option.{option_copied, option_map};
+ghost use Rattle.std.specs.Option.{option_copied};
 ghost use Rattle.std.specs.Ordering.{nat_cmp};
 ghost use Rattle.rows.specs.declared.limits.TheConstants.{MOST_LINES};
-ghost use Rattle.schema.specs.MapRows.{put_row};
+ghost use Rattle.schema.specs.MapRows.{put_row, row_count, ChangesRow};
 ghost use Rattle.schema.specs.NumberedRows.{StandsAt, BelongsAt};
-ghost use Rattle.schema.specs.OrderRows.{delivered_at};
+ghost use Rattle.schema.specs.OrderRows.{delivered_at, with_delivery_d};
 ghost use Rattle.schema.specs.PackedLines.{numbered, numbered_from};
 
 use crate::NoMemory;
@@ -90,7 +90,7 @@ impl Numbered {
     pub(crate) fn put(&mut self, number: u32, row: OrderLine) -> Result<Option<OrderLine>, NoMemory>
         ensures was { IfOk result (λ was. was ≡ table.get (numbered self.old) number) }
         ensures ok { OnOk result (numbered self.new ≡ table.insert (numbered self.old) number row) }
-        ensures many { IfOk result (λ was. length self.new + (if is_some was then 1 else 0) ≡ length self.old + 1) }
+        ensures many { IfOk result (λ was. length self.new + row_count was ≡ length self.old + 1) }
         ensures err { OnErr result (self.new ≡ self.old) }
         ensures ordered { IsStrictlySortedBy nat_cmp (keys_of self.new) }
     {
@@ -102,7 +102,7 @@ impl Numbered {
     pub(crate) fn put_back(&mut self, number: u32, was: Option<OrderLine>)
         requires { IsTrue (table.contains_key (numbered self.old) number) }
         ensures rows { numbered self.new ≡ put_row (numbered self.old) number was }
-        ensures many { length self.new + 1 ≡ length self.old + (if is_some was then 1 else 0) }
+        ensures many { length self.new + 1 ≡ length self.old + row_count was }
         ensures ordered { IsStrictlySortedBy nat_cmp (keys_of self.new) }
     {
         put_back(&mut self.rows, number, was);
@@ -111,7 +111,8 @@ impl Numbered {
     /// Sets the delivery moment of the line, if there is one, to `moment`, which may be `None`. Does
     /// not allocate.
     pub(crate) fn set_delivery(&mut self, number: u32, moment: Option<Moment>)
-        ensures rows { (n : ℕ) → table.get (numbered self.new) n ≡ option_map (λ row. if nat_eq n number then record row { delivery_d = moment } else row) (table.get (numbered self.old) n) }
+        ensures rows { ChangesRow nat_eq number (with_delivery_d moment)
+            (numbered self.old) (numbered self.new) }
         ensures many { length self.new ≡ length self.old }
         ensures ordered { IsStrictlySortedBy nat_cmp (keys_of self.new) }
     {
@@ -165,8 +166,10 @@ fn put(
 ) -> Result<Option<OrderLine>, NoMemory>
     requires { IsStrictlySortedBy nat_cmp (keys_of rows.old.items) }
     ensures was { IfOk result (λ was. was ≡ table.get (numbered rows.old.items) number) }
-    ensures ok { OnOk result (numbered rows.new.items ≡ table.insert (numbered rows.old.items) number row) }
-    ensures many { IfOk result (λ was. length rows.new.items + (if is_some was then 1 else 0) ≡ length rows.old.items + 1) }
+    ensures ok { OnOk result
+        (numbered rows.new.items ≡ table.insert (numbered rows.old.items) number row) }
+    ensures many { IfOk result
+        (λ was. length rows.new.items + row_count was ≡ length rows.old.items + 1) }
     ensures err { OnErr result (rows.new.items ≡ rows.old.items) }
     ensures ordered { IsStrictlySortedBy nat_cmp (keys_of rows.new.items) }
 {
@@ -187,7 +190,7 @@ fn put_back(rows: &mut Vec<(u32, OrderLine)>, number: u32, was: Option<OrderLine
     requires ordered { IsStrictlySortedBy nat_cmp (keys_of rows.old.items) }
     requires there { IsTrue (table.contains_key (numbered rows.old.items) number) }
     ensures rows { numbered rows.new.items ≡ put_row (numbered rows.old.items) number was }
-    ensures many { length rows.new.items + 1 ≡ length rows.old.items + (if is_some was then 1 else 0) }
+    ensures many { length rows.new.items + 1 ≡ length rows.old.items + row_count was }
     ensures ordered { IsStrictlySortedBy nat_cmp (keys_of rows.new.items) }
 {
     // The precondition `there` excludes the other case.
@@ -204,7 +207,8 @@ fn put_back(rows: &mut Vec<(u32, OrderLine)>, number: u32, was: Option<OrderLine
 // Sets the delivery moment of the line, if there is one, to `moment`, which may be `None`.
 fn set_delivery(rows: &mut Vec<(u32, OrderLine)>, number: u32, moment: Option<Moment>)
     requires { IsStrictlySortedBy nat_cmp (keys_of rows.old.items) }
-    ensures rows { (n : ℕ) → table.get (numbered rows.new.items) n ≡ option_map (λ row. if nat_eq n number then record row { delivery_d = moment } else row) (table.get (numbered rows.old.items) n) }
+    ensures rows { ChangesRow nat_eq number (with_delivery_d moment)
+        (numbered rows.old.items) (numbered rows.new.items) }
     ensures many { length rows.new.items ≡ length rows.old.items }
     ensures ordered { IsStrictlySortedBy nat_cmp (keys_of rows.new.items) }
 {

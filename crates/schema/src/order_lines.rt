@@ -1,22 +1,22 @@
 //! The rows of ORDER-LINE, of all warehouses or of one. Only this module depends on how they are
 //! stored.
-ghost use Rattle.std.specs.Prelude.{◌≡◌, ◌+◌, ◌<◌, ◌≤◌, ◌^◌, ℕ, Some, None, [], ◌++◌, ◌&&◌, map, replicate, length, nat_le, nat_lt, IsTrue, is_some, IfOk, OnOk, OnErr, if◌then◌else◌};
+ghost use Rattle.std.specs.Prelude.{◌≡◌, ◌+◌, ◌<◌, ◌≤◌, ◌^◌, Some, None, [], ◌++◌, replicate, length, nat_le, nat_lt, IsTrue, is_some, IfOk, OnOk, OnErr, if◌then◌else◌};
 ghost use Rattle.std.specs.BTreeMap.{IsOrdered, get, insert_entry};
 ghost use Rattle.std.specs.FinMap as table;
 ghost use Rattle.std.specs.List.{filter, list_all};
 ghost use Rattle.std.specs.List.Sorted.{IsStrictlySortedBy};
 ghost use Rattle.std.specs.Map.{keys_of};
-ghost use Rattle.std.specs.Option.{option_copied, option_map, option_or};
-ghost use Rattle.std.specs.Ordering.{nat_cmp, eq_by_cmp};
+ghost use Rattle.std.specs.Option.{option_copied};
+ghost use Rattle.std.specs.Ordering.{eq_by_cmp};
 ghost use Rattle.std.specs.declared.cmp.Ordering.{Ordering};
 ghost use Rattle.std.specs.Vec.{vec_len, vec_capacity};
 ghost use Rattle.rows.specs.Keys.{order_cmp, line_cmp, order_of_line};
 ghost use Rattle.rows.specs.declared.limits.TheConstants.{MOST_LINES};
 ghost use Rattle.schema.specs.EachRow.{EachRow};
-ghost use Rattle.schema.specs.MapRows.{map_rows, put_row};
-ghost use Rattle.schema.specs.PackedLines.{all_lines, with_keys, AreNumbered, AreKept, IsLast, HasNone};
-ghost use Rattle.schema.specs.Database.{is_order_id, rows_where, is_of_district, is_of_order};
-ghost use Rattle.schema.specs.OrderRows.{line_table, line_key, put_lines, lines_at, with_moment, is_in_span};
+ghost use Rattle.schema.specs.MapRows.{map_rows, put_row, ChangesRow, MergesRows};
+ghost use Rattle.schema.specs.PackedLines.{all_lines, AreNumbered, AreKept, IsLast, HasNone, all_lines_table, order_lines_table};
+ghost use Rattle.schema.specs.Database.{is_order_id, rows_where, is_of_order, is_line_of_district};
+ghost use Rattle.schema.specs.OrderRows.{line_table, line_key, put_lines, lines_at, with_moment, is_in_span, HasLines, with_delivery_d, with_lines};
 
 use crate::numbered::Numbered;
 use crate::{Beside, Entries, NoMemory};
@@ -174,7 +174,8 @@ impl OrderLines {
     #[inline]
     fn put(&mut self, key: OrderLineKey, row: OrderLine) -> Result<Option<OrderLine>, NoMemory>
         ensures was { IfOk result (λ was. was ≡ table.get (line_table self.old) key) }
-        ensures ok { OnOk result (line_table self.new ≡ table.insert (line_table self.old) key row) }
+        ensures ok { OnOk result
+            (line_table self.new ≡ table.insert (line_table self.old) key row) }
         ensures err { OnErr result (self.new ≡ self.old) }
     {
         if self.count >= MOST {
@@ -232,7 +233,7 @@ impl OrderLines {
     /// The lines of the district's orders, in the order of O_ID and then OL_NUMBER.
     pub fn of_district(&self, home: DistrictKey) -> Lines<'_>
         requires { EachRow (λ key _. is_order_id key.o_id) (line_table self.now) }
-        ensures rows { result ≡ rows_where (λ key. is_of_district home (order_of_line key)) (line_table self.now) }
+        ensures rows { result ≡ rows_where (is_line_of_district home) (line_table self.now) }
         ensures fits { length result < 2 ^ 63 }
     {
         Lines::of(
@@ -255,7 +256,8 @@ impl OrderLines {
 
     // Whether every line belongs to one of these orders.
     pub(crate) fn have_orders(&self, orders: &BTreeMap<OrderKey, Order>) -> bool
-        ensures each { result ≡ list_all (λ e. is_some (get order_cmp orders.now (order_of_line e.0))) self.now }
+        ensures each { result
+            ≡ list_all (λ e. is_some (get order_cmp orders.now (order_of_line e.0))) self.now }
         ensures ordered { IsStrictlySortedBy line_cmp (keys_of self.now) }
     {
         let mut beside = Beside::new(Entries::of_map(orders.range(..)));
@@ -271,8 +273,8 @@ impl OrderLines {
     /// Sets the delivery moment of the line, if there is one, to `moment`, which may be `None`. Does
     /// not allocate.
     pub fn set_delivery(&mut self, key: OrderLineKey, moment: Option<Moment>)
-        ensures { (q : OrderLineKey) → table.get (line_table self.new) q
-            ≡ option_map (λ row. if eq_by_cmp line_cmp q key then record row { delivery_d = moment } else row) (table.get (line_table self.old) q) }
+        ensures { ChangesRow (eq_by_cmp line_cmp) key (with_delivery_d moment)
+            (line_table self.old) (line_table self.new) }
     {
         set_delivery(&mut self.orders, key, moment);
     }
@@ -281,8 +283,8 @@ impl OrderLines {
     /// line here. Returns `NoMemory` if an allocation fails or there would be more than 2^63 - 1 lines;
     /// some lines of `others` are missing then.
     pub fn append(&mut self, others: OrderLines) -> Result<(), NoMemory>
-        ensures { OnOk result ((key : OrderLineKey) → table.get (line_table self.new) key
-            ≡ option_or (table.get (line_table others) key) (table.get (line_table self.old) key)) }
+        ensures { OnOk result (MergesRows (line_table self.old)
+            (line_table others) (line_table self.new)) }
     {
         let mut orders = others.orders;
         while let Some((order, lines)) = orders.pop_first() {
@@ -293,8 +295,8 @@ impl OrderLines {
 
     // Moves the lines of an order here. After an error, some of them are missing.
     fn take(&mut self, order: OrderKey, lines: Numbered) -> Result<(), NoMemory>
-        ensures { OnOk result ((key : OrderLineKey) → table.get (line_table self.new) key
-            ≡ option_or (table.get (line_table (with_keys order lines)) key) (table.get (line_table self.old) key)) }
+        ensures { OnOk result (MergesRows (line_table self.old)
+            (order_lines_table order lines) (line_table self.new)) }
     {
         if self.orders.contains_key(&order) {
             return self.put_all(order, lines.into_rows());
@@ -304,8 +306,8 @@ impl OrderLines {
 
     // Stores lines of an order, one by one. After an error, some of them are missing.
     fn put_all(&mut self, order: OrderKey, rows: Vec<(u32, OrderLine)>) -> Result<(), NoMemory>
-        ensures { OnOk result ((key : OrderLineKey) → table.get (line_table self.new) key
-            ≡ option_or (table.get (line_table (with_keys order rows.items)) key) (table.get (line_table self.old) key)) }
+        ensures { OnOk result (MergesRows (line_table self.old)
+            (order_lines_table order rows.items) (line_table self.new)) }
     {
         let mut rest = rows;
         while let Some((number, row)) = rest.pop() {
@@ -317,7 +319,8 @@ impl OrderLines {
     /// Removes the lines of the warehouses from `warehouse` on and returns them. Returns `NoMemory` if
     /// an allocation fails; some lines may be lost then.
     pub fn split_off(&mut self, warehouse: u32) -> Result<OrderLines, NoMemory>
-        ensures from { IfOk result (λ later. later ≡ filter (λ e. nat_le warehouse e.0.w_id) self.old) }
+        ensures from { IfOk result
+            (λ later. later ≡ filter (λ e. nat_le warehouse e.0.w_id) self.old) }
         ensures below { OnOk result (self.new ≡ filter (λ e. nat_lt e.0.w_id warehouse) self.old) }
     {
         let first = OrderKey {
@@ -344,8 +347,10 @@ impl OrderLines {
         rows: Vec<OrderLine>,
     ) -> Result<Vec<Option<OrderLine>>, NoMemory>
         requires few { length rows.items ≤ MOST_LINES }
-        ensures lines { OnOk result (line_table self.new ≡ put_lines order 1 (map Some rows.items) (line_table self.old)) }
-        ensures were { IfOk result (λ were. were.items ≡ lines_at (line_table self.old) order 1 (length rows.items)) }
+        ensures lines { OnOk result
+            (line_table self.new ≡ with_lines order rows.items (line_table self.old)) }
+        ensures were { IfOk result
+            (λ were. were.items ≡ lines_at (line_table self.old) order 1 (length rows.items)) }
         ensures err { OnErr result (line_table self.new ≡ line_table self.old) }
     {
         if self.orders.contains_key(&order) {
@@ -369,8 +374,10 @@ impl OrderLines {
     ) -> Result<(), NoMemory>
         requires few { length rows.old.items ≤ MOST_LINES }
         requires room { vec_len were.old + length rows.old.items ≤ vec_capacity were.old }
-        ensures lines { OnOk result (line_table self.new ≡ put_lines order 1 (map Some rows.old.items) (line_table self.old)) }
-        ensures were { OnOk result (were.new.items ≡ were.old.items ++ lines_at (line_table self.old) order 1 (length rows.old.items)) }
+        ensures lines { OnOk result
+            (line_table self.new ≡ with_lines order rows.old.items (line_table self.old)) }
+        ensures were { OnOk result (were.new.items ≡ were.old.items
+            ++ lines_at (line_table self.old) order 1 (length rows.old.items)) }
         ensures room { vec_capacity were.old ≤ vec_capacity were.new }
         ensures err { OnErr result (line_table self.new ≡ line_table self.old) }
     {
@@ -396,7 +403,7 @@ impl OrderLines {
     // allocate.
     pub(crate) fn take_back(&mut self, order: OrderKey, were: Vec<Option<OrderLine>>)
         requires few { length were.items ≤ MOST_LINES }
-        requires there { (n : ℕ) → n < length were.items → IsTrue (table.contains_key (line_table self.old) (line_key order (1 + n))) }
+        requires there { HasLines (line_table self.old) order (length were.items) }
         ensures { line_table self.new ≡ put_lines order 1 were.items (line_table self.old) }
     {
         let mut rest = were;
@@ -424,8 +431,9 @@ fn put(
 ) -> Result<Option<OrderLine>, NoMemory>
     requires ordered { IsOrdered order_cmp orders.old }
     requires numbered { AreNumbered orders.old.entries }
-    ensures was { IfOk result (λ was. was ≡ table.get (line_table (all_lines orders.old.entries)) key) }
-    ensures ok { OnOk result (line_table (all_lines orders.new.entries) ≡ table.insert (line_table (all_lines orders.old.entries)) key row) }
+    ensures was { IfOk result (λ was. was ≡ table.get (all_lines_table orders.old) key) }
+    ensures ok { OnOk result
+        (all_lines_table orders.new ≡ table.insert (all_lines_table orders.old) key row) }
     ensures err { OnErr result (orders.new.entries ≡ orders.old.entries) }
     ensures numbered { AreNumbered orders.new.entries }
     ensures ordered { IsOrdered order_cmp orders.new }
@@ -463,8 +471,9 @@ fn put_in_last(
 ) -> Result<Option<OrderLine>, NoMemory>
     requires last { IsLast (order_of_line key) orders.old }
     requires numbered { AreNumbered orders.old.entries }
-    ensures was { IfOk result (λ was. was ≡ table.get (line_table (all_lines orders.old.entries)) key) }
-    ensures ok { OnOk result (line_table (all_lines orders.new.entries) ≡ table.insert (line_table (all_lines orders.old.entries)) key row) }
+    ensures was { IfOk result (λ was. was ≡ table.get (all_lines_table orders.old) key) }
+    ensures ok { OnOk result
+        (all_lines_table orders.new ≡ table.insert (all_lines_table orders.old) key row) }
     ensures err { OnErr result (orders.new.entries ≡ orders.old.entries) }
     ensures numbered { AreNumbered orders.new.entries }
     ensures ordered { IsOrdered order_cmp orders.new }
@@ -486,8 +495,9 @@ fn put_first(
     requires none { HasNone (order_of_line key) orders.old }
     requires ordered { IsOrdered order_cmp orders.old }
     requires numbered { AreNumbered orders.old.entries }
-    ensures was { IfOk result (λ was. was ≡ table.get (line_table (all_lines orders.old.entries)) key) }
-    ensures ok { OnOk result (line_table (all_lines orders.new.entries) ≡ table.insert (line_table (all_lines orders.old.entries)) key row) }
+    ensures was { IfOk result (λ was. was ≡ table.get (all_lines_table orders.old) key) }
+    ensures ok { OnOk result
+        (all_lines_table orders.new ≡ table.insert (all_lines_table orders.old) key row) }
     ensures err { OnErr result (orders.new.entries ≡ orders.old.entries) }
     ensures numbered { AreNumbered orders.new.entries }
     ensures ordered { IsOrdered order_cmp orders.new }
@@ -520,8 +530,8 @@ fn put_order(
 ) -> Result<(), NoMemory>
     requires none { HasNone order orders.old }
     requires kept { AreKept orders.old.entries count.old }
-    ensures lines { OnOk result ((key : OrderLineKey) → table.get (line_table (all_lines orders.new.entries)) key
-        ≡ option_or (table.get (line_table (with_keys order lines)) key) (table.get (line_table (all_lines orders.old.entries)) key)) }
+    ensures lines { OnOk result (MergesRows (all_lines_table orders.old)
+        (order_lines_table order lines) (all_lines_table orders.new)) }
     ensures err { OnErr result (all_lines orders.new.entries ≡ all_lines orders.old.entries) }
     ensures kept { AreKept orders.new.entries count.new }
 {
@@ -537,9 +547,9 @@ fn put_order(
 // Restores `was` at the key, in place of the line stored there. If `was` is `None`, the line is
 // removed. Does not allocate.
 fn put_back(orders: &mut BTreeMap<OrderKey, Numbered>, key: OrderLineKey, was: Option<OrderLine>)
-    requires there { IsTrue (table.contains_key (line_table (all_lines orders.old.entries)) key) }
+    requires there { IsTrue (table.contains_key (all_lines_table orders.old) key) }
     requires numbered { AreNumbered orders.old.entries }
-    ensures rows { line_table (all_lines orders.new.entries) ≡ put_row (line_table (all_lines orders.old.entries)) key was }
+    ensures rows { all_lines_table orders.new ≡ put_row (all_lines_table orders.old) key was }
     ensures numbered { AreNumbered orders.new.entries }
     ensures ordered { IsOrdered order_cmp orders.new }
 {
@@ -555,8 +565,8 @@ fn set_delivery(
     moment: Option<Moment>,
 )
     requires { AreNumbered orders.old.entries }
-    ensures rows { (q : OrderLineKey) → table.get (line_table (all_lines orders.new.entries)) q
-        ≡ option_map (λ row. if eq_by_cmp line_cmp q key then record row { delivery_d = moment } else row) (table.get (line_table (all_lines orders.old.entries)) q) }
+    ensures rows { ChangesRow (eq_by_cmp line_cmp) key (with_delivery_d moment)
+        (all_lines_table orders.old) (all_lines_table orders.new) }
     ensures many { length (all_lines orders.new.entries) ≡ length (all_lines orders.old.entries) }
     ensures numbered { AreNumbered orders.new.entries }
     ensures ordered { IsOrdered order_cmp orders.new }
@@ -569,7 +579,8 @@ fn set_delivery(
 // Sets the delivery moment of the order's lines.
 fn deliver(orders: &mut BTreeMap<OrderKey, Numbered>, order: OrderKey, moment: Moment)
     requires { AreNumbered orders.old.entries }
-    ensures rows { line_table (all_lines orders.new.entries) ≡ map_rows (with_moment order moment) (line_table (all_lines orders.old.entries)) }
+    ensures rows { all_lines_table orders.new
+        ≡ map_rows (with_moment order moment) (all_lines_table orders.old) }
     ensures many { length (all_lines orders.new.entries) ≡ length (all_lines orders.old.entries) }
     ensures numbered { AreNumbered orders.new.entries }
     ensures ordered { IsOrdered order_cmp orders.new }

@@ -1,15 +1,14 @@
 //! Functions that change orders. They work on the rows of three tables, of all warehouses or of one.
-ghost use Rattle.std.specs.Prelude.{◌≡◌, ◌+◌, ◌<◌, ◌≤◌, ℕ, Some, map, length, IsTrue, IfOk, OnOk, OnErr, if◌then◌else◌};
-ghost use Rattle.std.specs.Option.{option_map};
+ghost use Rattle.std.specs.Prelude.{◌≡◌, ◌≤◌, length, IsTrue, IfOk, OnOk, OnErr};
 ghost use Rattle.std.specs.Ordering.{eq_by_cmp};
 ghost use Rattle.std.specs.FinMap as table;
 ghost use Rattle.rows.specs.Keys.{order_cmp};
 ghost use Rattle.rows.specs.declared.limits.TheConstants.{MOST_LINES};
 ghost use Rattle.schema.specs.EachRow.{EachRow};
-ghost use Rattle.schema.specs.MapRows.{table_of, map_rows, put_row};
+ghost use Rattle.schema.specs.MapRows.{map_rows, put_row, ChangesRow, order_table};
 ghost use Rattle.schema.specs.Database.{is_order_id, is_line_number, rows_where, is_of_district};
 ghost use Rattle.schema.specs.Consistency.{numbers};
-ghost use Rattle.schema.specs.OrderRows.{TakenBackOrderIsAsBefore, line_key, line_table, put_lines, lines_at, carried_by, with_carrier, with_moment, smallest};
+ghost use Rattle.schema.specs.OrderRows.{TakenBackOrderIsAsBefore, line_table, put_lines, lines_at, carried_by, with_carrier, with_moment, smallest, HasLines, with_lines};
 
 use crate::NoMemory;
 use crate::order_lines::OrderLines;
@@ -38,14 +37,20 @@ pub fn add_order_rows(
     rows: Vec<OrderLine>,
 ) -> Result<Replaced, NoMemory>
     requires { length rows.items ≤ MOST_LINES }
-    ensures order { OnOk result (table_of order_cmp orders.new ≡ table.insert (table_of order_cmp orders.old) key order) }
-    ensures new_order { OnOk result (table_of order_cmp new_orders.new ≡ table.insert (table_of order_cmp new_orders.old) key (record {})) }
-    ensures lines { OnOk result (line_table lines.new ≡ put_lines key 1 (map Some rows.items) (line_table lines.old)) }
-    ensures was_order { IfOk result (λ replaced. replaced.order ≡ table.get (table_of order_cmp orders.old) key) }
-    ensures was_new { IfOk result (λ replaced. replaced.new_order ≡ table.get (table_of order_cmp new_orders.old) key) }
-    ensures were_lines { IfOk result (λ replaced. replaced.lines.items ≡ lines_at (line_table lines.old) key 1 (length rows.items)) }
-    ensures err_order { OnErr result (table_of order_cmp orders.new ≡ table_of order_cmp orders.old) }
-    ensures err_new { OnErr result (table_of order_cmp new_orders.new ≡ table_of order_cmp new_orders.old) }
+    ensures order { OnOk result
+        (order_table orders.new ≡ table.insert (order_table orders.old) key order) }
+    ensures new_order { OnOk result
+        (order_table new_orders.new ≡ table.insert (order_table new_orders.old) key (record {})) }
+    ensures lines { OnOk result
+        (line_table lines.new ≡ with_lines key rows.items (line_table lines.old)) }
+    ensures was_order { IfOk result
+        (λ replaced. replaced.order ≡ table.get (order_table orders.old) key) }
+    ensures was_new { IfOk result
+        (λ replaced. replaced.new_order ≡ table.get (order_table new_orders.old) key) }
+    ensures were_lines { IfOk result (λ replaced. replaced.lines.items
+        ≡ lines_at (line_table lines.old) key 1 (length rows.items)) }
+    ensures err_order { OnErr result (order_table orders.new ≡ order_table orders.old) }
+    ensures err_new { OnErr result (order_table new_orders.new ≡ order_table new_orders.old) }
     ensures err_lines { OnErr result (line_table lines.new ≡ line_table lines.old) }
 {
     let was_order = put(orders, key, order)?;
@@ -80,12 +85,14 @@ pub fn take_back_order_rows(
     replaced: Replaced,
 )
     requires few { length replaced.lines.items ≤ MOST_LINES }
-    requires order { IsTrue (table.contains_key (table_of order_cmp orders.old) key) }
-    requires new_order { IsTrue (table.contains_key (table_of order_cmp new_orders.old) key) }
-    requires lines { (n : ℕ) → n < length replaced.lines.items → IsTrue (table.contains_key (line_table lines.old) (line_key key (1 + n))) }
-    ensures order { table_of order_cmp orders.new ≡ put_row (table_of order_cmp orders.old) key replaced.order }
-    ensures new_order { table_of order_cmp new_orders.new ≡ put_row (table_of order_cmp new_orders.old) key replaced.new_order }
-    ensures lines { line_table lines.new ≡ put_lines key 1 replaced.lines.items (line_table lines.old) }
+    requires order { IsTrue (table.contains_key (order_table orders.old) key) }
+    requires new_order { IsTrue (table.contains_key (order_table new_orders.old) key) }
+    requires lines { HasLines (line_table lines.old) key (length replaced.lines.items) }
+    ensures order { order_table orders.new ≡ put_row (order_table orders.old) key replaced.order }
+    ensures new_order { order_table new_orders.new
+        ≡ put_row (order_table new_orders.old) key replaced.new_order }
+    ensures lines { line_table lines.new
+        ≡ put_lines key 1 replaced.lines.items (line_table lines.old) }
 {
     put_back(new_orders, key, replaced.new_order);
     take_back_order_and_lines(orders, lines, key, replaced);
@@ -99,10 +106,11 @@ pub fn take_back_order_and_lines(
     replaced: Replaced,
 )
     requires few { length replaced.lines.items ≤ MOST_LINES }
-    requires order { IsTrue (table.contains_key (table_of order_cmp orders.old) key) }
-    requires lines { (n : ℕ) → n < length replaced.lines.items → IsTrue (table.contains_key (line_table lines.old) (line_key key (1 + n))) }
-    ensures order { table_of order_cmp orders.new ≡ put_row (table_of order_cmp orders.old) key replaced.order }
-    ensures lines { line_table lines.new ≡ put_lines key 1 replaced.lines.items (line_table lines.old) }
+    requires order { IsTrue (table.contains_key (order_table orders.old) key) }
+    requires lines { HasLines (line_table lines.old) key (length replaced.lines.items) }
+    ensures order { order_table orders.new ≡ put_row (order_table orders.old) key replaced.order }
+    ensures lines { line_table lines.new
+        ≡ put_lines key 1 replaced.lines.items (line_table lines.old) }
 {
     put_back(orders, key, replaced.order);
     lines.take_back(key, replaced.lines);
@@ -125,9 +133,11 @@ pub fn deliver_order_rows(
     moment: Moment,
 )
     requires { EachRow (λ key _. is_line_number key.number) (line_table lines.old) }
-    ensures order { table_of order_cmp orders.new ≡ map_rows (with_carrier key carrier) (table_of order_cmp orders.old) }
-    ensures new_order { table_of order_cmp new_orders.new ≡ table.remove (table_of order_cmp new_orders.old) key }
-    ensures lines { line_table lines.new ≡ map_rows (with_moment key moment) (line_table lines.old) }
+    ensures order { order_table orders.new
+        ≡ map_rows (with_carrier key carrier) (order_table orders.old) }
+    ensures new_order { order_table new_orders.new ≡ table.remove (order_table new_orders.old) key }
+    ensures lines { line_table lines.new
+        ≡ map_rows (with_moment key moment) (line_table lines.old) }
 {
     remove(new_orders, key);
     set_carrier(orders, key, carrier);
@@ -137,8 +147,9 @@ pub fn deliver_order_rows(
 /// The number of the district's oldest new order, or `None` if it has none. It is the first of the
 /// district in key order.
 pub fn oldest_number(new_orders: &BTreeMap<OrderKey, NewOrder>, home: DistrictKey) -> Option<u32>
-    requires { EachRow (λ key _. is_order_id key.o_id) (table_of order_cmp new_orders.now) }
-    ensures { result ≡ smallest (numbers (rows_where (is_of_district home) (table_of order_cmp new_orders.now))) }
+    requires { EachRow (λ key _. is_order_id key.o_id) (order_table new_orders.now) }
+    ensures { result
+        ≡ smallest (numbers (rows_where (is_of_district home) (order_table new_orders.now))) }
 {
     let first = OrderKey {
         w_id: home.w_id,
@@ -156,8 +167,8 @@ pub fn oldest_number(new_orders: &BTreeMap<OrderKey, NewOrder>, home: DistrictKe
 
 // Sets the carrier of the order, if there is one.
 fn set_carrier(orders: &mut BTreeMap<OrderKey, Order>, key: OrderKey, carrier: CarrierId)
-    ensures { (q : OrderKey) → table.get (table_of order_cmp orders.new) q
-        ≡ option_map (λ row. if eq_by_cmp order_cmp q key then carried_by carrier row else row) (table.get (table_of order_cmp orders.old) q) }
+    ensures { ChangesRow (eq_by_cmp order_cmp) key (carried_by carrier)
+        (order_table orders.old) (order_table orders.new) }
 {
     if let Some(row) = orders.get_mut(&key) {
         row.carrier_id = Some(carrier);

@@ -1,9 +1,9 @@
-ghost use Rattle.std.specs.Prelude.{◌≡◌, ◌↔◌, IsTrue, is_some};
+ghost use Rattle.std.specs.Prelude.{◌≡◌, is_some};
 ghost use Rattle.std.specs.List.{list_all};
 ghost use Rattle.std.specs.BTreeMap.{IsOrdered, get};
 ghost use Rattle.std.specs.List.Sorted.{IsStrictlySortedBy};
 ghost use Rattle.std.specs.Map.{keys_of};
-ghost use Rattle.rows.specs.Keys.{order_cmp, line_cmp, order_of_line};
+ghost use Rattle.rows.specs.Keys.{order_cmp, line_cmp};
 ghost use Rattle.schema.specs.Scale.{has_item, has_warehouse, has_customer};
 ghost use Rattle.schema.specs.Database.{customer_of_order, is_order_id, is_line_number, are_payers_known};
 
@@ -30,7 +30,8 @@ pub fn are_orders_numbered(orders: &BTreeMap<OrderKey, Order>) -> bool
 
 /// Whether every order refers to a customer of the scale.
 pub fn have_orders_customers(orders: &BTreeMap<OrderKey, Order>, scale: Scale) -> bool
-    ensures each { result ≡ list_all (λ e. has_customer scale (customer_of_order e.0 e.1)) orders.now.entries }
+    ensures each { result
+        ≡ list_all (λ e. has_customer scale (customer_of_order e.0 e.1)) orders.now.entries }
     ensures ordered { IsOrdered order_cmp orders.now }
 {
     orders.iter().all(|(key, row)| {
@@ -47,7 +48,8 @@ pub fn have_new_orders_orders(
     new_orders: &BTreeMap<OrderKey, NewOrder>,
     orders: &BTreeMap<OrderKey, Order>,
 ) -> bool
-    ensures each { result ≡ list_all (λ e. is_some (get order_cmp orders.now e.0)) new_orders.now.entries }
+    ensures each { result
+        ≡ list_all (λ e. is_some (get order_cmp orders.now e.0)) new_orders.now.entries }
     ensures ordered { IsOrdered order_cmp new_orders.now }
 {
     new_orders.iter().all(|(key, _)| orders.contains_key(key))
@@ -68,7 +70,8 @@ pub struct LineRules {
 pub fn line_rules(lines: &OrderLines, scale: Scale) -> LineRules
     ensures numbered { result.are_numbered ≡ list_all (λ e. is_line_number e.0.number) lines.now }
     ensures items { result.have_items ≡ list_all (λ e. has_item scale e.1.i_id) lines.now }
-    ensures suppliers { result.have_suppliers ≡ list_all (λ e. has_warehouse scale e.1.supply_w_id) lines.now }
+    ensures suppliers { result.have_suppliers
+        ≡ list_all (λ e. has_warehouse scale e.1.supply_w_id) lines.now }
     ensures ordered { IsStrictlySortedBy line_cmp (keys_of lines.now) }
 {
     let mut are_numbered = true;

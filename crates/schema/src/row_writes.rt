@@ -16,7 +16,8 @@ pub fn put<K: Ord + Drop, X: Drop>(
 ) -> Result<Option<X>, NoMemory>
     requires { IsAntisymmetric K.cmp }
     ensures was { IfOk result (λ was. was ≡ table.get (table_of K.cmp rows.old) key) }
-    ensures ok { OnOk result (table_of K.cmp rows.new ≡ table.insert (table_of K.cmp rows.old) key row) }
+    ensures ok { OnOk result
+        (table_of K.cmp rows.new ≡ table.insert (table_of K.cmp rows.old) key row) }
     ensures err { OnErr result (table_of K.cmp rows.new ≡ table_of K.cmp rows.old) }
 {
     match rows.insert(key, row) {

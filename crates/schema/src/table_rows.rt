@@ -68,7 +68,8 @@ impl TableRows {
 
     /// A rule of the scale that the rows break, or `None` if they form tables within the scale.
     pub fn fault(&self, scale: Scale) -> Option<ScaleFault>
-        ensures { MatchOption result (FitsScale scale self.now) (λ fault. Breaks fault scale self.now) }
+        ensures { MatchOption result (FitsScale scale self.now)
+            (λ fault. Breaks fault scale self.now) }
     {
         match self.count_fault(scale) {
             Some(fault) => Some(fault),
@@ -78,7 +79,8 @@ impl TableRows {
 
     // Returns a fault if one of the six tables has too few or too many rows.
     fn count_fault(&self, scale: Scale) -> Option<ScaleFault>
-        ensures { MatchOption result (HasCounts scale self.now) (λ fault. Breaks fault scale self.now) }
+        ensures { MatchOption result (HasCounts scale self.now)
+            (λ fault. Breaks fault scale self.now) }
     {
         let items = scale.items as usize;
         let warehouses = scale.warehouses as usize;
@@ -108,7 +110,8 @@ impl TableRows {
     // its range.
     fn reference_fault(&self, scale: Scale) -> Option<ScaleFault>
         requires { HasCounts scale self.now }
-        ensures { MatchOption result (FitsScale scale self.now) (λ fault. Breaks fault scale self.now) }
+        ensures { MatchOption result (FitsScale scale self.now)
+            (λ fault. Breaks fault scale self.now) }
     {
         if !name_payers_customers(&self.histories, scale) {
             return Some(ScaleFault::HistoryCustomer);

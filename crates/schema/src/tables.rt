@@ -1,13 +1,12 @@
-ghost use Rattle.std.specs.Prelude.{◌≡◌, ◌↔◌, ◌+◌, ◌^◌, ◌<◌, ◌≤◌, ℕ, length, IsTrue, is_some, IfSome, IsOk, IfOk, IfErr, OnOk, OnErr};
+ghost use Rattle.std.specs.Prelude.{◌≡◌, ◌↔◌, ◌^◌, ◌<◌, ◌≤◌, length, IsTrue, is_some, IfSome, IsOk, IfOk, IfErr, OnOk, OnErr};
 ghost use Rattle.std.specs.Option.{option_copied};
 ghost use Rattle.std.specs.FinMap as map;
-ghost use Rattle.std.specs.List.{list_all, slice_get};
-ghost use Rattle.rows.specs.Keys.{order_of_line};
+ghost use Rattle.std.specs.List.{list_all};
 ghost use Rattle.rows.specs.declared.limits.TheConstants.{MOST_LINES};
 ghost use Rattle.schema.specs.Scale.{has_customer, has_district, customer_key};
-ghost use Rattle.schema.specs.Database.{IsWithinScale, customer_of_order, is_order_id, with_payment, without_payment, rows_where, is_of_district, is_of_order};
+ghost use Rattle.schema.specs.Database.{IsWithinScale, customer_of_order, is_order_id, with_warehouse_row, with_district_row, with_stock_row, with_customer_row, with_history_row, without_history_row, rows_where, is_of_district, is_line_of_district, is_of_order, AreCustomersOf};
 ghost use Rattle.schema.specs.Rows.{database, FitsScale, Breaks};
-ghost use Rattle.schema.specs.OrderRows.{StoodThere, is_in_span, is_line_within, line_key, oldest_new_order, with_delivery, with_order, without_order};
+ghost use Rattle.schema.specs.OrderRows.{StoodThere, is_in_span, is_line_within, line_key, oldest_new_order, with_delivery, with_order, without_order, HasLines};
 
 use crate::order_rows::{
     Replaced, add_order_rows, deliver_order_rows, oldest_number, take_back_order_rows,
@@ -265,7 +264,7 @@ impl Tables {
 
     /// The lines of the district's orders, in the order of O_ID and then OL_NUMBER.
     pub fn lines_of_district(&self, home: DistrictKey) -> Lines<'_>
-        ensures rows { result ≡ rows_where (λ key. is_of_district home (order_of_line key)) self.now.lines }
+        ensures rows { result ≡ rows_where (is_line_of_district home) self.now.lines }
         ensures fits { length result < 2 ^ 63 }
     {
         self.rows.lines.of_district(home)
@@ -292,7 +291,7 @@ impl Tables {
     /// district.
     pub fn customers_of(&self, home: DistrictKey) -> Option<&[Customer]>
         ensures district { is_some result ≡ has_district self.now.scale home }
-        ensures rows { IfSome result (λ rows. (c : ℕ) → slice_get rows.now c ≡ map.get self.now.customers (customer_key home (c + 1))) }
+        ensures rows { IfSome result (λ rows. AreCustomersOf self.now home rows.now) }
     {
         let slot = self.scale.district_slot(home)?;
         let customers = self.scale.customers as usize;
@@ -305,7 +304,7 @@ impl Tables {
     /// the same for their tables.
     pub fn replace_warehouse(&mut self, warehouse: u32, row: Warehouse) -> Option<Warehouse>
         requires { IsTrue (map.contains_key self.old.warehouses warehouse) }
-        ensures tables { self.new ≡ record self.old { warehouses = map.insert self.old.warehouses warehouse row } }
+        ensures tables { self.new ≡ with_warehouse_row self.old warehouse row }
         ensures was { result ≡ map.get self.old.warehouses warehouse }
     {
         let slot = self.scale.warehouse_slot(warehouse)?;
@@ -314,7 +313,7 @@ impl Tables {
 
     pub fn replace_district(&mut self, key: DistrictKey, row: District) -> Option<District>
         requires { IsTrue (map.contains_key self.old.districts key) }
-        ensures tables { self.new ≡ record self.old { districts = map.insert self.old.districts key row } }
+        ensures tables { self.new ≡ with_district_row self.old key row }
         ensures was { result ≡ map.get self.old.districts key }
     {
         let slot = self.scale.district_slot(key)?;
@@ -323,7 +322,7 @@ impl Tables {
 
     pub fn replace_stock(&mut self, key: StockKey, row: Stock) -> Option<Stock>
         requires { IsTrue (map.contains_key self.old.stocks key) }
-        ensures tables { self.new ≡ record self.old { stocks = map.insert self.old.stocks key row } }
+        ensures tables { self.new ≡ with_stock_row self.old key row }
         ensures was { result ≡ map.get self.old.stocks key }
     {
         let slot = self.scale.stock_slot(key)?;
@@ -332,7 +331,7 @@ impl Tables {
 
     pub fn replace_customer(&mut self, key: CustomerKey, row: Customer) -> Option<Customer>
         requires { IsTrue (map.contains_key self.old.customers key) }
-        ensures tables { self.new ≡ record self.old { customers = map.insert self.old.customers key row } }
+        ensures tables { self.new ≡ with_customer_row self.old key row }
         ensures was { result ≡ map.get self.old.customers key }
     {
         let slot = self.scale.customer_slot(key)?;
@@ -344,7 +343,7 @@ impl Tables {
     pub fn push_history(&mut self, key: DistrictKey, row: History) -> Result<(), NoMemory>
         requires district { IsTrue (map.contains_key self.old.districts key) }
         requires payer { IsTrue (map.contains_key self.old.customers row.customer) }
-        ensures ok { OnOk result (self.new ≡ record self.old { histories = with_payment self.old.histories key row }) }
+        ensures ok { OnOk result (self.new ≡ with_history_row self.old key row) }
         ensures err { OnErr result (self.new ≡ self.old) }
     {
         match self.scale.district_slot(key) {
@@ -356,7 +355,7 @@ impl Tables {
     /// Removes the last payment of the district's list, if there is one. Does not allocate.
     pub fn pop_history(&mut self, key: DistrictKey)
         requires { IsTrue (map.contains_key self.old.districts key) }
-        ensures { self.new ≡ record self.old { histories = without_payment self.old.histories key } }
+        ensures { self.new ≡ without_history_row self.old key }
     {
         if let Some(slot) = self.scale.district_slot(key) {
             self.rows.histories[slot].pop();
@@ -396,7 +395,7 @@ impl Tables {
         requires few { length replaced.lines.items ≤ MOST_LINES }
         requires order { IsTrue (map.contains_key self.old.orders key) }
         requires new_order { IsTrue (map.contains_key self.old.new_orders key) }
-        requires lines { (n : ℕ) → n < length replaced.lines.items → IsTrue (map.contains_key self.old.lines (line_key key (1 + n))) }
+        requires lines { HasLines self.old.lines key (length replaced.lines.items) }
         requires within { IsWithinScale (without_order self.old key replaced) }
         ensures { self.new ≡ without_order self.old key replaced }
     {

@@ -29,6 +29,7 @@ use Rattle.schema.proofs.TableWrites.{get-map_rows, put_row_same, put_row_twice}
 use Rattle.partitions.specs.declared.delivery_rows.BeforeDelivery.{BeforeDelivery}
 use Rattle.partitions.specs.Deliveries.{StoodBefore, carrier_at, moment_at, with_carrier_back, with_moments_back, without_delivery}
 use Rattle.partitions.specs.Parts.{Part, IsPart}
+use Rattle.partitions.specs.RowChanges.{DeliversOrder, TakesBackDelivery}
 use Rattle.partitions.specs.Slots.{Slots, customer_slot_by}
 use Rattle.requests.specs.declared.group.Group.{Group}
 use Rattle.requests.specs.declared.group.Group.TheVariants.{Orders}
@@ -123,7 +124,7 @@ module _ (t : Database) (key : OrderKey) (f : order.Order → order.Order) (g : 
       λ i. OfOrders (orders i) (new_orders i) (lines i)
   rows_elsewhere _ other = refl
 
-pub delivery_changes : (p q : Part) (key : OrderKey) (carrier moment : ℕ) → q ≡ record p { tables = with_delivery p.tables key carrier moment }
+pub delivery_changes : (p q : Part) (key : OrderKey) (carrier moment : ℕ) → DeliversOrder key carrier moment p q
     → ChangesGroup (group_of_order key) (with_order_delivered key carrier moment) p q
 delivery_changes p q key carrier moment is =
     changes_to (group_of_order key) (with_order_delivered key carrier moment) p q (with_delivery p.tables key carrier moment) is
@@ -133,7 +134,7 @@ delivery_changes p q key carrier moment is =
     })
     refl refl
 
-pub delivery_back_changes : (p q : Part) (key : OrderKey) (before : BeforeDelivery) → q ≡ record p { tables = without_delivery p.tables key before }
+pub delivery_back_changes : (p q : Part) (key : OrderKey) (before : BeforeDelivery) → TakesBackDelivery key before p q
     → ChangesGroup (group_of_order key) (with_order_undelivered key before) p q
 delivery_back_changes p q key before is =
     let f = λ (row : order.Order). record row { carrier_id = before.carrier_id } in
@@ -187,7 +188,7 @@ each_of_group a own group test m each key row found =
     ] (sym (get-retain_keys m _ key (λ x e. ap (λ y. is_same (own y) group) (sym (a key x e)))) ∙ found)
 
 pub delivery_step : (p q : Part) (key : OrderKey) (carrier moment : ℕ) (before : BeforeDelivery) → IsPart p → IsTrue (table.contains_key p.tables.orders key) → StoodBefore p.tables key before
-    → q ≡ record p { tables = with_delivery p.tables key carrier moment } → IsStep (group_of_order key) (with_order_delivered key carrier moment) (k.Delivery key before) p q
+    → DeliversOrder key carrier moment p q → IsStep (group_of_order key) (with_order_delivered key carrier moment) (k.Delivery key before) p q
 delivery_step p q key carrier moment before is_part there stood is =
     let t = p.tables in
     let u = with_delivery t key carrier moment in
@@ -205,7 +206,7 @@ delivery_step p q key carrier moment before is_part there stood is =
     let again : with_order_undelivered key before (with_order_delivered key carrier moment (content t group)) ≡ content t group = λ i. OfOrders (orders i) (new_orders i) (lines i) in
     let can : CanTakeBackDelivery key before (content u group) = record {
       order = ap is_some ((each_row_stands_in_one_group u).orders key).0 ∙ contains-map_rows orders_exact (with_carrier key carrier) t.orders key ∙ there;
-      fifteen = stood.fifteen;
+      most_lines = stood.most_lines;
     } in
     record {
       changes = delivery_changes p q key carrier moment is;

@@ -22,6 +22,7 @@ use Rattle.schema.proofs.KeyOrders.{orders_total, orders_exact, lines_total, lin
 use Rattle.schema.proofs.LinesPut.{length-lines_at, taken_back}
 use Rattle.schema.proofs.TableWrites.{now_there, still_there}
 use Rattle.partitions.specs.Parts.{Part, IsPart, is_of}
+use Rattle.partitions.specs.RowChanges.{AddsOrder, part_without_order}
 use Rattle.requests.specs.declared.group.Group.{Group}
 use Rattle.requests.specs.declared.group.Group.TheVariants.{Orders}
 use Rattle.groups.specs.Groups.{group_of_order, group_of_line, warehouse_of}
@@ -77,7 +78,7 @@ module _ (t : Database) (key : OrderKey) (row : Option order.Order) (new_order :
       λ i. OfOrders (orders i) (new_orders i) (lines i)
   order_rows_elsewhere _ apart = refl
 
-order_changes : (p q : Part) (key : OrderKey) (row : order.Order) (rows : List OrderLine) → q ≡ record p { tables = with_order p.tables key row rows }
+order_changes : (p q : Part) (key : OrderKey) (row : order.Order) (rows : List OrderLine) → AddsOrder key row rows p q
     → ChangesGroup (group_of_order key) (with_order_more key row rows) p q
 order_changes p q key row rows is =
     let lines = map (λ line. Some line) rows in
@@ -85,7 +86,7 @@ order_changes p q key row rows is =
     (record { here = order_rows_here p.tables key (Some row) (Some (record {})) lines; elsewhere = order_rows_elsewhere p.tables key (Some row) (Some (record {})) lines })
     refl refl
 
-pub order_back_changes : (p q : Part) (key : OrderKey) (replaced : Replaced) → q ≡ record p { tables = without_order p.tables key replaced }
+pub order_back_changes : (p q : Part) (key : OrderKey) (replaced : Replaced) → q ≡ part_without_order p key replaced
     → ChangesGroup (group_of_order key) (with_order_back key replaced) p q
 order_back_changes p q key replaced is =
     changes_to (group_of_order key) (with_order_back key replaced) p q (without_order p.tables key replaced) is
@@ -196,7 +197,7 @@ order_home p key None is found there = absurd cc
 
 -- the rows without the order are a part again
 pub part_without_order : (p : Part) (key : OrderKey) (replaced : Replaced) → IsPart p → CanTakeBackOrder p.tables.scale key replaced (content p.tables (group_of_order key))
-    → IsPart (record p { tables = without_order p.tables key replaced })
+    → IsPart (part_without_order p key replaced)
 part_without_order p key replaced is can =
     let t = p.tables in
     let group = group_of_order key in
@@ -219,7 +220,7 @@ line_there key number (row ∷ rows) lines n low high =
     ]
 
 pub order_step : (p q : Part) (key : OrderKey) (row : order.Order) (rows : List OrderLine) (replaced : Replaced) → IsPart p → length rows ≤ MOST_LINES → StoodThere p.tables key (length rows) replaced
-    → q ≡ record p { tables = with_order p.tables key row rows } → IsStep (group_of_order key) (with_order_more key row rows) (k.Order key replaced) p q
+    → AddsOrder key row rows p q → IsStep (group_of_order key) (with_order_more key row rows) (k.Order key replaced) p q
 order_step p q key row rows replaced is_part few stood is =
     let u = with_order p.tables key row rows in
     let group = group_of_order key in

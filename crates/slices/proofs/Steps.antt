@@ -18,10 +18,11 @@ use Rattle.rows.specs.declared.records.Stock as stock
 use Rattle.rows.specs.declared.records.Customer as customer
 use Rattle.rows.specs.declared.records.History as payment
 use Rattle.schema.specs.declared.scale.Scale.{Scale}
-use Rattle.schema.specs.Database.{Database, list_at, with_payment, without_last, without_payment}
+use Rattle.schema.specs.Database.{Database, list_at, without_last}
 use Rattle.schema.proofs.KeyOrders.{districts_total, districts_exact, stocks_total, stocks_exact, customers_total, customers_exact}
 use Rattle.indexes.specs.NameOrder.{last_of, first_of}
 use Rattle.partitions.specs.Parts.{Part}
+use Rattle.partitions.specs.RowChanges.{AddsPayment, PutsCustomer, PutsDistrict, PutsStock, PutsWarehouse, RemovesPayment}
 use Rattle.requests.specs.declared.group.Group.{Group}
 use Rattle.groups.specs.Groups.{group_of_warehouse, group_of_district, group_of_customer, group_of_history, group_of_stock}
 use Rattle.groups.specs.Content.{Content, content, rows_of}
@@ -48,29 +49,29 @@ pub no_change : (group : Group) (p : Part) → ChangesGroup group (λ c. c) p p
 no_change group p = record { contents = record { here = refl; elsewhere = λ _ _. refl }; home = refl; scale = refl; items = refl }
 
 module _ (p q : Part) where
-  pub warehouse_changes : (w_id : ℕ) (row : warehouse.Warehouse) → q ≡ record p { tables = record p.tables { warehouses = map.insert p.tables.warehouses w_id row } }
+  pub warehouse_changes : (w_id : ℕ) (row : warehouse.Warehouse) → PutsWarehouse w_id row p q
       → ChangesGroup (group_of_warehouse w_id) (with_warehouse row) p q
   warehouse_changes w_id row is = changes_to (group_of_warehouse w_id) (with_warehouse row) p q _ is ((each_put_changes_one_group p.tables).warehouses w_id row) refl refl
 
-  pub district_changes : (key : DistrictKey) (row : district.District) → q ≡ record p { tables = record p.tables { districts = map.insert p.tables.districts key row } }
+  pub district_changes : (key : DistrictKey) (row : district.District) → PutsDistrict key row p q
       → ChangesGroup (group_of_district key) (with_district row) p q
   district_changes key row is = changes_to (group_of_district key) (with_district row) p q _ is ((each_put_changes_one_group p.tables).districts key row) refl refl
 
-  pub stock_changes : (key : StockKey) (row : stock.Stock) → q ≡ record p { tables = record p.tables { stocks = map.insert p.tables.stocks key row } }
+  pub stock_changes : (key : StockKey) (row : stock.Stock) → PutsStock key row p q
       → ChangesGroup (group_of_stock key) (with_stock key row) p q
   stock_changes key row is = changes_to (group_of_stock key) (with_stock key row) p q _ is ((each_put_changes_one_group p.tables).stocks key row) refl refl
 
-  pub customer_changes : (key : CustomerKey) (row : customer.Customer) → q ≡ record p { tables = record p.tables { customers = map.insert p.tables.customers key row } }
+  pub customer_changes : (key : CustomerKey) (row : customer.Customer) → PutsCustomer key row p q
       → ChangesGroup (group_of_customer key) (with_customer key row) p q
   customer_changes key row is = changes_to (group_of_customer key) (with_customer key row) p q _ is ((each_put_changes_one_group p.tables).customers key row) refl refl
 
-  pub payment_changes : (key : DistrictKey) (row : payment.History) → q ≡ record p { tables = record p.tables { histories = with_payment p.tables.histories key row } }
+  pub payment_changes : (key : DistrictKey) (row : payment.History) → AddsPayment key row p q
       → ChangesGroup (group_of_history key) (with_payment_more row) p q
   payment_changes key row is =
       let put = (each_put_changes_one_group p.tables).histories key (list_at p.tables.histories key ++ row ∷ []) in
       changes_to (group_of_history key) (with_payment_more row) p q _ is (record { here = put.here; elsewhere = put.elsewhere }) refl refl
 
-  pub no_payment_changes : (key : DistrictKey) → q ≡ record p { tables = record p.tables { histories = without_payment p.tables.histories key } }
+  pub no_payment_changes : (key : DistrictKey) → RemovesPayment key p q
       → ChangesGroup (group_of_history key) with_payment_fewer p q
   no_payment_changes key is =
       let put = (each_put_changes_one_group p.tables).histories key (without_last (list_at p.tables.histories key)) in
@@ -155,7 +156,7 @@ without_last-more rows row =
     ap (λ n. take n (rows ++ row ∷ [])) (let long = length-append rows (row ∷ []) in omega (arith, long)) ∙ take-append_seam rows (row ∷ [])
 
 module _ (p q : Part) where
-  pub warehouse_step : (w_id : ℕ) (old row : warehouse.Warehouse) → map.get p.tables.warehouses w_id ≡ Some old → q ≡ record p { tables = record p.tables { warehouses = map.insert p.tables.warehouses w_id row } }
+  pub warehouse_step : (w_id : ℕ) (old row : warehouse.Warehouse) → map.get p.tables.warehouses w_id ≡ Some old → PutsWarehouse w_id row p q
       → IsStep (group_of_warehouse w_id) (with_warehouse row) (k.Warehouse w_id old) p q
   warehouse_step w_id old row was is =
       let changes = warehouse_changes p q w_id row is in
@@ -167,7 +168,7 @@ module _ (p q : Part) where
         back = ap OfWarehouse (sym was);
       }
 
-  pub district_step : (key : DistrictKey) (old row : district.District) → map.get p.tables.districts key ≡ Some old → q ≡ record p { tables = record p.tables { districts = map.insert p.tables.districts key row } }
+  pub district_step : (key : DistrictKey) (old row : district.District) → map.get p.tables.districts key ≡ Some old → PutsDistrict key row p q
       → IsStep (group_of_district key) (with_district row) (k.District key old) p q
   district_step key old row was is =
       let changes = district_changes p q key row is in
@@ -179,7 +180,7 @@ module _ (p q : Part) where
         back = ap OfDistrict (sym was);
       }
 
-  pub stock_step : (key : StockKey) (old row : stock.Stock) → map.get p.tables.stocks key ≡ Some old → q ≡ record p { tables = record p.tables { stocks = map.insert p.tables.stocks key row } }
+  pub stock_step : (key : StockKey) (old row : stock.Stock) → map.get p.tables.stocks key ≡ Some old → PutsStock key row p q
       → IsStep (group_of_stock key) (with_stock key row) (k.Stock key old) p q
   stock_step key old row was is =
       let changes = stock_changes p q key row is in
@@ -194,7 +195,7 @@ module _ (p q : Part) where
       }
 
   pub customer_step : (key : CustomerKey) (old row : customer.Customer) → map.get p.tables.customers key ≡ Some old → AreNamesAt p.tables key row
-      → q ≡ record p { tables = record p.tables { customers = map.insert p.tables.customers key row } } → IsStep (group_of_customer key) (with_customer key row) (k.Customer key old) p q
+      → PutsCustomer key row p q → IsStep (group_of_customer key) (with_customer key row) (k.Customer key old) p q
   customer_step key old row was names is =
       let changes = customer_changes p q key row is in
       let has : map.get q.tables.customers key ≡ Some row = ap (λ (r : Part). map.get r.tables.customers key) is ∙ get-insert_here customers_total customers_exact p.tables.customers key row in
@@ -208,7 +209,7 @@ module _ (p q : Part) where
             ∙ ap OfCustomers (restored customers_total customers_exact (rows_of group_of_customer group p.tables.customers) key old row (((each_row_stands_in_one_group p.tables).customers key).0 ∙ was));
       }
 
-  pub payment_step : (key : DistrictKey) (row : payment.History) → IsTrue (map.contains_key p.tables.histories key) → q ≡ record p { tables = record p.tables { histories = with_payment p.tables.histories key row } }
+  pub payment_step : (key : DistrictKey) (row : payment.History) → IsTrue (map.contains_key p.tables.histories key) → AddsPayment key row p q
       → IsStep (group_of_history key) (with_payment_more row) (k.NoPayment key) p q
   payment_step key row there is =
       let changes = payment_changes p q key row is in

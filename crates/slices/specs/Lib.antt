@@ -1,4 +1,5 @@
 pub mod SliceView
+pub mod SliceChanges
 pub mod Fitting
 pub mod Undo
 pub mod HomeRows

@@ -3,6 +3,7 @@ use Rattle.std.specs.Prelude.{◌≡◌, ℕ, ◌-◌, ◌<◌, List, [], ◌∷
 use Rattle.std.specs.List.{filter}
 use Rattle.std.specs.List.Sorted.{IsPermutation}
 use Rattle.rows.specs.Ranged.{is_between}
+use Rattle.rows.specs.declared.limits.TheConstants.{STOCK_GROUPS}
 use Rattle.schema.specs.Database.{Database}
 use Rattle.partitions.specs.Parts.{SharedTables, Part, IsPartAt, whole_of}
 use Rattle.requests.specs.declared.group.Group.{Group}
@@ -40,7 +41,7 @@ is_group (District w_id d_id) = is_between 1 10 d_id
 is_group (Customers w_id d_id) = is_between 1 10 d_id
 is_group (Orders w_id d_id) = is_between 1 10 d_id
 is_group (History w_id d_id) = is_between 1 10 d_id
-is_group (Stock w_id residue) = is_between 0 63 residue
+is_group (Stock w_id residue) = is_between 0 (STOCK_GROUPS - 1) residue
 
 -- the number of tickets of a group that no holder has, while these claims are out
 abbrev pub free_at : List HeldClaim → Group → ℕ

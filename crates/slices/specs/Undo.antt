@@ -106,10 +106,10 @@ pub record CanTakeBackOrder (scale : Scale) (key : OrderKey) (replaced : Replace
   pub lines : (n : ℕ) → n < length replaced.lines.items → IsTrue (is_some (line_in (group_of_order key) content (line_key key (1 + n))))
   pub within : AreOrdersWithin scale (group_of_order key) (with_order_back key replaced content)
 
--- The order is stored, and the record has the earlier delivery moments of fifteen lines.
+-- The order is stored, and the record has the earlier delivery moments of `MOST_LINES` lines.
 pub record CanTakeBackDelivery (key : OrderKey) (before : BeforeDelivery) (content : Content) : Type 0 where
   pub order : IsTrue (is_some (order_in (group_of_order key) content key))
-  pub fifteen : length before.moments ≡ MOST_LINES
+  pub most_lines : length before.moments ≡ MOST_LINES
 
 -- The contents of one group change in this way. The warehouse, the scale, the items and the contents of all other
 -- groups are unchanged.
@@ -173,3 +173,12 @@ abbrev pub AreKept : Scale → Group → List UndoRecord → Content → Type 0
 AreKept scale group [] content = Unit {0}
 AreKept scale group (kept ∷ undo) content =
     (group_of_kept kept ≡ group) × CanPutBack scale kept (all_put_back_in undo content) × AreKept scale group undo content
+
+-- with these rows, each step was in the group, and can be undone after those that follow it are
+abbrev pub AreKeptIn : Part → Group → List UndoRecord → Type 0
+AreKeptIn p group undo = AreKept p.tables.scale group undo (content p.tables group)
+
+-- If all steps were in one group, whichever it is, they are undone now, from the last to the first, and nothing else
+-- changed.
+abbrev pub AreUndone : List UndoRecord → Part → Part → Type 0
+AreUndone undo old new = (group : Group) → AreKeptIn old group undo → ChangesGroup group (all_put_back_in undo) old new

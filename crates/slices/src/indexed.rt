@@ -1,14 +1,15 @@
 //! The rows of one warehouse, with the indexes over them.
-ghost use Rattle.std.specs.Prelude.{◌≡◌, ◌+◌, ◌<◌, ◌≤◌, ℕ, length, IsTrue, IfOk, OnOk, OnErr, Option, Some};
+ghost use Rattle.std.specs.Prelude.{◌≡◌, ◌≤◌, length, IsTrue, IfOk, OnOk, OnErr, Option, Some};
 ghost use Rattle.std.specs.Option.{option_copied, option_map};
 ghost use Rattle.std.specs.FinMap as map;
 ghost use Rattle.rows.specs.declared.records.Order as order;
 ghost use Rattle.rows.specs.declared.limits.TheConstants.{MOST_LINES};
-ghost use Rattle.schema.specs.Database.{Database, with_payment, without_payment};
-ghost use Rattle.schema.specs.OrderRows.{StoodThere, line_key, with_delivery, with_order, without_order};
+ghost use Rattle.schema.specs.Database.{Database};
+ghost use Rattle.schema.specs.OrderRows.{StoodThere};
 ghost use Rattle.schema.specs.Scale.{has_customer};
-ghost use Rattle.partitions.specs.Deliveries.{StoodBefore, without_delivery};
+ghost use Rattle.partitions.specs.Deliveries.{StoodBefore};
 ghost use Rattle.partitions.specs.Parts.{IsPart};
+ghost use Rattle.partitions.specs.RowChanges.{AddsOrder, AddsPayment, DeliversOrder, HasLines, PutsCustomer, PutsDistrict, PutsStock, PutsWarehouse, RemovesPayment, TakesBackDelivery, part_without_order};
 ghost use Rattle.partitions.specs.Slots.{home_slot};
 ghost use Rattle.indexes.specs.LatestIndex.{FitsLatestBy};
 ghost use Rattle.indexes.specs.NameOrder.{FitsNamesBy};
@@ -96,7 +97,7 @@ impl IndexedRows {
     /// Replaces the warehouse's row, and returns the old one. The same for the next three tables.
     pub(crate) fn replace_warehouse(&mut self, w_id: u32, row: Warehouse) -> Warehouse
         requires { IsTrue (map.contains_key self.old.tables.warehouses w_id) }
-        ensures tables { self.new ≡ record self.old { tables = record self.old.tables { warehouses = map.insert self.old.tables.warehouses w_id row } } }
+        ensures tables { PutsWarehouse w_id row self.old self.new }
         ensures was { map.get self.old.tables.warehouses w_id ≡ Some result }
     {
         self.partition.replace_warehouse(w_id, row).unwrap()
@@ -104,7 +105,7 @@ impl IndexedRows {
 
     pub(crate) fn replace_district(&mut self, key: DistrictKey, row: District) -> District
         requires { IsTrue (map.contains_key self.old.tables.districts key) }
-        ensures tables { self.new ≡ record self.old { tables = record self.old.tables { districts = map.insert self.old.tables.districts key row } } }
+        ensures tables { PutsDistrict key row self.old self.new }
         ensures was { map.get self.old.tables.districts key ≡ Some result }
     {
         self.partition.replace_district(key, row).unwrap()
@@ -112,7 +113,7 @@ impl IndexedRows {
 
     pub(crate) fn replace_stock(&mut self, key: StockKey, row: Stock) -> Stock
         requires { IsTrue (map.contains_key self.old.tables.stocks key) }
-        ensures tables { self.new ≡ record self.old { tables = record self.old.tables { stocks = map.insert self.old.tables.stocks key row } } }
+        ensures tables { PutsStock key row self.old self.new }
         ensures was { map.get self.old.tables.stocks key ≡ Some result }
     {
         self.partition.replace_stock(key, row).unwrap()
@@ -122,7 +123,7 @@ impl IndexedRows {
     pub(crate) fn replace_customer(&mut self, key: CustomerKey, row: Customer) -> Customer
         requires there { IsTrue (map.contains_key self.old.tables.customers key) }
         requires names { AreNamesAt self.old.tables key row }
-        ensures tables { self.new ≡ record self.old { tables = record self.old.tables { customers = map.insert self.old.tables.customers key row } } }
+        ensures tables { PutsCustomer key row self.old self.new }
         ensures was { map.get self.old.tables.customers key ≡ Some result }
     {
         self.partition.replace_customer(key, row).unwrap()
@@ -133,7 +134,7 @@ impl IndexedRows {
     pub(crate) fn push_history(&mut self, key: DistrictKey, row: History) -> Result<(), NoMemory>
         requires district { IsTrue (map.contains_key self.old.tables.districts key) }
         requires payer { IsTrue (has_customer self.old.tables.scale row.customer) }
-        ensures ok { OnOk result (self.new ≡ record self.old { tables = record self.old.tables { histories = with_payment self.old.tables.histories key row } }) }
+        ensures ok { OnOk result (AddsPayment key row self.old self.new) }
         ensures err { OnErr result (self.new ≡ self.old) }
     {
         self.partition.push_history(key, row)
@@ -142,7 +143,7 @@ impl IndexedRows {
     /// Removes the last payment of the district's list. Never allocates.
     pub(crate) fn pop_history(&mut self, key: DistrictKey)
         requires { IsTrue (map.contains_key self.old.tables.histories key) }
-        ensures { self.new ≡ record self.old { tables = record self.old.tables { histories = without_payment self.old.tables.histories key } } }
+        ensures { RemovesPayment key self.old self.new }
     {
         // Called for its contract: each district that has a list has a row.
         let _ = self.partition.home();
@@ -158,7 +159,7 @@ impl IndexedRows {
         lines: Vec<OrderLine>,
     ) -> Result<Replaced, NoMemory>
         requires { IsOrderFor self.old key order lines.items }
-        ensures ok { OnOk result (self.new ≡ record self.old { tables = with_order self.old.tables key order lines.items }) }
+        ensures ok { OnOk result (AddsOrder key order lines.items self.old self.new) }
         ensures replaced { IfOk result (StoodThere self.old.tables key (length lines.items)) }
         ensures err { OnErr result (self.new ≡ self.old) }
     {
@@ -175,9 +176,9 @@ impl IndexedRows {
         requires few { length replaced.lines.items ≤ MOST_LINES }
         requires order { IsTrue (map.contains_key self.old.tables.orders key) }
         requires new_order { IsTrue (map.contains_key self.old.tables.new_orders key) }
-        requires lines { (n : ℕ) → n < length replaced.lines.items → IsTrue (map.contains_key self.old.tables.lines (line_key key (1 + n))) }
-        requires within { IsPart (record self.old { tables = without_order self.old.tables key replaced }) }
-        ensures { self.new ≡ record self.old { tables = without_order self.old.tables key replaced } }
+        requires lines { HasLines self.old.tables.lines key (length replaced.lines.items) }
+        requires within { IsPart (part_without_order self.old key replaced) }
+        ensures { self.new ≡ part_without_order self.old key replaced }
     {
         let was = number_of_customer(self.partition.order(key));
         let now = number_of_customer(replaced.order.as_ref());
@@ -194,7 +195,7 @@ impl IndexedRows {
         moment: Moment,
     ) -> Result<BeforeDelivery, NoMemory>
         requires { IsTrue (map.contains_key self.old.tables.orders key) }
-        ensures ok { OnOk result (self.new ≡ record self.old { tables = with_delivery self.old.tables key carrier moment }) }
+        ensures ok { OnOk result (DeliversOrder key carrier moment self.old self.new) }
         ensures before { IfOk result (StoodBefore self.old.tables key) }
         ensures err { OnErr result (self.new ≡ self.old) }
     {
@@ -204,8 +205,8 @@ impl IndexedRows {
     /// Undoes a delivery: restores the replaced values. Never allocates.
     pub(crate) fn take_back_delivery(&mut self, key: OrderKey, before: BeforeDelivery)
         requires order { IsTrue (map.contains_key self.old.tables.orders key) }
-        requires fifteen { length before.moments ≡ MOST_LINES }
-        ensures { self.new ≡ record self.old { tables = without_delivery self.old.tables key before } }
+        requires most_lines { length before.moments ≡ MOST_LINES }
+        ensures { TakesBackDelivery key before self.old self.new }
     {
         self.partition.take_back_delivery(key, before);
     }
@@ -221,8 +222,10 @@ fn note_latest(
     was: Option<u32>,
     now: Option<u32>,
 )
-    ensures { (before : Database) (row : Option order.Order) → IsOrderChanged before rows.now.tables key row was now
-        → FitsLatestBy (home_slot rows.now.home) latest.old before → FitsLatestBy (home_slot rows.now.home) latest.new rows.now.tables }
+    ensures { (before : Database) (row : Option order.Order)
+        → IsOrderChanged before rows.now.tables key row was now
+        → FitsLatestBy (home_slot rows.now.home) latest.old before
+        → FitsLatestBy (home_slot rows.now.home) latest.new rows.now.tables }
 {
     // Called for its contract: no two districts have the same place.
     Rows::scale(rows);

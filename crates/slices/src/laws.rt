@@ -9,7 +9,9 @@ ghost use Rattle.slices.specs.SliceView.{at_home, is_group};
 
 /// The tests `at_home` and `is_group` together are true exactly for the groups of the warehouse.
 pub fn groups_are_recorded()
-    ensures { (warehouses home : ℕ) (group : Group) → IsBetween 1 warehouses home → IsTrue (at_home home group && is_group group) ↔ (IsGroupOf warehouses group × (warehouse_of group ≡ home)) }
+    ensures { (warehouses home : ℕ) (group : Group) → IsBetween 1 warehouses home
+        → IsTrue (at_home home group && is_group group)
+        ↔ (IsGroupOf warehouses group × (warehouse_of group ≡ home)) }
 {}
 
 /// The boxes beside the seats of what was opened for tables are the boxes of those tables.

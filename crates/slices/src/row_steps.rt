@@ -1,9 +1,9 @@
 //! The kinds of steps, and the change of each.
-ghost use Rattle.std.specs.Prelude.{◌≡◌, IsTrue};
+ghost use Rattle.std.specs.Prelude.{IsTrue};
 ghost use Rattle.std.specs.FinMap as map;
-ghost use Rattle.schema.specs.Database.{with_payment};
 ghost use Rattle.schema.specs.OrderRows.{with_delivery, with_order};
 ghost use Rattle.schema.specs.Scale.{has_customer};
+ghost use Rattle.partitions.specs.RowChanges.{with_warehouse_row, with_district_row, with_stock_row, with_customer_row, with_history_row};
 ghost use Rattle.groups.specs.Groups.{group_of_warehouse, group_of_district, group_of_customer, group_of_order, group_of_history, group_of_stock};
 ghost use Rattle.groups.specs.Laws.{with_warehouse, with_district, with_customer, with_stock};
 ghost use Rattle.slices.specs.Undo.{AreNamesAt, IsOrderFor, with_order_delivered, with_order_more, with_payment_more};
@@ -29,7 +29,7 @@ impl Step for PutWarehouse {
 
     ghost changed = { λ step. with_warehouse step.row };
 
-    ghost done = { λ step t. record t { warehouses = map.insert t.warehouses step.w_id step.row } };
+    ghost done = { λ step t. with_warehouse_row t step.w_id step.row };
 
     ghost is_possible = { λ step p. IsTrue (map.contains_key p.tables.warehouses step.w_id) };
 
@@ -53,7 +53,7 @@ impl Step for PutDistrict {
 
     ghost changed = { λ step. with_district step.row };
 
-    ghost done = { λ step t. record t { districts = map.insert t.districts step.key step.row } };
+    ghost done = { λ step t. with_district_row t step.key step.row };
 
     ghost is_possible = { λ step p. IsTrue (map.contains_key p.tables.districts step.key) };
 
@@ -77,7 +77,7 @@ impl Step for PutStock {
 
     ghost changed = { λ step. with_stock step.key step.row };
 
-    ghost done = { λ step t. record t { stocks = map.insert t.stocks step.key step.row } };
+    ghost done = { λ step t. with_stock_row t step.key step.row };
 
     ghost is_possible = { λ step p. IsTrue (map.contains_key p.tables.stocks step.key) };
 
@@ -101,9 +101,10 @@ impl Step for PutCustomer {
 
     ghost changed = { λ step. with_customer step.key step.row };
 
-    ghost done = { λ step t. record t { customers = map.insert t.customers step.key step.row } };
+    ghost done = { λ step t. with_customer_row t step.key step.row };
 
-    ghost is_possible = { λ step p. IsTrue (map.contains_key p.tables.customers step.key) × AreNamesAt p.tables step.key step.row };
+    ghost is_possible = { λ step p. IsTrue (map.contains_key p.tables.customers step.key)
+        × AreNamesAt p.tables step.key step.row };
 
     ghost at_home = { λ step p is can. home_of_customer p is step.key can.0 };
 
@@ -125,9 +126,10 @@ impl Step for AddPayment {
 
     ghost changed = { λ step. with_payment_more step.row };
 
-    ghost done = { λ step t. record t { histories = with_payment t.histories step.key step.row } };
+    ghost done = { λ step t. with_history_row t step.key step.row };
 
-    ghost is_possible = { λ step p. IsTrue (map.contains_key p.tables.districts step.key) × IsTrue (has_customer p.tables.scale step.row.customer) };
+    ghost is_possible = { λ step p. IsTrue (map.contains_key p.tables.districts step.key)
+        × IsTrue (has_customer p.tables.scale step.row.customer) };
 
     ghost at_home = { λ step p is can. home_of_district p is step.key can.0 };
 

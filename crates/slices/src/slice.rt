@@ -1,13 +1,12 @@
-ghost use Rattle.std.specs.Prelude.{◌≡◌, ◌<◌, ◌≤◌, ◌%◌, ℕ, [], ◌∷◌, All, length, IfNone, IfOk, IfSome, IsTrue, OnErr, OnOk};
+ghost use Rattle.std.specs.Prelude.{◌≡◌, ◌<◌, ◌≤◌, ◌%◌, [], ◌∷◌, All, length, IfNone, IfOk, IfSome, IsTrue, OnErr, OnOk};
 ghost use Rattle.std.specs.List.{list_all};
 ghost use Rattle.std.specs.FinMap as map;
-ghost use Rattle.rows.specs.declared.limits.TheConstants.{MOST_LINES};
-ghost use Rattle.schema.specs.Database.{customer_of_order, is_order_id, with_payment};
-ghost use Rattle.schema.specs.OrderRows.{is_line_within, with_delivery, with_order};
+ghost use Rattle.rows.specs.declared.limits.TheConstants.{MOST_LINES, STOCK_GROUPS};
+ghost use Rattle.schema.specs.Database.{customer_of_order, is_order_id};
+ghost use Rattle.schema.specs.OrderRows.{is_line_within};
 ghost use Rattle.schema.specs.Scale.{has_customer};
 ghost use Rattle.partitions.specs.Parts.{IsPart};
 ghost use Rattle.partitions.specs.Slots.{home_slot};
-ghost use Rattle.requests.specs.declared.group.Group.{Group as AnyGroup};
 ghost use Rattle.requests.specs.declared.group.Group.TheVariants as group;
 ghost use Rattle.groups.specs.declared.group_wants.Mode.TheVariants.{Exclusive};
 ghost use Rattle.groups.specs.Content.{content};
@@ -17,12 +16,13 @@ ghost use Rattle.indexes.specs.NameOrder.{FitsNamesBy};
 ghost use Rattle.tickets.specs.Claims.{leaving};
 ghost use Rattle.tickets.specs.Places.{IsGroupOf, place_in_warehouse};
 ghost use Rattle.local_locks.specs.Asking.{StillWaits};
-ghost use Rattle.local_locks.specs.Conflicts.{MustDie};
+ghost use Rattle.local_locks.specs.Conflicts.{NeedNotDie};
 ghost use Rattle.local_locks.specs.Laws.{CouldAsk, IsClaimOf, NoneConflict};
 ghost use Rattle.local_locks.specs.GroupWants.{CanAsk};
 ghost use Rattle.slices.specs.Asked.{claims_asked, claims_of_turn, AnswersIn, GrantsIn, TakesTurnIn};
 ghost use Rattle.slices.specs.Openings.{AreHomeBoxesOf};
-ghost use Rattle.slices.specs.SliceView.{at_rest, part_in, with_waiters, HasLocksOf, IsClaimAt, SliceKeeps};
+ghost use Rattle.slices.specs.SliceView.{at_rest, part_in, HasLocksOf, IsClaimAt, SliceKeeps};
+ghost use Rattle.slices.specs.SliceChanges.{ClaimLeaves, SliceAddsOrder, SliceAddsPayment, SliceDeliversOrder, SliceKeepsGranting, SliceKeepsUnder, SlicePutsCustomer, SlicePutsDistrict, SlicePutsStock, SlicePutsWarehouse};
 ghost use Rattle.slices.specs.Undo.{with_order_delivered, with_order_more, with_payment_more, AreNamesAt};
 
 use crate::changes::ContentOf;
@@ -142,9 +142,10 @@ impl<J: GroupNames> Slice<J> {
     pub fn ask(&mut self, alloc: Global, by: Holder, wants: &[Want]) -> Result<Asked<J>, NoMemory>
         requires { CanAsk J.warehouses self.old.home wants.now }
         ensures answers { IfOk result (λ asked. AnswersIn by wants.now self.old asked self.new) }
-        ensures kept { IfOk result (λ asked. SliceKeeps [] (with_waiters self.new.waiters self.old) (claims_asked asked) self.new) }
+        ensures kept { IfOk result (λ asked.
+            SliceKeepsGranting (claims_asked asked) self.old self.new) }
         ensures err { OnErr result (self.new ≡ self.old) }
-        ensures death_takes_none { OnErr result ((group : AnyGroup) (age : ℕ) → MustDie self.old.holdings by.age wants.now group age → ⊥) }
+        ensures death_takes_none { OnErr result (NeedNotDie self.old.holdings by.age wants.now) }
     {
         // Before the call this establishes the contents of the groups; after it, that no two claims conflict.
         self.locks.agree();
@@ -163,7 +164,8 @@ impl<J: GroupNames> Slice<J> {
         wants: &[Want],
     ) -> Option<Vec<Claim<J>>>
         requires { CanAsk J.warehouses self.old.home wants.now }
-        ensures granted { IfSome result (λ claims. GrantsIn by wants.now self.old claims.items self.new) }
+        ensures granted { IfSome result (λ claims.
+            GrantsIn by wants.now self.old claims.items self.new) }
         ensures waiters { self.new.waiters ≡ self.old.waiters }
         ensures kept { IfSome result (λ claims. SliceKeeps [] self.old claims.items self.new) }
         ensures none { IfNone result (self.new ≡ self.old) }
@@ -182,7 +184,8 @@ impl<J: GroupNames> Slice<J> {
     /// nothing changes then. Never allocates.
     pub fn next_grant(&mut self) -> Option<Turn<J>>
         ensures turn { IfSome result (λ turn. TakesTurnIn self.old turn self.new) }
-        ensures kept { IfSome result (λ turn. SliceKeeps [] (with_waiters self.new.waiters self.old) (claims_of_turn turn) self.new) }
+        ensures kept { IfSome result (λ turn.
+            SliceKeepsGranting (claims_of_turn turn) self.old self.new) }
         ensures none { IfNone result (All (StillWaits self.old.holdings) self.old.waiters) }
         ensures same { IfNone result (self.new ≡ self.old) }
     {
@@ -214,9 +217,9 @@ impl<J: GroupNames> Slice<J> {
         requires group { claim.old.group ≡ group.Warehouse w_id }
         requires exclusive { claim.old.mode ≡ Exclusive }
         requires there { IsTrue (map.contains_key self.old.tables.warehouses w_id) }
-        ensures claim { OnOk result (claim.new ≡ leaving claim.old (with_warehouse row claim.old.left)) }
-        ensures kept { OnOk result (SliceKeeps (claim.old ∷ []) self.old (claim.new ∷ []) self.new) }
-        ensures rows { OnOk result (self.new ≡ record self.old { tables = record self.old.tables { warehouses = map.insert self.old.tables.warehouses w_id row } }) }
+        ensures claim { OnOk result (ClaimLeaves (with_warehouse row) claim.old claim.new) }
+        ensures kept { OnOk result (SliceKeepsUnder claim.old self.old claim.new self.new) }
+        ensures rows { OnOk result (SlicePutsWarehouse w_id row self.old self.new) }
         ensures err { OnErr result ((self.new ≡ self.old) × (claim.new ≡ claim.old)) }
     {
         self.put(claim, PutWarehouse { w_id, row })
@@ -231,9 +234,9 @@ impl<J: GroupNames> Slice<J> {
         requires group { claim.old.group ≡ group.District key.w_id key.d_id }
         requires exclusive { claim.old.mode ≡ Exclusive }
         requires there { IsTrue (map.contains_key self.old.tables.districts key) }
-        ensures claim { OnOk result (claim.new ≡ leaving claim.old (with_district row claim.old.left)) }
-        ensures kept { OnOk result (SliceKeeps (claim.old ∷ []) self.old (claim.new ∷ []) self.new) }
-        ensures rows { OnOk result (self.new ≡ record self.old { tables = record self.old.tables { districts = map.insert self.old.tables.districts key row } }) }
+        ensures claim { OnOk result (ClaimLeaves (with_district row) claim.old claim.new) }
+        ensures kept { OnOk result (SliceKeepsUnder claim.old self.old claim.new self.new) }
+        ensures rows { OnOk result (SlicePutsDistrict key row self.old self.new) }
         ensures err { OnErr result ((self.new ≡ self.old) × (claim.new ≡ claim.old)) }
     {
         self.put(claim, PutDistrict { key, row })
@@ -245,12 +248,12 @@ impl<J: GroupNames> Slice<J> {
         key: StockKey,
         row: Stock,
     ) -> Result<(), NoMemory>
-        requires group { claim.old.group ≡ group.Stock key.w_id (key.i_id % 64) }
+        requires group { claim.old.group ≡ group.Stock key.w_id (key.i_id % STOCK_GROUPS) }
         requires exclusive { claim.old.mode ≡ Exclusive }
         requires there { IsTrue (map.contains_key self.old.tables.stocks key) }
-        ensures claim { OnOk result (claim.new ≡ leaving claim.old (with_stock key row claim.old.left)) }
-        ensures kept { OnOk result (SliceKeeps (claim.old ∷ []) self.old (claim.new ∷ []) self.new) }
-        ensures rows { OnOk result (self.new ≡ record self.old { tables = record self.old.tables { stocks = map.insert self.old.tables.stocks key row } }) }
+        ensures claim { OnOk result (ClaimLeaves (with_stock key row) claim.old claim.new) }
+        ensures kept { OnOk result (SliceKeepsUnder claim.old self.old claim.new self.new) }
+        ensures rows { OnOk result (SlicePutsStock key row self.old self.new) }
         ensures err { OnErr result ((self.new ≡ self.old) × (claim.new ≡ claim.old)) }
     {
         self.put(claim, PutStock { key, row })
@@ -267,9 +270,9 @@ impl<J: GroupNames> Slice<J> {
         requires exclusive { claim.old.mode ≡ Exclusive }
         requires there { IsTrue (map.contains_key self.old.tables.customers key) }
         requires names { AreNamesAt self.old.tables key row }
-        ensures claim { OnOk result (claim.new ≡ leaving claim.old (with_customer key row claim.old.left)) }
-        ensures kept { OnOk result (SliceKeeps (claim.old ∷ []) self.old (claim.new ∷ []) self.new) }
-        ensures rows { OnOk result (self.new ≡ record self.old { tables = record self.old.tables { customers = map.insert self.old.tables.customers key row } }) }
+        ensures claim { OnOk result (ClaimLeaves (with_customer key row) claim.old claim.new) }
+        ensures kept { OnOk result (SliceKeepsUnder claim.old self.old claim.new self.new) }
+        ensures rows { OnOk result (SlicePutsCustomer key row self.old self.new) }
         ensures err { OnErr result ((self.new ≡ self.old) × (claim.new ≡ claim.old)) }
     {
         self.put(claim, PutCustomer { key, row })
@@ -287,9 +290,9 @@ impl<J: GroupNames> Slice<J> {
         requires exclusive { claim.old.mode ≡ Exclusive }
         requires district { IsTrue (map.contains_key self.old.tables.districts key) }
         requires payer { IsTrue (has_customer self.old.tables.scale row.customer) }
-        ensures claim { OnOk result (claim.new ≡ leaving claim.old (with_payment_more row claim.old.left)) }
-        ensures kept { OnOk result (SliceKeeps (claim.old ∷ []) self.old (claim.new ∷ []) self.new) }
-        ensures rows { OnOk result (self.new ≡ record self.old { tables = record self.old.tables { histories = with_payment self.old.tables.histories key row } }) }
+        ensures claim { OnOk result (ClaimLeaves (with_payment_more row) claim.old claim.new) }
+        ensures kept { OnOk result (SliceKeepsUnder claim.old self.old claim.new self.new) }
+        ensures rows { OnOk result (SliceAddsPayment key row self.old self.new) }
         ensures err { OnErr result ((self.new ≡ self.old) × (claim.new ≡ claim.old)) }
     {
         self.put(claim, AddPayment { key, row })
@@ -308,12 +311,14 @@ impl<J: GroupNames> Slice<J> {
         requires home { IsClaimAt self.old.home claim.old }
         requires exclusive { claim.old.mode ≡ Exclusive }
         requires number { IsTrue (is_order_id key.o_id) }
-        requires customer { IsTrue (has_customer self.old.tables.scale (customer_of_order key order)) }
+        requires customer { IsTrue
+            (has_customer self.old.tables.scale (customer_of_order key order)) }
         requires few { length lines.items ≤ MOST_LINES }
         requires lines { IsTrue (list_all (is_line_within self.old.tables.scale) lines.items) }
-        ensures claim { OnOk result (claim.new ≡ leaving claim.old (with_order_more key order lines.items claim.old.left)) }
-        ensures kept { OnOk result (SliceKeeps (claim.old ∷ []) self.old (claim.new ∷ []) self.new) }
-        ensures rows { OnOk result (self.new ≡ record self.old { tables = with_order self.old.tables key order lines.items }) }
+        ensures claim { OnOk result
+            (ClaimLeaves (with_order_more key order lines.items) claim.old claim.new) }
+        ensures kept { OnOk result (SliceKeepsUnder claim.old self.old claim.new self.new) }
+        ensures rows { OnOk result (SliceAddsOrder key order lines.items self.old self.new) }
         ensures err { OnErr result ((self.new ≡ self.old) × (claim.new ≡ claim.old)) }
     {
         self.put(claim, AddOrder { key, order, lines })
@@ -331,9 +336,10 @@ impl<J: GroupNames> Slice<J> {
         requires group { claim.old.group ≡ group.Orders key.w_id key.d_id }
         requires exclusive { claim.old.mode ≡ Exclusive }
         requires there { IsTrue (map.contains_key self.old.tables.orders key) }
-        ensures claim { OnOk result (claim.new ≡ leaving claim.old (with_order_delivered key carrier moment claim.old.left)) }
-        ensures kept { OnOk result (SliceKeeps (claim.old ∷ []) self.old (claim.new ∷ []) self.new) }
-        ensures rows { OnOk result (self.new ≡ record self.old { tables = with_delivery self.old.tables key carrier moment }) }
+        ensures claim { OnOk result
+            (ClaimLeaves (with_order_delivered key carrier moment) claim.old claim.new) }
+        ensures kept { OnOk result (SliceKeepsUnder claim.old self.old claim.new self.new) }
+        ensures rows { OnOk result (SliceDeliversOrder key carrier moment self.old self.new) }
         ensures err { OnErr result ((self.new ≡ self.old) × (claim.new ≡ claim.old)) }
     {
         self.put(
@@ -352,9 +358,10 @@ impl<J: GroupNames> Slice<J> {
         requires group { claim.old.group ≡ S.group step }
         requires exclusive { claim.old.mode ≡ Exclusive }
         requires possible { S.is_possible step (part_in self.old) }
-        ensures claim { OnOk result (claim.new ≡ leaving claim.old (S.changed step claim.old.left)) }
-        ensures kept { OnOk result (SliceKeeps (claim.old ∷ []) self.old (claim.new ∷ []) self.new) }
-        ensures rows { OnOk result (self.new ≡ record self.old { tables = S.done step self.old.tables }) }
+        ensures claim { OnOk result (ClaimLeaves (S.changed step) claim.old claim.new) }
+        ensures kept { OnOk result (SliceKeepsUnder claim.old self.old claim.new self.new) }
+        ensures rows { OnOk result
+            (self.new ≡ record self.old { tables = S.done step self.old.tables }) }
         ensures err { OnErr result ((self.new ≡ self.old) × (claim.new ≡ claim.old)) }
     {
         // Called for their contracts: the rows are the warehouse's, and so are the groups of its lock table.
@@ -378,8 +385,9 @@ impl<J: GroupNames> Slice<J> {
         requires home { IsClaimAt self.old.home claim.old }
         requires exclusive { claim.old.mode ≡ Exclusive }
         ensures claim { claim.new ≡ leaving claim.old claim.old.back }
-        ensures kept { SliceKeeps (claim.old ∷ []) self.old (claim.new ∷ []) self.new }
-        ensures rows { ChangesOneGroup claim.old.group (λ before. claim.old.back) self.old.tables self.new.tables }
+        ensures kept { SliceKeepsUnder claim.old self.old claim.new self.new }
+        ensures rows { ChangesOneGroup
+            claim.old.group (λ before. claim.old.back) self.old.tables self.new.tables }
         ensures locks { HasLocksOf self.old self.new }
     {
         self.locks.agree();

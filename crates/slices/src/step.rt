@@ -29,7 +29,8 @@ pub(crate) trait Step: Drop {
         requires part { IsPart rows.old }
         requires possible { is_possible self rows.old }
         ensures tables { OnOk result (rows.new.tables ≡ done self rows.old.tables) }
-        ensures step { IfOk result (λ kept. IsStep (group self) (changed self) kept rows.old rows.new) }
+        ensures step { IfOk result (λ kept.
+            IsStep (group self) (changed self) kept rows.old rows.new) }
         ensures err { OnErr result (rows.new ≡ rows.old) };
 
     /// The step is possible only in a group of the warehouse.

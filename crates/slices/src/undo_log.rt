@@ -1,8 +1,7 @@
 //! The undo log of a group.
 ghost use Rattle.std.specs.Prelude.{◌≡◌, ◌<◌, ◌∷◌, ◌++◌, [], length, OnOk};
 ghost use Rattle.requests.specs.declared.group.Group.{Group as AnyGroup};
-ghost use Rattle.groups.specs.Content.{content};
-ghost use Rattle.slices.specs.Undo.{all_put_back_in, AreKept, ChangesGroup};
+ghost use Rattle.slices.specs.Undo.{AreKeptIn, AreUndone};
 
 use crate::indexed::IndexedRows;
 use crate::undo_record::{UndoRecord, put_all_back};
@@ -58,8 +57,8 @@ impl UndoLog {
 
     /// Undoes all steps, from the last to the first. No undo record is left.
     pub(crate) fn put_back(&mut self, rows: &mut IndexedRows)
-        requires kept { (group : AnyGroup) × AreKept rows.old.tables.scale group self.old.undo (content rows.old.tables group) }
-        ensures rows { (group : AnyGroup) → AreKept rows.old.tables.scale group self.old.undo (content rows.old.tables group) → ChangesGroup group (all_put_back_in self.old.undo) rows.old rows.new }
+        requires kept { (group : AnyGroup) × AreKeptIn rows.old group self.old.undo }
+        ensures rows { AreUndone self.old.undo rows.old rows.new }
         ensures none { self.new.undo ≡ [] }
     {
         put_all_back(&mut self.undo, rows);

@@ -29,8 +29,10 @@ pub(crate) enum UndoRecord {
 impl UndoRecord {
     /// Undoes the step.
     pub(crate) fn put_back(self, rows: &mut IndexedRows)
-        requires { spec.CanPutBack rows.old.tables.scale self (content rows.old.tables (spec.group_of_kept self)) }
-        ensures { spec.ChangesGroup (spec.group_of_kept self) (spec.put_back_in self) rows.old rows.new }
+        requires { spec.CanPutBack rows.old.tables.scale self
+            (content rows.old.tables (spec.group_of_kept self)) }
+        ensures { spec.ChangesGroup
+            (spec.group_of_kept self) (spec.put_back_in self) rows.old rows.new }
     {
         match self {
             UndoRecord::Warehouse(w_id, row) => {
@@ -58,8 +60,8 @@ impl UndoRecord {
 
 /// Undoes all steps of a group, from the last to the first. No undo record is left.
 pub(crate) fn put_all_back(undo: &mut Vec<UndoRecord>, rows: &mut IndexedRows)
-    requires { (group : AnyGroup) × spec.AreKept rows.old.tables.scale group undo.old.items (content rows.old.tables group) }
-    ensures rows { (group : AnyGroup) → spec.AreKept rows.old.tables.scale group undo.old.items (content rows.old.tables group) → spec.ChangesGroup group (spec.all_put_back_in undo.old.items) rows.old rows.new }
+    requires { (group : AnyGroup) × spec.AreKeptIn rows.old group undo.old.items }
+    ensures rows { spec.AreUndone undo.old.items rows.old rows.new }
     ensures none { undo.new.items ≡ [] }
 {
     while let Some(kept) = undo.pop() {

@@ -1,5 +1,5 @@
 -- The first fault of the records that are left, of what is listed.
-use Rattle.std.proofs.Common.{◌≡◌, ◌≤◌, ◌<◌, ◌^◌, ◌+◌, ◌-◌, ◌⊎◌, inl, inr, ℕ, List, [], ◌∷◌, length, Bool, true, false, Option, Some, None, refl, sym, ap, subst, ◌∙◌, arith}
+use Rattle.std.proofs.Common.{◌≡◌, ◌≤◌, ◌<◌, ◌^◌, ◌+◌, ◌-◌, inl, inr, ℕ, List, [], ◌∷◌, length, Bool, true, false, Option, Some, None, refl, sym, ap, subst, ◌∙◌, arith}
 use Rattle.files.specs.declared.fault.FaultKind.TheVariants as fault
 use Rattle.files.specs.declared.fault.FileFault.{FileFault}
 use Rattle.files.specs.declared.fault.FileError.{FileError}
@@ -11,7 +11,7 @@ use Rattle.files.specs.Columns.{at_end, take_word}
 use Rattle.files.specs.FieldRead.{FieldsView, fields_view}
 use Rattle.files.specs.Taken.{fault_of, fields_left}
 use Rattle.files.specs.FirstFault.{ReportsFault, ReportsKind, behind_end, fault_at}
-use Rattle.files.specs.Place.{FirstIsTooLong, HasLeft, HasLeftAfter, file_fault, record_fields, record_number}
+use Rattle.files.specs.Place.{FirstIsTooLong, HasLeft, IsErrorAt, IsNextNumber, NextLeftIsTooLong, TakesNext, file_fault, record_fields, record_number}
 use Rattle.files.specs.Span.{record_size}
 use Rattle.files.proofs.RecordsLeft.{long_record, next_row, no_row, not_advanced, short_record}
 use Rattle.terminals.specs.FirstFault.{ReachesEnd, after_listed, fields_fault, is_end, listing_fault}
@@ -72,12 +72,12 @@ pub record AtRecord {R : Type 0} (remaining : R → Option (List ℕ)) (take : �
   pub counted : length rest + 1 + counter ≤ length rows
 
 module _ {R : Type 0} (remaining : R → Option (List ℕ)) (take : ℕ → List ℕ → FieldsView → FieldsView) (rows : List (List (List ℕ))) (count : ℕ) (old new : Records R) (counter : ℕ) (few : length rows < 2 ^ 64 - 1)
-    (number : record_number old < 2 ^ 64 - 1 → record_number new ≡ record_number old + 1) where
+    (number : IsNextNumber (record_number old) (record_number new)) where
   module _ (g : GoesOnAt remaining take rows count old counter) where
     next_number : record_number new ≡ count + 1
     next_number = let n = g.number in let long = g.long in number (omega (arith, n, long, few)) ∙ ap (λ k. k + 1) n
 
-    pub at_record : (found : Bool) → found ≡ true → ((left : List (List (List ℕ))) → HasLeft remaining left old → HasLeftAfter remaining left found new) → AtRecord remaining take rows count new counter
+    pub at_record : (found : Bool) → found ≡ true → TakesNext remaining found old new → AtRecord remaining take rows count new counter
     at_record found is_found next =
         let row = next_row remaining g.left found new is_found (next g.left g.has_left) in
         let one : length g.left ≡ length row.0 + 1 = let e = ap length row.1 in omega (arith, e) in
@@ -93,15 +93,15 @@ module _ {R : Type 0} (remaining : R → Option (List ℕ)) (take : ℕ → List
         }
 
     -- no further record could be read
-    pub fault_advancing : (error : FileError) → (error ≡ NoMemory) ⊎ (error ≡ Failed (record_number new)) ⊎ (error ≡ file_fault fault.WrongShape (record_number new))
-        → (error ≡ file_fault fault.WrongShape (record_number new) → (left : List (List (List ℕ))) → HasLeft remaining left old → FirstIsTooLong left) → ReportsFault error (listing_fault take 0 rows)
+    pub fault_advancing : (error : FileError) → IsErrorAt fault.WrongShape (record_number new) error
+        → (error ≡ file_fault fault.WrongShape (record_number new) → NextLeftIsTooLong remaining old) → ReportsFault error (listing_fault take 0 rows)
     fault_advancing error faults long =
         not_advanced error (record_number new) (listing_fault take 0 rows) faults
         (λ e. g.fault ∙ long_found take count g.left (long e g.left g.has_left) ∙ ap (λ n. Some (fault_at fault.WrongShape n)) (sym next_number))
 
     -- there is none
     pub fault_at_last : (error : FileError) (found : Bool) → error ≡ file_fault fault.NoEnd (record_number new) → found ≡ false
-        → ((left : List (List (List ℕ))) → HasLeft remaining left old → HasLeftAfter remaining left found new) → ReportsFault error (listing_fault take 0 rows)
+        → TakesNext remaining found old new → ReportsFault error (listing_fault take 0 rows)
     fault_at_last error found is none next =
         let empty = no_row remaining g.left found new none (next g.left g.has_left) in
         subst (λ e. ReportsFault e (listing_fault take 0 rows)) (sym is)
@@ -114,7 +114,7 @@ module _ {R : Type 0} (remaining : R → Option (List ℕ)) (take : ℕ → List
   more_left (row ∷ more) left none long = ap (λ n. Some (fault_at fault.AfterEnd n)) (sym (number (omega (arith, long, few))))
 
   -- the end record was not the last, or it couldn't be seen whether it is
-  pub fault_at_end : (e : ReachesEnd remaining take rows old) (error : FileError) → (error ≡ NoMemory) ⊎ (error ≡ Failed (record_number new)) ⊎ (error ≡ file_fault fault.AfterEnd (record_number new))
+  pub fault_at_end : (e : ReachesEnd remaining take rows old) (error : FileError) → IsErrorAt fault.AfterEnd (record_number new) error
       → (error ≡ file_fault fault.AfterEnd (record_number new) → HasLeft remaining [] old → ⊥) → ReportsFault error (listing_fault take 0 rows)
   fault_at_end e error (inl is) none = subst (λ x. ReportsFault x (listing_fault take 0 rows)) (sym is) tt
   fault_at_end e error (inr (inl is)) none = subst (λ x. ReportsFault x (listing_fault take 0 rows)) (sym is) tt

@@ -24,6 +24,7 @@ use Rattle.history.specs.declared.event.Event.TheVariants.{Submit, Order, Take, 
 use Rattle.history.specs.declared.schedule.Scheduled.{Scheduled}
 use Rattle.history.specs.declared.schedule.Scheduled.TheVariants as scheduled
 use Rattle.range_moves.specs.declared.order.MoveOrder.{MoveOrder}
+use Rattle.terminals.specs.declared.new_order.TheConstants.{MOST_RECORD_LINES}
 use Rattle.terminals.specs.FirstFault.{log_fault, moves_fault, schedule_fault, script_fault}
 use Rattle.terminals.specs.LogRecord.{IsLog}
 use Rattle.terminals.specs.Moves.{AreMoves}
@@ -42,7 +43,7 @@ IsNamed (LastName last) = IsText 16 last
 
 -- Further ranges of a request's type, and the limit on the lines of a New-Order's record.
 abbrev pub Fits : Request → Type 0
-Fits (request.NewOrder n) = IsMoment n.moment × (length n.lines ≤ 64)
+Fits (request.NewOrder n) = IsMoment n.moment × (length n.lines ≤ MOST_RECORD_LINES)
 Fits (request.Payment p) = IsNamed p.customer × IsMoment p.moment
 Fits (request.OrderStatus o) = IsNamed o.customer
 Fits (request.Delivery d) = IsMoment d.moment
@@ -83,7 +84,7 @@ FitsStatusOrder order =
 abbrev pub FitsShown : Shown → Type 0
 FitsShown (shown.NewOrder n) =
     IsText 16 n.last × IsBetween 0 9999 n.discount × IsBetween 0 9999 n.warehouse_tax × IsBetween 0 9999 n.district_tax × IsBetween 1 9999999 n.o_id
-    × IsMoment n.entry_d × IsMoney n.total × (length n.lines ≤ 64) × AllByRecursion FitsShownLine n.lines
+    × IsMoment n.entry_d × IsMoney n.total × (length n.lines ≤ MOST_RECORD_LINES) × AllByRecursion FitsShownLine n.lines
 FitsShown (shown.Payment p) =
     IsWord p.c_id × IsText 16 p.first × IsText 2 p.middle × IsText 16 p.last × IsBetween 0 9999 p.discount × IsMoney p.balance × IsText 200 p.data
 FitsShown (shown.OrderStatus o) =

@@ -5,6 +5,7 @@ use Rattle.files.specs.declared.fault.FaultKind.{FaultKind}
 use Rattle.files.specs.declared.fault.FaultKind.TheVariants.{NotOfKind, OutOfRange}
 use Rattle.files.specs.Columns.{Cents, Column, Credit, MaybeMoment, MaybeWhole, Moment, Spelt, Whole, Words, take_word}
 use Rattle.files.specs.FieldRead.{FieldsView}
+use Rattle.terminals.specs.declared.new_order.TheConstants.{MOST_RECORD_LINES}
 use Rattle.terminals.specs.RequestColumns.{number, repeated, after_known}
 
 -- A rate in ten-thousandths.
@@ -21,9 +22,9 @@ abbrev pub shown_columns : List Column
 shown_columns =
     number ∷ number ∷ Words 24 ∷ Whole 1 10 ∷ Whole 10 100 ∷ Spelt brand_fault ∷ Whole 1 99999 ∷ Whole 0 999999 ∷ []
 
--- The number of lines of a New-Order's reply in this many fields: at most 64.
+-- The number of lines of a New-Order's reply in this many fields: at most MOST_RECORD_LINES.
 abbrev pub shown_in : ℕ → ℕ
-shown_in left = min (left / 8) 64
+shown_in left = min (left / 8) MOST_RECORD_LINES
 
 -- What a New-Order shows: C_LAST, C_CREDIT, the discount and the taxes, O_ID, O_ENTRY_D, the total and the lines.
 abbrev pub new_order_shown : ℕ → List Column

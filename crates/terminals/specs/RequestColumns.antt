@@ -8,6 +8,7 @@ use Rattle.files.specs.FieldRead.{FieldsView, whole_read}
 use Rattle.files.specs.Word.{text_read}
 use Rattle.requests.specs.declared.request.Request.{Request}
 use Rattle.requests.specs.declared.request.Request.TheVariants.{NewOrder, Payment, OrderStatus, Delivery, StockLevel}
+use Rattle.terminals.specs.declared.new_order.TheConstants.{MOST_RECORD_LINES}
 
 -- A number of 32 bits.
 abbrev pub number : Column
@@ -37,9 +38,9 @@ abbrev pub line_columns : List Column
 line_columns = number ∷ number ∷ number ∷ []
 
 -- The number of lines of a New-Order that should have `count` fields, including its letter, if `left` fields are left for
--- lines: at most 64.
+-- lines: at most MOST_RECORD_LINES.
 abbrev pub lines_in : ℕ → ℕ → ℕ
-lines_in count left = min (min ((count - 5) / 3) (left / 3)) 64
+lines_in count left = min (min ((count - 5) / 3) (left / 3)) MOST_RECORD_LINES
 
 -- The columns after the letter of each kind.
 abbrev pub new_order_columns : ℕ → ℕ → List Column

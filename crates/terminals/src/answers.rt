@@ -1,7 +1,8 @@
-ghost use Rattle.std.specs.Prelude.{◌≡◌, ◌<◌, ℕ, List, ◌++◌, length, IfOk, IfErr, OnErr, OnOk};
+ghost use Rattle.std.specs.Prelude.{◌≡◌, ◌<◌, ◌++◌, length, IfOk, IfErr, OnErr, OnOk};
 ghost use Rattle.csv.specs.Records.{fields_of};
 ghost use Rattle.files.specs.Failure.{IsOfWriting};
 ghost use Rattle.files.specs.Sending.{BeginsToWrite, OfFirst, Writes};
+ghost use Rattle.files.specs.Written.{AddsFields};
 ghost use Rattle.requests.specs.declared.answer.Answer.TheVariants.{Done, Refused};
 ghost use Rattle.terminals.specs.Answers.{IsAnswer, IsAnswerIn, AreAnswers, AreInLog, refusal_fields};
 
@@ -42,8 +43,10 @@ pub fn write_answers<W: Write>(
     log: &[Entry],
 ) -> Result<(), FileError>
     requires { AreInLog log.now answers.now }
-    ensures written { OnOk result (Writes (W.contents sink.old) (W.contents sink.new) (AreAnswers log.now session answers.now)) }
-    ensures begun { OnErr result (BeginsToWrite (W.contents sink.old) (W.contents sink.new) (OfFirst (AreAnswers log.now session) answers.now)) }
+    ensures written { OnOk result (Writes (W.contents sink.old) (W.contents sink.new)
+        (AreAnswers log.now session answers.now)) }
+    ensures begun { OnErr result (BeginsToWrite (W.contents sink.old) (W.contents sink.new)
+        (OfFirst (AreAnswers log.now session) answers.now)) }
     ensures failed { IfErr result IsOfWriting }
 {
     let mut writer = RecordWriter::new(alloc);
@@ -65,7 +68,8 @@ pub fn put_answer_in(
     log: &[Entry],
 ) -> Result<(), NoMemory>
     requires { IfOk answer.now (λ place. place < length log.now) }
-    ensures { OnOk result ((fields : List (List ℕ)) × IsAnswerIn log.now session number answer.now fields × (row.new ≡ row.old ++ fields)) }
+    ensures { OnOk result
+        (AddsFields row.old row.new (IsAnswerIn log.now session number answer.now)) }
 {
     match answer {
         Ok(place) => put_done(row, session, number, *place, &log[*place as usize].reply),
@@ -80,7 +84,7 @@ fn put_answer(
     number: u64,
     answer: &Answer,
 ) -> Result<(), NoMemory>
-    ensures { OnOk result ((fields : List (List ℕ)) × IsAnswer session number answer.now fields × (row.new ≡ row.old ++ fields)) }
+    ensures { OnOk result (AddsFields row.old row.new (IsAnswer session number answer.now)) }
 {
     match answer {
         Answer::Done { place, reply } => put_done(row, session, number, *place, reply),
@@ -96,7 +100,8 @@ fn put_done(
     place: u32,
     reply: &Reply,
 ) -> Result<(), NoMemory>
-    ensures { OnOk result ((fields : List (List ℕ)) × IsAnswer session number (Done place reply.now) fields × (row.new ≡ row.old ++ fields)) }
+    ensures { OnOk result
+        (AddsFields row.old row.new (IsAnswer session number (Done place reply.now))) }
 {
     row.push_number(u64::from(session))?;
     row.push_number(number)?;
@@ -112,7 +117,7 @@ fn put_refused(
     number: u64,
     refusal: Refusal,
 ) -> Result<(), NoMemory>
-    ensures { OnOk result ((fields : List (List ℕ)) × IsAnswer session number (Refused refusal) fields × (row.new ≡ row.old ++ fields)) }
+    ensures { OnOk result (AddsFields row.old row.new (IsAnswer session number (Refused refusal))) }
 {
     row.push_number(u64::from(session))?;
     row.push_number(number)?;

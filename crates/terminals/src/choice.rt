@@ -1,8 +1,7 @@
 ghost use Rattle.std.specs.Prelude.{◌≡◌, ◌++◌, ◌∷◌, [], drop, false, OnOk, IfOk};
-ghost use Rattle.files.specs.Columns.{take_column};
-ghost use Rattle.files.specs.FieldRead.{fields_view};
 ghost use Rattle.files.specs.Taken.{fields_left, TakesWell};
 ghost use Rattle.files.specs.Word.{text_read};
+ghost use Rattle.files.specs.Columns.{TakesColumn};
 ghost use Rattle.requests.specs.LastName.{begins_with_hash};
 ghost use Rattle.terminals.specs.ChoiceText.{choice_text};
 ghost use Rattle.terminals.specs.RequestColumns.{choice, choice_fault, fault_in};
@@ -19,7 +18,7 @@ use schema::NoMemory;
 pub fn take(fields: &mut Fields) -> Choice
     ensures left { fields_left fields.new ≡ drop 1 (fields_left fields.old) }
     ensures taken { TakesWell fields.old fields.new (choice_text result) }
-    ensures column { fields_view fields.new ≡ take_column choice (fields_view fields.old) }
+    ensures column { TakesColumn choice fields.old fields.new }
 {
     match parse(fields.word()) {
         Ok(choice) => choice,
@@ -61,7 +60,8 @@ fn parse(field: &str) -> Result<Choice, FaultKind>
 
 fn parse_name(field: &str) -> Result<Choice, FaultKind>
     ensures value { IfOk result (λ choice. choice_text choice ≡ field.now) }
-    ensures fault { begins_with_hash field.now ≡ false → fault_in result ≡ fault_in (text_read 16 field.now) }
+    ensures fault { begins_with_hash field.now ≡ false
+        → fault_in result ≡ fault_in (text_read 16 field.now) }
 {
     match LastName::checked_new(parse_text(field)?) {
         Some(name) => Ok(Choice::LastName(name)),

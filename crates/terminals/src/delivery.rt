@@ -1,8 +1,8 @@
 //! The fields of a Delivery and of its reply.
-ghost use Rattle.std.specs.Prelude.{◌≡◌, ℕ, List, [], ◌∷◌, ◌++◌, map, OnOk, codes};
-ghost use Rattle.files.specs.Columns.{MaybeWhole, take_column, take_columns};
-ghost use Rattle.files.specs.FieldRead.{fields_view};
+ghost use Rattle.std.specs.Prelude.{◌≡◌, [], ◌∷◌, ◌++◌, map, OnOk, codes};
+ghost use Rattle.files.specs.Columns.{MaybeWhole, TakesColumn, TakesColumns};
 ghost use Rattle.files.specs.Taken.{TakesWell, Takes};
+ghost use Rattle.files.specs.Written.{AddsFields};
 ghost use Rattle.terminals.specs.ReplyColumns.{delivery_shown};
 ghost use Rattle.terminals.specs.RequestColumns.{delivery_columns, repeated};
 ghost use Rattle.terminals.specs.Nullable.{nullable_text};
@@ -18,7 +18,7 @@ pub const FIELDS: u64 = 4;
 /// Takes the fields of a Delivery after its letter.
 pub fn take(fields: &mut Fields) -> Delivery
     ensures taken { Takes fields.old fields.new (λ said. IsDelivery result (codes "D" ∷ said)) }
-    ensures columns { fields_view fields.new ≡ take_columns delivery_columns (fields_view fields.old) }
+    ensures columns { TakesColumns delivery_columns fields.old fields.new }
 {
     Delivery {
         w_id: fields.whole(0, u32::MAX),
@@ -29,7 +29,7 @@ pub fn take(fields: &mut Fields) -> Delivery
 
 /// Adds the fields of a Delivery, including its letter.
 pub fn put(row: &mut NewRecord, asked: &Delivery) -> Result<(), NoMemory>
-    ensures { OnOk result ((fields : List (List ℕ)) × IsDelivery asked.now fields × (row.new ≡ row.old ++ fields)) }
+    ensures { OnOk result (AddsFields row.old row.new (IsDelivery asked.now)) }
 {
     row.push("D")?;
     row.push_number(u64::from(asked.w_id))?;
@@ -39,8 +39,9 @@ pub fn put(row: &mut NewRecord, asked: &Delivery) -> Result<(), NoMemory>
 
 /// Takes the fields of the reply to a Delivery after its letter.
 pub fn take_reply(fields: &mut Fields) -> DeliveryReply
-    ensures taken { Takes fields.old fields.new (λ said. codes "D" ∷ said ≡ delivery_reply_fields result) }
-    ensures columns { fields_view fields.new ≡ take_columns delivery_shown (fields_view fields.old) }
+    ensures taken { Takes fields.old fields.new
+        (λ said. codes "D" ∷ said ≡ delivery_reply_fields result) }
+    ensures columns { TakesColumns delivery_shown fields.old fields.new }
 {
     DeliveryReply {
         carrier_id: fields.whole(1, 10),
@@ -51,7 +52,7 @@ pub fn take_reply(fields: &mut Fields) -> DeliveryReply
 // Takes the orders of the ten districts.
 fn take_orders(fields: &mut Fields) -> [Option<u32>; 10]
     ensures taken { Takes fields.old fields.new (λ said. said ≡ map nullable_text result) }
-    ensures columns { fields_view fields.new ≡ take_columns (repeated 10 (MaybeWhole 1 9999999 ∷ [])) (fields_view fields.old) }
+    ensures columns { TakesColumns (repeated 10 (MaybeWhole 1 9999999 ∷ [])) fields.old fields.new }
 {
     let mut orders = [None; 10];
     for district in 0..10 {
@@ -63,7 +64,7 @@ fn take_orders(fields: &mut Fields) -> [Option<u32>; 10]
 // Takes the number of an order, 1 to 9,999,999. Returns `None` for the empty field.
 fn take_order(fields: &mut Fields) -> Option<u32>
     ensures taken { TakesWell fields.old fields.new (nullable_text result) }
-    ensures column { fields_view fields.new ≡ take_column (MaybeWhole 1 9999999) (fields_view fields.old) }
+    ensures column { TakesColumn (MaybeWhole 1 9999999) fields.old fields.new }
 {
     let number: Option<Ranged<1, 9_999_999>> = fields.optional_ranged();
     Some(number?.get())

@@ -1,10 +1,11 @@
-ghost use Rattle.std.specs.Prelude.{◌≡◌, ◌≢◌, ◌<◌, ◌-◌, ◌^◌, ℕ, List, [], ◌∷◌, ◌++◌, length, Some, None, IfOk, IfErr, IfSome, IfNone, OnErr, OnOk, MatchResult};
+ghost use Rattle.std.specs.Prelude.{◌≡◌, ◌≢◌, ◌<◌, ◌-◌, ◌^◌, ℕ, List, [], ◌∷◌, length, None, IfOk, IfErr, IfSome, IfNone, OnErr, OnOk, MatchResult};
 ghost use Rattle.files.specs.FieldRead.{FieldsView, fields_view};
-ghost use Rattle.files.specs.FirstFault.{ReportsFault};
-ghost use Rattle.files.specs.Failure.{IsOfText, IsOfWriting};
-ghost use Rattle.files.specs.Place.{input, HasLeft, HasRead, IsCsv, record_fields, record_number};
+ghost use Rattle.files.specs.FirstFault.{ReportsFault, ReportsFirst};
+ghost use Rattle.files.specs.Failure.{IsOfText, IsOfWriting, LastsThrough};
+ghost use Rattle.files.specs.Place.{input, HasLeft, HasRead, record_fields, record_number, Gives, ForRecords, Rows};
 ghost use Rattle.files.specs.Taken.{fault_of, Takes};
 ghost use Rattle.files.specs.Sending.{BeginsToWrite, Writes};
+ghost use Rattle.files.specs.Written.{AddsFields};
 ghost use Rattle.terminals.specs.FirstFault.{IsReadAs, ReachesEnd, listing_fault};
 ghost use Rattle.terminals.specs.Listing.{BeginsListing, IsListing, end_fields};
 
@@ -29,9 +30,11 @@ pub trait Listed: Drop {
         first: &str,
         fields: &mut Fields,
     ) -> Result<Option<Self>, NoMemory>
-        ensures taken { IfOk result (λ taken. IfSome taken (λ item. Takes fields.old fields.new (λ said. is_record place item (first.now ∷ said)))) }
+        ensures taken { IfOk result (λ taken. IfSome taken (λ item.
+            Takes fields.old fields.new (λ said. is_record place item (first.now ∷ said)))) }
         ensures unknown { IfOk result (λ taken. IfNone taken (fault_of fields.new ≢ None)) }
-        ensures columns { OnOk result (fields_view fields.new ≡ after place first.now (fields_view fields.old)) };
+        ensures columns { OnOk result
+            (fields_view fields.new ≡ after place first.now (fields_view fields.old)) };
 }
 
 /// Reads the items of `source`, one from each record before the end record.
@@ -39,9 +42,10 @@ pub trait Listed: Drop {
 /// A fault is returned with its record: that of the first faulty record, and of its faults the least. Nothing else is returned
 /// then. NoMemory and Failed are as for `Records`. Memory is allocated item by item.
 pub fn read<T: Listed, R: Input + Drop>(alloc: Global, source: R) -> Result<Vec<T>, FileError>
-    ensures listed { IfOk result (λ listed. (text : List ℕ) → R.remaining source ≡ Some text → (rows : List (List (List ℕ))) × IsCsv text rows × IsListing T.is_record listed.items rows) }
-    ensures first { (text : List ℕ) (rows : List (List (List ℕ))) → R.remaining source ≡ Some text → IsCsv text rows → length rows < 2 ^ 64 - 1
-        → MatchResult result (λ _. listing_fault T.after 0 rows ≡ None) (λ error. ReportsFault error (listing_fault T.after 0 rows)) }
+    ensures listed { IfOk result (λ listed.
+        Gives (R.remaining source) (IsListing T.is_record listed.items)) }
+    ensures first { ForRecords (R.remaining source) (λ rows. length rows < 2 ^ 64 - 1
+        → ReportsFirst result (listing_fault T.after 0 rows)) }
     ensures lasts { R.lasts source → IfErr result IsOfText }
 {
     let mut records = Records::new(alloc, source);
@@ -55,11 +59,14 @@ fn read_items<T: Listed, R: Input + Drop>(
     alloc: Global,
     records: &mut Records<R>,
 ) -> Result<Vec<T>, FileError>
-    ensures listed { IfOk result (λ listed. (text : List ℕ) → HasRead R.remaining text [] records.old
-        → (rows : List (List (List ℕ))) × HasRead R.remaining text rows records.new × IsListing T.is_record listed.items rows) }
-    ensures first { (rows : List (List (List ℕ))) → length rows < 2 ^ 64 - 1 → record_number records.old ≡ 0 → HasLeft R.remaining rows records.old
-        → MatchResult result (λ _. ReachesEnd R.remaining T.after rows records.new) (λ error. ReportsFault error (listing_fault T.after 0 rows)) }
-    ensures lasts { R.lasts (input records.old) → MatchResult result (λ _. R.lasts (input records.new)) IsOfText }
+    ensures listed { IfOk result (λ listed. (text : List ℕ)
+        → HasRead R.remaining text [] records.old → (rows : Rows)
+        × HasRead R.remaining text rows records.new × IsListing T.is_record listed.items rows) }
+    ensures first { (rows : Rows) → length rows < 2 ^ 64 - 1 → record_number records.old ≡ 0
+        → HasLeft R.remaining rows records.old
+        → MatchResult result (λ _. ReachesEnd R.remaining T.after rows records.new)
+        (λ error. ReportsFault error (listing_fault T.after 0 rows)) }
+    ensures lasts { LastsThrough R.lasts (input records.old) (input records.new) result IsOfText }
 {
     let mut items = Vec::new(alloc);
     for _ in 0..u64::MAX {
@@ -84,9 +91,11 @@ fn parse<T: Listed, R: Input + Drop>(
     records: &Records<R>,
     count: u64,
 ) -> Result<Option<T>, FileError>
-    ensures item { IfOk result (λ said. IfSome said (λ item. T.is_record count item (record_fields records.now))) }
+    ensures item { IfOk result (λ said.
+        IfSome said (λ item. T.is_record count item (record_fields records.now))) }
     ensures end { IfOk result (λ said. IfNone said (record_fields records.now ≡ end_fields count)) }
-    ensures exact { IsReadAs T.after count (record_fields records.now) (record_number records.now) result }
+    ensures exact { IsReadAs T.after count
+        (record_fields records.now) (record_number records.now) result }
     ensures of_text { IfErr result IsOfText }
 {
     let mut fields = records.fields();
@@ -110,7 +119,7 @@ pub trait WrittenRecord {
 
     /// Adds the fields of the record at this place, from 0.
     fn put(&self, place: u64, row: &mut NewRecord) -> Result<(), NoMemory>
-        ensures { OnOk result ((fields : List (List ℕ)) × is_record place self.now fields × (row.new ≡ row.old ++ fields)) };
+        ensures { OnOk result (AddsFields row.old row.new (is_record place self.now)) };
 }
 
 /// Writes the record of each item, and then the end record, to the sink. Errors are as for `RecordWriter`. After an error the
@@ -120,8 +129,10 @@ pub fn write<T: WrittenRecord, W: Write>(
     sink: &mut W,
     items: &[T],
 ) -> Result<(), FileError>
-    ensures written { OnOk result (Writes (W.contents sink.old) (W.contents sink.new) (IsListing T.is_record items.now)) }
-    ensures begun { OnErr result (BeginsToWrite (W.contents sink.old) (W.contents sink.new) (BeginsListing T.is_record items.now)) }
+    ensures written { OnOk result (Writes (W.contents sink.old) (W.contents sink.new)
+        (IsListing T.is_record items.now)) }
+    ensures begun { OnErr result (BeginsToWrite (W.contents sink.old) (W.contents sink.new)
+        (BeginsListing T.is_record items.now)) }
     ensures failed { IfErr result IsOfWriting }
 {
     let mut writer = RecordWriter::new(alloc);

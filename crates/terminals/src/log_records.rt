@@ -1,13 +1,14 @@
-ghost use Rattle.std.specs.Prelude.{◌≡◌, ◌≢◌, ◌<◌, ◌-◌, ◌^◌, ℕ, List, ◌++◌, length, Some, None, IfOk, IfErr, IfSome, IfNone, OnErr, OnOk, MatchResult};
+ghost use Rattle.std.specs.Prelude.{◌≡◌, ◌≢◌, ◌<◌, ◌-◌, ◌^◌, length, None, IfOk, IfErr, IfSome, IfNone, OnErr, OnOk};
 ghost use Rattle.std.specs.Fmt.{decimal};
 ghost use Rattle.csv.specs.Records.{fields_of};
 ghost use Rattle.files.specs.Columns.{found};
 ghost use Rattle.files.specs.FieldRead.{fields_view, whole_read};
 ghost use Rattle.files.specs.Failure.{IsOfText, IsOfWriting};
-ghost use Rattle.files.specs.FirstFault.{ReportsFault};
-ghost use Rattle.files.specs.Place.{IsCsv};
 ghost use Rattle.files.specs.Taken.{fields_left, fault_of, TakesWell, Takes};
 ghost use Rattle.files.specs.Sending.{BeginsToWrite, Writes};
+ghost use Rattle.files.specs.Written.{AddsFields};
+ghost use Rattle.files.specs.Place.{Gives, ForRecords};
+ghost use Rattle.files.specs.FirstFault.{ReportsFirst};
 ghost use Rattle.terminals.specs.FirstFault.{after_entry, log_fault, other_place, pass_over, IsCounted, IsAsked};
 ghost use Rattle.terminals.specs.LogRecord.{BeginsLog, IsLog, IsLogRecord};
 ghost use Rattle.terminals.specs.RequestFields.{IsRequest};
@@ -33,9 +34,9 @@ use std::io::Write;
 /// then, with the number of the current record. Neither error says anything about the text, and nothing else is returned with
 /// it. After an error it is unspecified how far `source` was read. Memory is allocated entry by entry.
 pub fn read_log<R: Input + Drop>(alloc: Global, source: R) -> Result<Vec<Entry>, FileError>
-    ensures log { IfOk result (λ entries. (text : List ℕ) → R.remaining source ≡ Some text → (rows : List (List (List ℕ))) × IsCsv text rows × IsLog entries.items rows) }
-    ensures first { (text : List ℕ) (rows : List (List (List ℕ))) → R.remaining source ≡ Some text → IsCsv text rows → length rows < 2 ^ 64 - 1
-        → MatchResult result (λ _. log_fault rows ≡ None) (λ error. ReportsFault error (log_fault rows)) }
+    ensures log { IfOk result (λ entries. Gives (R.remaining source) (IsLog entries.items)) }
+    ensures first { ForRecords (R.remaining source) (λ rows. length rows < 2 ^ 64 - 1
+        → ReportsFirst result (log_fault rows)) }
     ensures lasts { R.lasts source → IfErr result IsOfText }
 {
     listing::read(alloc, source)
@@ -77,9 +78,11 @@ impl Listed for Entry {
 
 // Records a fault if the field is not this place: `OutOfOrder` if it is another number.
 fn expect_place(place: u64, field: &str, fields: &mut Fields)
-    ensures place { fault_of fields.new ≡ None → (fault_of fields.old ≡ None) × (field.now ≡ decimal place) }
+    ensures place { fault_of fields.new ≡ None
+        → (fault_of fields.old ≡ None) × (field.now ≡ decimal place) }
     ensures left { fields_left fields.new ≡ fields_left fields.old }
-    ensures fault { fields_view fields.new ≡ found (other_place place (whole_read 0 4294967295 field.now)) (fields_view fields.old) }
+    ensures fault { fields_view fields.new
+        ≡ found (other_place place (whole_read 0 4294967295 field.now)) (fields_view fields.old) }
 {
     match parse_whole(field, 0, u64::from(u32::MAX)) {
         Ok(number) => {
@@ -124,9 +127,11 @@ fn pass_over_rest(fields: &mut Fields)
 // Takes the fields of a request, including its letter. If their number is not `count`, the fault is `WrongShape`. Returns
 // `None` if the letter is unknown, with the same fault.
 fn take_request(alloc: Global, count: u64, fields: &mut Fields) -> Result<Option<Request>, NoMemory>
-    ensures taken { IfOk result (λ taken. IfSome taken (λ request. Takes fields.old fields.new (λ asked. IsRequest request asked × (length asked ≡ count)))) }
+    ensures taken { IfOk result (λ taken. IfSome taken (λ request. Takes fields.old fields.new
+        (λ asked. IsRequest request asked × (length asked ≡ count)))) }
     ensures unknown { IfOk result (λ taken. IfNone taken (fault_of fields.new ≢ None)) }
-    ensures asked { IfOk result (λ taken. IsAsked taken count (fields_view fields.old) (fields_view fields.new)) }
+    ensures asked { IfOk result (λ taken.
+        IsAsked taken count (fields_view fields.old) (fields_view fields.new)) }
 {
     let letter = fields.word();
     let Some(request) = request::take(alloc, count, letter, fields)? else {
@@ -153,8 +158,10 @@ pub fn log_record(alloc: Global, place: u32, entry: &Entry) -> Result<ByteRecord
 /// record; because records are buffered, what was not written may be of an earlier record. After an error the sink has got a
 /// beginning of the text.
 pub fn write_log<W: Write>(alloc: Global, sink: &mut W, entries: &[Entry]) -> Result<(), FileError>
-    ensures written { OnOk result (Writes (W.contents sink.old) (W.contents sink.new) (IsLog entries.now)) }
-    ensures begun { OnErr result (BeginsToWrite (W.contents sink.old) (W.contents sink.new) (BeginsLog entries.now)) }
+    ensures written { OnOk result (Writes (W.contents sink.old) (W.contents sink.new)
+        (IsLog entries.now)) }
+    ensures begun { OnErr result (BeginsToWrite (W.contents sink.old) (W.contents sink.new)
+        (BeginsLog entries.now)) }
     ensures failed { IfErr result IsOfWriting }
 {
     listing::write(alloc, sink, entries)
@@ -170,7 +177,7 @@ impl WrittenRecord for Entry {
 
 // Adds the fields of an entry.
 fn put_entry(row: &mut NewRecord, place: u64, entry: &Entry) -> Result<(), NoMemory>
-    ensures { OnOk result ((fields : List (List ℕ)) × IsLogRecord place entry.now fields × (row.new ≡ row.old ++ fields)) }
+    ensures { OnOk result (AddsFields row.old row.new (IsLogRecord place entry.now)) }
 {
     row.push_number(place)?;
     row.push_number(u64::from(entry.session))?;

@@ -26,9 +26,11 @@ pub fn take_order(lo: &str, fields: &mut Fields) -> MoveOrder
 
 // The number in a field that was taken. After a fault, which is recorded, 0.
 fn read_number(field: &str, fields: &mut Fields) -> u32
-    ensures read { fault_of fields.new ≡ None → (fault_of fields.old ≡ None) × (field.now ≡ decimal result) }
+    ensures read { fault_of fields.new ≡ None
+        → (fault_of fields.old ≡ None) × (field.now ≡ decimal result) }
     ensures left { fields_left fields.new ≡ fields_left fields.old }
-    ensures fault { fields_view fields.new ≡ found (fault_in (whole_read 0 4294967295 field.now)) (fields_view fields.old) }
+    ensures fault { fields_view fields.new
+        ≡ found (fault_in (whole_read 0 4294967295 field.now)) (fields_view fields.old) }
 {
     match parse_whole(field, 0, u64::from(u32::MAX)) {
         Ok(number) => number as u32,

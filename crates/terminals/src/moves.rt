@@ -1,7 +1,7 @@
-ghost use Rattle.std.specs.Prelude.{◌≡◌, ◌<◌, ◌-◌, ◌^◌, ℕ, List, length, Some, None, IfOk, IfErr, MatchResult};
+ghost use Rattle.std.specs.Prelude.{◌<◌, ◌-◌, ◌^◌, length, IfOk, IfErr};
 ghost use Rattle.files.specs.Failure.{IsOfText};
-ghost use Rattle.files.specs.FirstFault.{ReportsFault};
-ghost use Rattle.files.specs.Place.{IsCsv};
+ghost use Rattle.files.specs.Place.{Gives, ForRecords};
+ghost use Rattle.files.specs.FirstFault.{ReportsFirst};
 ghost use Rattle.terminals.specs.FirstFault.{after_move, moves_fault};
 ghost use Rattle.terminals.specs.Moves.{AreMoves, IsMoveRecord};
 
@@ -22,9 +22,9 @@ use std::alloc::Global;
 /// then, with the number of the current record. Neither error says anything about the text, and nothing else is returned with
 /// it. After an error it is unspecified how far `source` was read. Memory is allocated record by record.
 pub fn read_moves<R: Input + Drop>(alloc: Global, source: R) -> Result<Vec<MoveOrder>, FileError>
-    ensures moves { IfOk result (λ moves. (text : List ℕ) → R.remaining source ≡ Some text → (rows : List (List (List ℕ))) × IsCsv text rows × AreMoves moves.items rows) }
-    ensures first { (text : List ℕ) (rows : List (List (List ℕ))) → R.remaining source ≡ Some text → IsCsv text rows → length rows < 2 ^ 64 - 1
-        → MatchResult result (λ _. moves_fault rows ≡ None) (λ error. ReportsFault error (moves_fault rows)) }
+    ensures moves { IfOk result (λ moves. Gives (R.remaining source) (AreMoves moves.items)) }
+    ensures first { ForRecords (R.remaining source) (λ rows. length rows < 2 ^ 64 - 1
+        → ReportsFirst result (moves_fault rows)) }
     ensures lasts { R.lasts source → IfErr result IsOfText }
 {
     listing::read(alloc, source)

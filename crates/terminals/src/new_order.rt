@@ -1,8 +1,8 @@
 //! The fields of a New-Order and of its reply.
 ghost use Rattle.std.specs.Prelude.{◌≡◌, ◌-◌, ◌/◌, ◌+◌, ◌*◌, min, ℕ, List, ◌∷◌, ◌++◌, length, OnOk, IfOk, codes, flat_map};
-ghost use Rattle.files.specs.Columns.{Spelt, take_column, take_columns};
-ghost use Rattle.files.specs.FieldRead.{fields_view};
+ghost use Rattle.files.specs.Columns.{Spelt, TakesColumn, TakesColumns};
 ghost use Rattle.files.specs.Taken.{fields_left, TakesWell, Takes};
+ghost use Rattle.files.specs.Written.{AddsFields};
 ghost use Rattle.terminals.specs.ReplyColumns.{brand_fault, new_order_shown, shown_columns, shown_in};
 ghost use Rattle.terminals.specs.RequestColumns.{line_columns, lines_in, new_order_columns, repeated};
 ghost use Rattle.terminals.specs.NewOrder.{IsNewOrder, IsNewOrderReply, brand_text, new_order_line_fields, order_shown_fields, ordered_line_fields};
@@ -13,8 +13,9 @@ use requests::{Lines, NewOrder, NewOrderLine, NewOrderReply, OrderedLine};
 use schema::{BrandGeneric, NoMemory};
 use std::alloc::Global;
 
-/// The greatest number of lines of an order in a record.
-pub const MOST_LINES: u64 = 64;
+/// The most lines of an order that are read from the record of a New-Order or of its reply. A record with more lines has the
+/// fault `WrongShape`, since the fields after these lines are left.
+pub const MOST_RECORD_LINES: u64 = 64;
 
 // The number of fields of a New-Order without lines, including its letter.
 const FIELDS: u64 = 5;
@@ -25,11 +26,14 @@ const ORDERED_FIELDS: u64 = 3;
 const SHOWN_FIELDS: u64 = 8;
 
 /// Takes the fields of a New-Order after its letter. `count` is the number of its fields, including the letter. Fields that
-/// make no whole line, or come after 64 lines, are left.
+/// make no whole line, or come after `MOST_RECORD_LINES` lines, are left.
 pub fn take(alloc: Global, count: u64, fields: &mut Fields) -> Result<NewOrder, NoMemory>
-    ensures taken { IfOk result (λ order. Takes fields.old fields.new (λ said. IsNewOrder order (codes "N" ∷ said))) }
-    ensures columns { OnOk result (fields_view fields.new ≡ take_columns (new_order_columns count (length (fields_left fields.old))) (fields_view fields.old)) }
-    ensures lines { IfOk result (λ order. length order.lines ≡ lines_in count (length (fields_left fields.old) - 4)) }
+    ensures taken { IfOk result (λ order.
+        Takes fields.old fields.new (λ said. IsNewOrder order (codes "N" ∷ said))) }
+    ensures columns { OnOk result (TakesColumns
+        (new_order_columns count (length (fields_left fields.old))) fields.old fields.new) }
+    ensures lines { IfOk result (λ order.
+        length order.lines ≡ lines_in count (length (fields_left fields.old) - 4)) }
 {
     Ok(NewOrder {
         home: take_district(fields),
@@ -39,19 +43,22 @@ pub fn take(alloc: Global, count: u64, fields: &mut Fields) -> Result<NewOrder, 
     })
 }
 
-// Takes `count` lines, but at most 64 and at most as many as the fields left make.
+// Takes `count` lines, but at most `MOST_RECORD_LINES` and at most as many as the fields left make.
 fn take_lines(
     alloc: Global,
     count: u64,
     fields: &mut Fields,
 ) -> Result<Lines<OrderedLine>, NoMemory>
-    ensures taken { IfOk result (λ lines. Takes fields.old fields.new (λ said. said ≡ flat_map ordered_line_fields lines)) }
-    ensures columns { IfOk result (λ lines. fields_view fields.new ≡ take_columns (repeated (length lines) line_columns) (fields_view fields.old)) }
-    ensures many { IfOk result (λ lines. length lines ≡ min (min count (length (fields_left fields.old) / 3)) 64) }
+    ensures taken { IfOk result (λ lines.
+        Takes fields.old fields.new (λ said. said ≡ flat_map ordered_line_fields lines)) }
+    ensures columns { IfOk result (λ lines.
+        TakesColumns (repeated (length lines) line_columns) fields.old fields.new) }
+    ensures many { IfOk result (λ lines.
+        length lines ≡ min (min count (length (fields_left fields.old) / 3)) MOST_RECORD_LINES) }
 {
     let mut lines = Vec::new(alloc);
     let there = fields.left() as u64 / ORDERED_FIELDS;
-    for _ in 0..count.min(there).min(MOST_LINES) {
+    for _ in 0..count.min(there).min(MOST_RECORD_LINES) {
         let line = take_line(fields);
         lines.push(line)?;
     }
@@ -60,7 +67,7 @@ fn take_lines(
 
 fn take_line(fields: &mut Fields) -> OrderedLine
     ensures taken { Takes fields.old fields.new (λ said. said ≡ ordered_line_fields result) }
-    ensures columns { fields_view fields.new ≡ take_columns line_columns (fields_view fields.old) }
+    ensures columns { TakesColumns line_columns fields.old fields.new }
 {
     OrderedLine {
         i_id: fields.whole(0, u32::MAX),
@@ -71,7 +78,8 @@ fn take_line(fields: &mut Fields) -> OrderedLine
 
 /// The number of fields of the New-Order, including its letter.
 pub fn field_count(asked: &NewOrder) -> u64
-    ensures fields { (fields : List (List ℕ)) → IsNewOrder asked.now fields → length fields ≡ result }
+    ensures fields { (fields : List (List ℕ)) → IsNewOrder asked.now fields
+        → length fields ≡ result }
     ensures size { result ≡ 5 + 3 * length asked.now.lines }
 {
     FIELDS + ORDERED_FIELDS * asked.lines.as_slice().len() as u64
@@ -79,7 +87,7 @@ pub fn field_count(asked: &NewOrder) -> u64
 
 /// Adds the fields of a New-Order, including its letter.
 pub fn put(row: &mut NewRecord, asked: &NewOrder) -> Result<(), NoMemory>
-    ensures { OnOk result ((fields : List (List ℕ)) × IsNewOrder asked.now fields × (row.new ≡ row.old ++ fields)) }
+    ensures { OnOk result (AddsFields row.old row.new (IsNewOrder asked.now)) }
 {
     row.push("N")?;
     put_district(row, asked.home)?;
@@ -105,11 +113,13 @@ fn put_line(row: &mut NewRecord, line: &OrderedLine) -> Result<(), NoMemory>
     row.push_number(u64::from(line.quantity))
 }
 
-/// Takes the fields of the reply to a New-Order after its letter. Fields that make no whole line, or come after 64 lines, are
-/// left.
+/// Takes the fields of the reply to a New-Order after its letter. Fields that make no whole line, or come after
+/// `MOST_RECORD_LINES` lines, are left.
 pub fn take_reply(alloc: Global, fields: &mut Fields) -> Result<NewOrderReply, NoMemory>
-    ensures taken { IfOk result (λ shown. Takes fields.old fields.new (λ said. IsNewOrderReply shown (codes "N" ∷ said))) }
-    ensures columns { OnOk result (fields_view fields.new ≡ take_columns (new_order_shown (length (fields_left fields.old))) (fields_view fields.old)) }
+    ensures taken { IfOk result (λ shown.
+        Takes fields.old fields.new (λ said. IsNewOrderReply shown (codes "N" ∷ said))) }
+    ensures columns { OnOk result
+        (TakesColumns (new_order_shown (length (fields_left fields.old))) fields.old fields.new) }
 {
     Ok(NewOrderReply {
         last: fields.text(),
@@ -125,11 +135,14 @@ pub fn take_reply(alloc: Global, fields: &mut Fields) -> Result<NewOrderReply, N
 }
 
 fn take_shown_lines(alloc: Global, fields: &mut Fields) -> Result<Lines<NewOrderLine>, NoMemory>
-    ensures taken { IfOk result (λ lines. Takes fields.old fields.new (λ said. said ≡ flat_map new_order_line_fields lines)) }
-    ensures columns { OnOk result (fields_view fields.new ≡ take_columns (repeated (shown_in (length (fields_left fields.old))) shown_columns) (fields_view fields.old)) }
+    ensures taken { IfOk result (λ lines.
+        Takes fields.old fields.new (λ said. said ≡ flat_map new_order_line_fields lines)) }
+    ensures columns { OnOk result (TakesColumns
+        (repeated (shown_in (length (fields_left fields.old))) shown_columns)
+        fields.old fields.new) }
 {
     let mut lines = Vec::new(alloc);
-    for _ in 0..(fields.left() as u64 / SHOWN_FIELDS).min(MOST_LINES) {
+    for _ in 0..(fields.left() as u64 / SHOWN_FIELDS).min(MOST_RECORD_LINES) {
         let line = take_shown_line(fields);
         lines.push(line)?;
     }
@@ -138,7 +151,7 @@ fn take_shown_lines(alloc: Global, fields: &mut Fields) -> Result<Lines<NewOrder
 
 fn take_shown_line(fields: &mut Fields) -> NewOrderLine
     ensures taken { Takes fields.old fields.new (λ said. said ≡ new_order_line_fields result) }
-    ensures columns { fields_view fields.new ≡ take_columns shown_columns (fields_view fields.old) }
+    ensures columns { TakesColumns shown_columns fields.old fields.new }
 {
     NewOrderLine {
         supply_w_id: fields.whole(0, u32::MAX),
@@ -155,7 +168,7 @@ fn take_shown_line(fields: &mut Fields) -> NewOrderLine
 // Takes `B` or `G`. Another word is the fault `OutOfRange`.
 fn take_brand(fields: &mut Fields) -> BrandGeneric
     ensures taken { TakesWell fields.old fields.new (brand_text result) }
-    ensures column { fields_view fields.new ≡ take_column (Spelt brand_fault) (fields_view fields.old) }
+    ensures column { TakesColumn (Spelt brand_fault) fields.old fields.new }
 {
     match fields.word() {
         "B" => BrandGeneric::Brand,
@@ -169,7 +182,7 @@ fn take_brand(fields: &mut Fields) -> BrandGeneric
 
 /// Adds the fields of the reply to a New-Order, including its letter.
 pub fn put_reply(row: &mut NewRecord, shown: &NewOrderReply) -> Result<(), NoMemory>
-    ensures { OnOk result ((fields : List (List ℕ)) × IsNewOrderReply shown.now fields × (row.new ≡ row.old ++ fields)) }
+    ensures { OnOk result (AddsFields row.old row.new (IsNewOrderReply shown.now)) }
 {
     put_order(row, shown, moment_text(shown.entry_d).as_str())?;
     put_shown_lines(row, shown.lines.as_slice())

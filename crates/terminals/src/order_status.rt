@@ -1,8 +1,8 @@
 //! The fields of an Order-Status and of its reply.
 ghost use Rattle.std.specs.Prelude.{◌≡◌, ℕ, List, [], ◌∷◌, ◌++◌, None, OnOk, IfOk, codes};
-ghost use Rattle.files.specs.Columns.{take_column, take_columns};
-ghost use Rattle.files.specs.FieldRead.{fields_view};
 ghost use Rattle.files.specs.Taken.{fields_left, TakesWell, Takes};
+ghost use Rattle.files.specs.Written.{AddsFields};
+ghost use Rattle.files.specs.Columns.{TakesColumn, TakesColumns};
 ghost use Rattle.terminals.specs.ReplyColumns.{null, order_status_shown, status_columns, status_order};
 ghost use Rattle.terminals.specs.RequestColumns.{order_status_columns};
 ghost use Rattle.terminals.specs.Nullable.{IsNullableMoment, nullable_text};
@@ -24,7 +24,7 @@ const LINE_FIELDS: usize = 5;
 /// Takes the fields of an Order-Status after its letter.
 pub fn take(fields: &mut Fields) -> OrderStatus
     ensures taken { Takes fields.old fields.new (λ said. IsOrderStatus result (codes "O" ∷ said)) }
-    ensures columns { fields_view fields.new ≡ take_columns order_status_columns (fields_view fields.old) }
+    ensures columns { TakesColumns order_status_columns fields.old fields.new }
 {
     OrderStatus {
         home: take_district(fields),
@@ -34,7 +34,7 @@ pub fn take(fields: &mut Fields) -> OrderStatus
 
 /// Adds the fields of an Order-Status, including its letter.
 pub fn put(row: &mut NewRecord, asked: &OrderStatus) -> Result<(), NoMemory>
-    ensures { OnOk result ((fields : List (List ℕ)) × IsOrderStatus asked.now fields × (row.new ≡ row.old ++ fields)) }
+    ensures { OnOk result (AddsFields row.old row.new (IsOrderStatus asked.now)) }
 {
     row.push("O")?;
     put_district(row, asked.home)?;
@@ -43,8 +43,10 @@ pub fn put(row: &mut NewRecord, asked: &OrderStatus) -> Result<(), NoMemory>
 
 /// Takes the fields of the reply to an Order-Status after its letter. Fields that make no whole line are left.
 pub fn take_reply(alloc: Global, fields: &mut Fields) -> Result<OrderStatusReply, NoMemory>
-    ensures taken { IfOk result (λ shown. Takes fields.old fields.new (λ said. IsOrderStatusReply shown (codes "O" ∷ said))) }
-    ensures columns { OnOk result (fields_view fields.new ≡ take_columns (order_status_shown (fields_left fields.old)) (fields_view fields.old)) }
+    ensures taken { IfOk result (λ shown.
+        Takes fields.old fields.new (λ said. IsOrderStatusReply shown (codes "O" ∷ said))) }
+    ensures columns { OnOk result
+        (TakesColumns (order_status_shown (fields_left fields.old)) fields.old fields.new) }
 {
     Ok(OrderStatusReply {
         c_id: fields.whole(0, u32::MAX),
@@ -60,7 +62,8 @@ pub fn take_reply(alloc: Global, fields: &mut Fields) -> Result<OrderStatusReply
 // no order.
 fn take_order(alloc: Global, fields: &mut Fields) -> Result<Option<StatusOrder>, NoMemory>
     ensures taken { IfOk result (λ order. Takes fields.old fields.new (IsStatusOrder order)) }
-    ensures columns { OnOk result (fields_view fields.new ≡ take_columns (status_order (fields_left fields.old)) (fields_view fields.old)) }
+    ensures columns { OnOk result
+        (TakesColumns (status_order (fields_left fields.old)) fields.old fields.new) }
 {
     if fields.next_is_empty() {
         take_no_order(fields);
@@ -85,7 +88,7 @@ fn take_order(alloc: Global, fields: &mut Fields) -> Result<Option<StatusOrder>,
 // Takes the three empty fields of a reply without an order.
 fn take_no_order(fields: &mut Fields)
     ensures taken { Takes fields.old fields.new (IsStatusOrder None) }
-    ensures columns { fields_view fields.new ≡ take_columns (null ∷ null ∷ null ∷ []) (fields_view fields.old) }
+    ensures columns { TakesColumns (null ∷ null ∷ null ∷ []) fields.old fields.new }
 {
     take_null(fields);
     take_null(fields);
@@ -95,7 +98,7 @@ fn take_no_order(fields: &mut Fields)
 // Takes an empty field. Another one is the fault `NotOfKind`.
 fn take_null(fields: &mut Fields)
     ensures taken { TakesWell fields.old fields.new [] }
-    ensures column { fields_view fields.new ≡ take_column null (fields_view fields.old) }
+    ensures column { TakesColumn null fields.old fields.new }
 {
     if !fields.word().is_empty() {
         fields.note(FaultKind::NotOfKind);
@@ -104,7 +107,7 @@ fn take_null(fields: &mut Fields)
 
 fn take_line(fields: &mut Fields) -> StatusLine
     ensures taken { Takes fields.old fields.new (IsStatusLine result) }
-    ensures columns { fields_view fields.new ≡ take_columns status_columns (fields_view fields.old) }
+    ensures columns { TakesColumns status_columns fields.old fields.new }
 {
     StatusLine {
         i_id: fields.whole(0, u32::MAX),
@@ -117,7 +120,7 @@ fn take_line(fields: &mut Fields) -> StatusLine
 
 /// Adds the fields of the reply to an Order-Status, including its letter.
 pub fn put_reply(row: &mut NewRecord, shown: &OrderStatusReply) -> Result<(), NoMemory>
-    ensures { OnOk result ((fields : List (List ℕ)) × IsOrderStatusReply shown.now fields × (row.new ≡ row.old ++ fields)) }
+    ensures { OnOk result (AddsFields row.old row.new (IsOrderStatusReply shown.now)) }
 {
     row.push("O")?;
     row.push_number(u64::from(shown.c_id))?;
@@ -129,7 +132,7 @@ pub fn put_reply(row: &mut NewRecord, shown: &OrderStatusReply) -> Result<(), No
 }
 
 fn put_order(row: &mut NewRecord, order: &Option<StatusOrder>) -> Result<(), NoMemory>
-    ensures { OnOk result ((fields : List (List ℕ)) × IsStatusOrder order.now fields × (row.new ≡ row.old ++ fields)) }
+    ensures { OnOk result (AddsFields row.old row.new (IsStatusOrder order.now)) }
 {
     match order {
         Some(order) => {
@@ -147,7 +150,7 @@ fn put_order(row: &mut NewRecord, order: &Option<StatusOrder>) -> Result<(), NoM
 }
 
 fn put_lines(row: &mut NewRecord, lines: &[StatusLine]) -> Result<(), NoMemory>
-    ensures { OnOk result ((fields : List (List ℕ)) × AreStatusLines lines.now fields × (row.new ≡ row.old ++ fields)) }
+    ensures { OnOk result (AddsFields row.old row.new (AreStatusLines lines.now)) }
 {
     for line in lines {
         put_line(row, line)?;
@@ -156,7 +159,7 @@ fn put_lines(row: &mut NewRecord, lines: &[StatusLine]) -> Result<(), NoMemory>
 }
 
 fn put_line(row: &mut NewRecord, line: &StatusLine) -> Result<(), NoMemory>
-    ensures { OnOk result ((fields : List (List ℕ)) × IsStatusLine line.now fields × (row.new ≡ row.old ++ fields)) }
+    ensures { OnOk result (AddsFields row.old row.new (IsStatusLine line.now)) }
 {
     row.push_number(u64::from(line.i_id))?;
     row.push_number(u64::from(line.supply_w_id))?;
@@ -177,7 +180,8 @@ fn put_carrier(row: &mut NewRecord, carrier: Option<CarrierId>) -> Result<(), No
 
 // Adds OL_DELIVERY_D, or the empty field if the line is not delivered.
 fn put_delivery(row: &mut NewRecord, delivery: Option<Moment>) -> Result<(), NoMemory>
-    ensures { OnOk result ((text : List ℕ) × IsNullableMoment text delivery × (row.new ≡ row.old ++ (text ∷ []))) }
+    ensures { OnOk result ((text : List ℕ) × IsNullableMoment text delivery
+        × (row.new ≡ row.old ++ (text ∷ []))) }
 {
     match delivery {
         Some(moment) => row.push(moment_text(moment).as_str()),

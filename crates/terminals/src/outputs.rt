@@ -1,6 +1,7 @@
-ghost use Rattle.std.specs.Prelude.{◌≡◌, ℕ, List, ◌++◌, length, IfErr, OnErr, OnOk};
+ghost use Rattle.std.specs.Prelude.{length, IfErr, OnErr, OnOk};
 ghost use Rattle.files.specs.Failure.{IsOfWriting};
 ghost use Rattle.files.specs.Sending.{BeginsToWrite, OfFirst, Writes};
+ghost use Rattle.files.specs.Written.{AddsFields};
 ghost use Rattle.history.specs.Fits.{IsLoggedBelow};
 ghost use Rattle.terminals.specs.Outputs.{IsEventAnswer, IsOutput, IsReportedBelow, AreOutputs, NameEntries};
 
@@ -25,8 +26,10 @@ pub fn write_outputs<W: Write>(
     log: &[Entry],
 ) -> Result<(), FileError>
     requires { NameEntries log.now reported.now }
-    ensures written { OnOk result (Writes (W.contents sink.old) (W.contents sink.new) (AreOutputs log.now reported.now)) }
-    ensures begun { OnErr result (BeginsToWrite (W.contents sink.old) (W.contents sink.new) (OfFirst (AreOutputs log.now) reported.now)) }
+    ensures written { OnOk result (Writes (W.contents sink.old) (W.contents sink.new)
+        (AreOutputs log.now reported.now)) }
+    ensures begun { OnErr result (BeginsToWrite (W.contents sink.old) (W.contents sink.new)
+        (OfFirst (AreOutputs log.now) reported.now)) }
     ensures failed { IfErr result IsOfWriting }
 {
     let mut writer = RecordWriter::new(alloc);
@@ -42,7 +45,7 @@ pub fn write_outputs<W: Write>(
 // Adds the fields of an output.
 fn put_output(row: &mut NewRecord, reported: &Output, log: &[Entry]) -> Result<(), NoMemory>
     requires { IsReportedBelow (length log.now) reported.now }
-    ensures { OnOk result ((fields : List (List ℕ)) × IsOutput log.now reported.now fields × (row.new ≡ row.old ++ fields)) }
+    ensures { OnOk result (AddsFields row.old row.new (IsOutput log.now reported.now)) }
 {
     match reported {
         Output::Event(answer) => put_event_answer(row, answer, log),
@@ -58,7 +61,7 @@ fn put_event_answer(
     log: &[Entry],
 ) -> Result<(), NoMemory>
     requires { IsLoggedBelow (length log.now) answer.now }
-    ensures { OnOk result ((fields : List (List ℕ)) × IsEventAnswer log.now answer.now fields × (row.new ≡ row.old ++ fields)) }
+    ensures { OnOk result (AddsFields row.old row.new (IsEventAnswer log.now answer.now)) }
 {
     match answer {
         EventAnswer::Accepted { age } => {

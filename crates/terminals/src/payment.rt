@@ -1,8 +1,8 @@
 //! The fields of a payment and of its reply.
-ghost use Rattle.std.specs.Prelude.{◌≡◌, ℕ, List, ◌∷◌, ◌++◌, IfOk, OnOk, codes};
-ghost use Rattle.files.specs.Columns.{take_columns};
-ghost use Rattle.files.specs.FieldRead.{fields_view};
+ghost use Rattle.std.specs.Prelude.{◌≡◌, ◌∷◌, ◌++◌, IfOk, OnOk, codes};
 ghost use Rattle.files.specs.Taken.{Takes};
+ghost use Rattle.files.specs.Written.{AddsFields};
+ghost use Rattle.files.specs.Columns.{TakesColumns};
 ghost use Rattle.terminals.specs.Payment.{IsPayment, payment_reply_fields};
 ghost use Rattle.terminals.specs.ReplyColumns.{payment_shown};
 ghost use Rattle.terminals.specs.RequestColumns.{payment_columns};
@@ -20,7 +20,7 @@ pub const FIELDS: u64 = 8;
 /// Takes the fields of a payment after its letter.
 pub fn take(fields: &mut Fields) -> Payment
     ensures taken { Takes fields.old fields.new (λ said. IsPayment result (codes "P" ∷ said)) }
-    ensures columns { fields_view fields.new ≡ take_columns payment_columns (fields_view fields.old) }
+    ensures columns { TakesColumns payment_columns fields.old fields.new }
 {
     Payment {
         home: take_district(fields),
@@ -33,7 +33,7 @@ pub fn take(fields: &mut Fields) -> Payment
 
 /// Adds the fields of a payment, including its letter.
 pub fn put(row: &mut NewRecord, payment: &Payment) -> Result<(), NoMemory>
-    ensures { OnOk result ((fields : List (List ℕ)) × IsPayment payment.now fields × (row.new ≡ row.old ++ fields)) }
+    ensures { OnOk result (AddsFields row.old row.new (IsPayment payment.now)) }
 {
     row.push("P")?;
     put_district(row, payment.home)?;
@@ -45,8 +45,9 @@ pub fn put(row: &mut NewRecord, payment: &Payment) -> Result<(), NoMemory>
 
 /// Takes the fields of the reply to a payment after its letter.
 pub fn take_reply(alloc: Global, fields: &mut Fields) -> Result<PaymentReply, NoMemory>
-    ensures taken { IfOk result (λ shown. Takes fields.old fields.new (λ said. codes "P" ∷ said ≡ payment_reply_fields shown)) }
-    ensures columns { OnOk result (fields_view fields.new ≡ take_columns payment_shown (fields_view fields.old)) }
+    ensures taken { IfOk result (λ shown.
+        Takes fields.old fields.new (λ said. codes "P" ∷ said ≡ payment_reply_fields shown)) }
+    ensures columns { OnOk result (TakesColumns payment_shown fields.old fields.new) }
 {
     Ok(PaymentReply {
         c_id: fields.whole(0, u32::MAX),

@@ -1,6 +1,7 @@
-ghost use Rattle.std.specs.Prelude.{◌≡◌, ◌≢◌, ℕ, List, ◌∷◌, ◌++◌, None, OnOk, IfOk, IfSome, IfNone};
+ghost use Rattle.std.specs.Prelude.{◌≡◌, ◌≢◌, ◌∷◌, ◌++◌, None, OnOk, IfOk, IfSome, IfNone};
 ghost use Rattle.files.specs.FieldRead.{fields_view};
 ghost use Rattle.files.specs.Taken.{fault_of, TakesAll, Takes};
+ghost use Rattle.files.specs.Written.{AddsFields};
 ghost use Rattle.terminals.specs.ReplyColumns.{after_reply, after_why};
 ghost use Rattle.terminals.specs.ReplyFields.{IsReply, IsShown, fault_fields};
 
@@ -13,9 +14,11 @@ use std::alloc::Global;
 /// Takes the fields of a reply after its letter. Returns `None` if the letter, or the word after `X`, is unknown, with the
 /// fault `WrongShape`. Only the lines of an order and C_DATA allocate memory.
 pub fn take(alloc: Global, letter: &str, fields: &mut Fields) -> Result<Option<Reply>, NoMemory>
-    ensures taken { IfOk result (λ taken. IfSome taken (λ reply. Takes fields.old fields.new (λ said. IsReply reply (letter.now ∷ said)))) }
+    ensures taken { IfOk result (λ taken. IfSome taken (λ reply.
+        Takes fields.old fields.new (λ said. IsReply reply (letter.now ∷ said)))) }
     ensures unknown { IfOk result (λ taken. IfNone taken (fault_of fields.new ≢ None)) }
-    ensures columns { OnOk result (fields_view fields.new ≡ after_reply letter.now (fields_view fields.old)) }
+    ensures columns { OnOk result
+        (fields_view fields.new ≡ after_reply letter.now (fields_view fields.old)) }
 {
     match letter {
         "N" => {
@@ -72,7 +75,7 @@ fn take_fault(fields: &mut Fields) -> Option<Fault>
 
 /// Adds the fields of the reply, including its letter.
 pub fn put(row: &mut NewRecord, reply: &Reply) -> Result<(), NoMemory>
-    ensures { OnOk result ((fields : List (List ℕ)) × IsReply reply.now fields × (row.new ≡ row.old ++ fields)) }
+    ensures { OnOk result (AddsFields row.old row.new (IsReply reply.now)) }
 {
     match reply {
         Reply::Done(shown) => put_shown(row, shown),
@@ -85,7 +88,7 @@ pub fn put(row: &mut NewRecord, reply: &Reply) -> Result<(), NoMemory>
 
 // Adds the fields of what is shown, including the letter of its kind.
 fn put_shown(row: &mut NewRecord, shown: &Shown) -> Result<(), NoMemory>
-    ensures { OnOk result ((fields : List (List ℕ)) × IsShown shown.now fields × (row.new ≡ row.old ++ fields)) }
+    ensures { OnOk result (AddsFields row.old row.new (IsShown shown.now)) }
 {
     match shown {
         Shown::NewOrder(shown) => new_order::put_reply(row, shown),

@@ -1,8 +1,9 @@
 ghost use Rattle.std.specs.Prelude.{◌≡◌, ◌≢◌, ℕ, List, [], ◌∷◌, ◌++◌, length, None, OnOk, IfOk, IfSome, IfNone};
 ghost use Rattle.std.specs.Fmt.{decimal};
-ghost use Rattle.files.specs.Columns.{take_columns};
 ghost use Rattle.files.specs.FieldRead.{fields_view};
 ghost use Rattle.files.specs.Taken.{fault_of, fields_left, TakesAll, Takes};
+ghost use Rattle.files.specs.Written.{AddsFields};
+ghost use Rattle.files.specs.Columns.{TakesColumns};
 ghost use Rattle.terminals.specs.FirstFault.{after_asked};
 ghost use Rattle.terminals.specs.RequestColumns.{after_request, number, request_columns, request_size, HasColumns};
 ghost use Rattle.terminals.specs.RequestFields.{IsRequest};
@@ -46,10 +47,13 @@ pub fn take(
     letter: &str,
     fields: &mut Fields,
 ) -> Result<Option<Request>, NoMemory>
-    ensures taken { IfOk result (λ taken. IfSome taken (λ request. Takes fields.old fields.new (λ said. IsRequest request (letter.now ∷ said)))) }
+    ensures taken { IfOk result (λ taken. IfSome taken (λ request.
+        Takes fields.old fields.new (λ said. IsRequest request (letter.now ∷ said)))) }
     ensures unknown { IfOk result (λ taken. IfNone taken (fault_of fields.new ≢ None)) }
-    ensures columns { OnOk result (fields_view fields.new ≡ after_request count letter.now (fields_view fields.old)) }
-    ensures size { IfOk result (λ taken. HasColumns taken (request_columns count letter.now (length (fields_left fields.old)))) }
+    ensures columns { OnOk result
+        (fields_view fields.new ≡ after_request count letter.now (fields_view fields.old)) }
+    ensures size { IfOk result (λ taken.
+        HasColumns taken (request_columns count letter.now (length (fields_left fields.old)))) }
 {
     match letter {
         "N" => {
@@ -69,8 +73,9 @@ pub fn take(
 
 /// Takes the numbers of a warehouse and a district.
 pub(crate) fn take_district(fields: &mut Fields) -> DistrictKey
-    ensures taken { TakesAll fields.old fields.new (decimal result.w_id ∷ decimal result.d_id ∷ []) }
-    ensures columns { fields_view fields.new ≡ take_columns (number ∷ number ∷ []) (fields_view fields.old) }
+    ensures taken { TakesAll fields.old fields.new
+        (decimal result.w_id ∷ decimal result.d_id ∷ []) }
+    ensures columns { TakesColumns (number ∷ number ∷ []) fields.old fields.new }
 {
     DistrictKey {
         w_id: fields.whole(0, u32::MAX),
@@ -80,7 +85,8 @@ pub(crate) fn take_district(fields: &mut Fields) -> DistrictKey
 
 /// The number of fields of the request, including its letter.
 pub fn field_count(request: &Request) -> u64
-    ensures fields { (fields : List (List ℕ)) → IsRequest request.now fields → length fields ≡ result }
+    ensures fields { (fields : List (List ℕ)) → IsRequest request.now fields
+        → length fields ≡ result }
     ensures size { result ≡ request_size request.now }
 {
     match request {
@@ -94,7 +100,7 @@ pub fn field_count(request: &Request) -> u64
 
 /// Adds the fields of the request, including its letter.
 pub fn put(row: &mut NewRecord, request: &Request) -> Result<(), NoMemory>
-    ensures { OnOk result ((fields : List (List ℕ)) × IsRequest request.now fields × (row.new ≡ row.old ++ fields)) }
+    ensures { OnOk result (AddsFields row.old row.new (IsRequest request.now)) }
 {
     match request {
         Request::NewOrder(asked) => new_order::put(row, asked),
@@ -107,7 +113,8 @@ pub fn put(row: &mut NewRecord, request: &Request) -> Result<(), NoMemory>
 
 /// Adds the numbers of a warehouse and a district.
 pub(crate) fn put_district(row: &mut NewRecord, district: DistrictKey) -> Result<(), NoMemory>
-    ensures { OnOk result (row.new ≡ row.old ++ (decimal district.w_id ∷ decimal district.d_id ∷ [])) }
+    ensures { OnOk result
+        (row.new ≡ row.old ++ (decimal district.w_id ∷ decimal district.d_id ∷ [])) }
 {
     row.push_number(u64::from(district.w_id))?;
     row.push_number(u64::from(district.d_id))

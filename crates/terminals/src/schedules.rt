@@ -1,9 +1,9 @@
-ghost use Rattle.std.specs.Prelude.{◌≡◌, ◌≢◌, ◌<◌, ◌-◌, ◌^◌, ℕ, List, ◌∷◌, length, Some, None, codes, IfOk, IfErr, IfSome, IfNone, OnOk, MatchResult};
-ghost use Rattle.files.specs.Place.{IsCsv};
+ghost use Rattle.std.specs.Prelude.{◌≡◌, ◌≢◌, ◌<◌, ◌-◌, ◌^◌, ◌∷◌, length, None, codes, IfOk, IfErr, IfSome, IfNone, OnOk};
 ghost use Rattle.files.specs.FieldRead.{fields_view};
 ghost use Rattle.files.specs.Failure.{IsOfText};
-ghost use Rattle.files.specs.FirstFault.{ReportsFault};
 ghost use Rattle.files.specs.Taken.{fault_of, Takes};
+ghost use Rattle.files.specs.Place.{Gives, ForRecords};
+ghost use Rattle.files.specs.FirstFault.{ReportsFirst};
 ghost use Rattle.terminals.specs.FirstFault.{after_scheduled, after_submit, schedule_fault};
 ghost use Rattle.terminals.specs.Schedule.{IsSchedule, IsScheduleRecord};
 
@@ -24,9 +24,10 @@ use std::alloc::Global;
 /// only then, with the number of the current record. Neither error says anything about the text, and nothing else is returned
 /// with it. After an error it is unspecified how far `source` was read. Memory is allocated record by record.
 pub fn read_schedule<R: Input + Drop>(alloc: Global, source: R) -> Result<Vec<Scheduled>, FileError>
-    ensures schedule { IfOk result (λ schedule. (text : List ℕ) → R.remaining source ≡ Some text → (rows : List (List (List ℕ))) × IsCsv text rows × IsSchedule schedule.items rows) }
-    ensures first { (text : List ℕ) (rows : List (List (List ℕ))) → R.remaining source ≡ Some text → IsCsv text rows → length rows < 2 ^ 64 - 1
-        → MatchResult result (λ _. schedule_fault rows ≡ None) (λ error. ReportsFault error (schedule_fault rows)) }
+    ensures schedule { IfOk result (λ schedule.
+        Gives (R.remaining source) (IsSchedule schedule.items)) }
+    ensures first { ForRecords (R.remaining source) (λ rows. length rows < 2 ^ 64 - 1
+        → ReportsFirst result (schedule_fault rows)) }
     ensures lasts { R.lasts source → IfErr result IsOfText }
 {
     listing::read(alloc, source)
@@ -48,9 +49,11 @@ impl Listed for Scheduled {
 }
 
 fn take(alloc: Global, letter: &str, fields: &mut Fields) -> Result<Option<Scheduled>, NoMemory>
-    ensures taken { IfOk result (λ taken. IfSome taken (λ item. Takes fields.old fields.new (λ said. IsScheduleRecord item (letter.now ∷ said)))) }
+    ensures taken { IfOk result (λ taken. IfSome taken (λ item.
+        Takes fields.old fields.new (λ said. IsScheduleRecord item (letter.now ∷ said)))) }
     ensures unknown { IfOk result (λ taken. IfNone taken (fault_of fields.new ≢ None)) }
-    ensures columns { OnOk result (fields_view fields.new ≡ after_scheduled letter.now (fields_view fields.old)) }
+    ensures columns { OnOk result
+        (fields_view fields.new ≡ after_scheduled letter.now (fields_view fields.old)) }
 {
     match letter {
         "S" => take_submit(alloc, fields),
@@ -74,7 +77,8 @@ fn take(alloc: Global, letter: &str, fields: &mut Fields) -> Result<Option<Sched
 
 // Takes the session, the number and the request. Returns `None` if the request's letter is unknown.
 fn take_submit(alloc: Global, fields: &mut Fields) -> Result<Option<Scheduled>, NoMemory>
-    ensures taken { IfOk result (λ taken. IfSome taken (λ item. Takes fields.old fields.new (λ said. IsScheduleRecord item (codes "S" ∷ said)))) }
+    ensures taken { IfOk result (λ taken. IfSome taken (λ item.
+        Takes fields.old fields.new (λ said. IsScheduleRecord item (codes "S" ∷ said)))) }
     ensures unknown { IfOk result (λ taken. IfNone taken (fault_of fields.new ≢ None)) }
     ensures columns { OnOk result (fields_view fields.new ≡ after_submit (fields_view fields.old)) }
 {

@@ -1,8 +1,8 @@
-ghost use Rattle.std.specs.Prelude.{◌≡◌, ◌<◌, ◌-◌, ◌^◌, ℕ, List, length, Some, None, IfOk, IfErr, OnErr, OnOk, MatchResult};
+ghost use Rattle.std.specs.Prelude.{◌<◌, ◌-◌, ◌^◌, length, IfOk, IfErr, OnErr, OnOk};
 ghost use Rattle.files.specs.Failure.{IsOfText, IsOfWriting};
-ghost use Rattle.files.specs.FirstFault.{ReportsFault};
-ghost use Rattle.files.specs.Place.{IsCsv};
 ghost use Rattle.files.specs.Sending.{BeginsToWrite, Writes};
+ghost use Rattle.files.specs.Place.{Gives, ForRecords};
+ghost use Rattle.files.specs.FirstFault.{ReportsFirst};
 ghost use Rattle.terminals.specs.FirstFault.{script_fault};
 ghost use Rattle.terminals.specs.Script.{BeginsScript, IsScript};
 
@@ -22,9 +22,9 @@ use std::io::Write;
 /// the text, and nothing else is returned with it. After an error it is unspecified how far `source` was read. Memory is
 /// allocated request by request.
 pub fn read_script<R: Input + Drop>(alloc: Global, source: R) -> Result<Script, FileError>
-    ensures script { IfOk result (λ script. (text : List ℕ) → R.remaining source ≡ Some text → (rows : List (List (List ℕ))) × IsCsv text rows × IsScript script rows) }
-    ensures first { (text : List ℕ) (rows : List (List (List ℕ))) → R.remaining source ≡ Some text → IsCsv text rows → length rows < 2 ^ 64 - 1
-        → MatchResult result (λ _. script_fault rows ≡ None) (λ error. ReportsFault error (script_fault rows)) }
+    ensures script { IfOk result (λ script. Gives (R.remaining source) (IsScript script)) }
+    ensures first { ForRecords (R.remaining source) (λ rows. length rows < 2 ^ 64 - 1
+        → ReportsFirst result (script_fault rows)) }
     ensures lasts { R.lasts source → IfErr result IsOfText }
 {
     let requests = listing::read(alloc, source)?;
@@ -40,8 +40,10 @@ pub fn read_script<R: Input + Drop>(alloc: Global, source: R) -> Result<Script, 
 /// record; because records are buffered, what was not written may be of an earlier record. After an error the sink has got a
 /// beginning of the text.
 pub fn write_script<W: Write>(alloc: Global, sink: &mut W, script: &Script) -> Result<(), FileError>
-    ensures written { OnOk result (Writes (W.contents sink.old) (W.contents sink.new) (IsScript script.now)) }
-    ensures begun { OnErr result (BeginsToWrite (W.contents sink.old) (W.contents sink.new) (BeginsScript script.now)) }
+    ensures written { OnOk result (Writes (W.contents sink.old) (W.contents sink.new)
+        (IsScript script.now)) }
+    ensures begun { OnErr result (BeginsToWrite (W.contents sink.old) (W.contents sink.new)
+        (BeginsScript script.now)) }
     ensures failed { IfErr result IsOfWriting }
 {
     listing::write(alloc, sink, script.requests())

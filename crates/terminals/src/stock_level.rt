@@ -1,8 +1,7 @@
 //! The fields of a Stock-Level and of its reply.
 ghost use Rattle.std.specs.Prelude.{◌≡◌, ◌∷◌, ◌++◌, OnOk, codes};
-ghost use Rattle.files.specs.Columns.{take_columns};
-ghost use Rattle.files.specs.FieldRead.{fields_view};
 ghost use Rattle.files.specs.Taken.{Takes};
+ghost use Rattle.files.specs.Columns.{TakesColumns};
 ghost use Rattle.terminals.specs.ReplyColumns.{stock_level_shown};
 ghost use Rattle.terminals.specs.RequestColumns.{stock_level_columns};
 ghost use Rattle.terminals.specs.StockLevel.{stock_level_fields, stock_level_reply_fields};
@@ -17,8 +16,9 @@ pub const FIELDS: u64 = 4;
 
 /// Takes the fields of a Stock-Level after its letter.
 pub fn take(fields: &mut Fields) -> StockLevel
-    ensures taken { Takes fields.old fields.new (λ said. codes "L" ∷ said ≡ stock_level_fields result) }
-    ensures columns { fields_view fields.new ≡ take_columns stock_level_columns (fields_view fields.old) }
+    ensures taken { Takes fields.old fields.new
+        (λ said. codes "L" ∷ said ≡ stock_level_fields result) }
+    ensures columns { TakesColumns stock_level_columns fields.old fields.new }
 {
     StockLevel {
         home: take_district(fields),
@@ -37,8 +37,9 @@ pub fn put(row: &mut NewRecord, asked: &StockLevel) -> Result<(), NoMemory>
 
 /// Takes the field of the reply to a Stock-Level after its letter.
 pub fn take_reply(fields: &mut Fields) -> StockLevelReply
-    ensures taken { Takes fields.old fields.new (λ said. codes "L" ∷ said ≡ stock_level_reply_fields result) }
-    ensures columns { fields_view fields.new ≡ take_columns stock_level_shown (fields_view fields.old) }
+    ensures taken { Takes fields.old fields.new
+        (λ said. codes "L" ∷ said ≡ stock_level_reply_fields result) }
+    ensures columns { TakesColumns stock_level_shown fields.old fields.new }
 {
     StockLevelReply {
         count: fields.whole(0, u32::MAX),

@@ -9,7 +9,7 @@ use Rattle.tickets.specs.declared.work.CommittedContent.{CommittedContent}
 use Rattle.tickets.specs.declared.work.Work.{Work}
 use Rattle.tickets.specs.Seats.{committed_seat, work_seat, untouched, recorded_shares, work_shares}
 use Rattle.tickets.specs.Claims.{HoldsClaim}
-use Rattle.tickets.specs.Boxes.{HoldsBox}
+use Rattle.tickets.specs.Boxes.{HoldsBox, group_tables}
 
 module _ {V : Type 0} where
   -- a seat that had no share and was given n
@@ -42,23 +42,23 @@ holds_claim committed done content Exclusive tickets work is_tickets is_work =
     )
 
 -- the seats of a box of which no exclusive claim is out
-pub holds_sharing : (committed done : TableId) (content : Content) (mode : Mode) (shared : ℕ) (tickets : SeatView CommittedContent) (work : SeatView Work) (spare : ℕ) → mode ≡ Shared → tickets ≡ committed_seat committed content (9 - shared) → work ≡ work_seat done (untouched Shared content) (9 - shared) → spare + shared ≡ 8 → HoldsBox committed done mode shared tickets work spare
+pub holds_sharing : (committed done : TableId) (content : Content) (mode : Mode) (shared : ℕ) (tickets : SeatView CommittedContent) (work : SeatView Work) (spare : ℕ) → mode ≡ Shared → tickets ≡ committed_seat committed content (9 - shared) → work ≡ work_seat done (untouched Shared content) (9 - shared) → spare + shared ≡ 8 → HoldsBox (group_tables committed done) mode shared tickets work spare
 holds_sharing committed done content mode shared tickets work spare is_shared is_tickets is_work all =
-    subst (λ m. HoldsBox committed done m shared tickets work spare) (sym is_shared) (
+    subst (λ m. HoldsBox (group_tables committed done) m shared tickets work spare) (sym is_shared) (
       records_own committed content (9 - shared) tickets is_tickets,
       is_work ∙ ap (λ c. work_seat done (untouched Shared c) (9 - shared)) (sym (ap (λ t. t.value.content) is_tickets)),
       all,
     )
 
 -- the mode by a box's seats
-pub mode_recorded : (committed done : TableId) (mode : Mode) (shared : ℕ) (tickets : SeatView CommittedContent) (work : SeatView Work) (spare : ℕ) → HoldsBox committed done mode shared tickets work spare → work.value.mode ≡ mode
+pub mode_recorded : (committed done : TableId) (mode : Mode) (shared : ℕ) (tickets : SeatView CommittedContent) (work : SeatView Work) (spare : ℕ) → HoldsBox (group_tables committed done) mode shared tickets work spare → work.value.mode ≡ mode
 mode_recorded committed done Shared shared tickets work spare holds = ap (λ t. t.value.mode) holds.1
 mode_recorded committed done Exclusive shared tickets work spare holds = holds.1.1
 
 -- the seats of a box of which no exclusive claim is out
-pub is_sharing : (committed done : TableId) (mode : Mode) (shared : ℕ) (tickets : SeatView CommittedContent) (work : SeatView Work) (spare : ℕ) → HoldsBox committed done mode shared tickets work spare → mode ≡ Shared → HoldsBox committed done Shared shared tickets work spare
-is_sharing committed done mode shared tickets work spare holds is = subst (λ m. HoldsBox committed done m shared tickets work spare) is holds
+pub is_sharing : (committed done : TableId) (mode : Mode) (shared : ℕ) (tickets : SeatView CommittedContent) (work : SeatView Work) (spare : ℕ) → HoldsBox (group_tables committed done) mode shared tickets work spare → mode ≡ Shared → HoldsBox (group_tables committed done) Shared shared tickets work spare
+is_sharing committed done mode shared tickets work spare holds is = subst (λ m. HoldsBox (group_tables committed done) m shared tickets work spare) is holds
 
 -- the seats of a box whose exclusive claim is out
-pub is_lent : (committed done : TableId) (mode : Mode) (shared : ℕ) (tickets : SeatView CommittedContent) (work : SeatView Work) (spare : ℕ) → HoldsBox committed done mode shared tickets work spare → mode ≡ Exclusive → HoldsBox committed done Exclusive shared tickets work spare
-is_lent committed done mode shared tickets work spare holds is = subst (λ m. HoldsBox committed done m shared tickets work spare) is holds
+pub is_lent : (committed done : TableId) (mode : Mode) (shared : ℕ) (tickets : SeatView CommittedContent) (work : SeatView Work) (spare : ℕ) → HoldsBox (group_tables committed done) mode shared tickets work spare → mode ≡ Exclusive → HoldsBox (group_tables committed done) Exclusive shared tickets work spare
+is_lent committed done mode shared tickets work spare holds is = subst (λ m. HoldsBox (group_tables committed done) m shared tickets work spare) is holds

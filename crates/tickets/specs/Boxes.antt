@@ -53,16 +53,25 @@ abbrev pub AreSpent : TableId → TableId → List (SeatView CommittedContent ×
 AreSpent committed done [] = Unit {0}
 AreSpent committed done (pair ∷ pairs) = IsSpentPair committed done pair × AreSpent committed done pairs
 
+-- the tables of a group's two agreements: on its committed content, and on the work in it
+pub record GroupTables : Type 0 where
+  pub committed : TableId
+  pub work : TableId
+
+-- these tables together
+abbrev pub group_tables : TableId → TableId → GroupTables
+group_tables committed work = record { committed = committed; work = work }
+
 -- The seats of the box. It has the shares that are not out, and a pair of spent seats for each claim that it can
 -- still grant.
-abbrev pub HoldsBox : TableId → TableId → Mode → ℕ → SeatView CommittedContent → SeatView Work → ℕ → Type 0
-HoldsBox committed done Shared shared tickets work spare =
-    (tickets ≡ committed_seat committed tickets.value.content (9 - shared))
-    × (work ≡ work_seat done (untouched Shared tickets.value.content) (9 - shared))
+abbrev pub HoldsBox : GroupTables → Mode → ℕ → SeatView CommittedContent → SeatView Work → ℕ → Type 0
+HoldsBox tables Shared shared tickets work spare =
+    (tickets ≡ committed_seat tables.committed tickets.value.content (9 - shared))
+    × (work ≡ work_seat tables.work (untouched Shared tickets.value.content) (9 - shared))
     × (spare + shared ≡ 8)
-HoldsBox committed done Exclusive shared tickets work spare =
-    IsSpent (record { table = committed; count = 10 }) tickets
-    × ((work ≡ work_seat done work.value 1) × (work.value.mode ≡ Exclusive))
+HoldsBox tables Exclusive shared tickets work spare =
+    IsSpent (record { table = tables.committed; count = 10 }) tickets
+    × ((work ≡ work_seat tables.work work.value 1) × (work.value.mode ≡ Exclusive))
     × ((shared ≡ 0) × (spare + 1 ≡ 8))
 
 -- ---- the box as a slice

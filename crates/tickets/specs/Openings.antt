@@ -22,12 +22,12 @@ pub record OpenedGroup : Type 0 where
 abbrev pub opened : TableId → TableId → Content → OpenedGroup
 opened committed work content = record { committed = committed; work = work; content = content }
 
--- the log's seat, the box's seats, and the number of pairs of spent seats
-abbrev pub AreOpened : TableId → TableId → Content → SeatView CommittedContent → SeatView CommittedContent → SeatView Work → ℕ → Type 0
-AreOpened committed done content log tickets work spare =
-    (log ≡ committed_seat committed content 1)
-    × (tickets ≡ committed_seat committed content 9)
-    × (work ≡ work_seat done (untouched Shared content) 9)
+-- the log's seat, the box's seats, and the number of pairs of spent seats, of a new group
+abbrev pub AreOpened : OpenedGroup → SeatView CommittedContent → SeatView CommittedContent → SeatView Work → ℕ → Type 0
+AreOpened group log tickets work spare =
+    (log ≡ committed_seat group.committed group.content 1)
+    × (tickets ≡ committed_seat group.committed group.content 9)
+    × (work ≡ work_seat group.work (untouched Shared group.content) 9)
     × (spare ≡ 8)
 
 -- ---- the openings of all groups

@@ -1,5 +1,6 @@
 -- The groups of a number of warehouses, and the places of the log's seats.
 use Rattle.std.specs.Prelude.{◌≡◌, ℕ, ◌+◌, ◌-◌, ◌*◌, ◌<◌, ◌≤◌, List, length, slice_index_or}
+use Rattle.rows.specs.declared.limits.TheConstants.{STOCK_GROUPS}
 use Rattle.requests.specs.declared.group.Group.{Group}
 use Rattle.requests.specs.declared.group.Group.TheVariants.{Warehouse, District, Customers, Orders, History, Stock}
 use Rattle.groups.specs.Groups.{warehouse_of}
@@ -9,14 +10,14 @@ use Rattle.tickets.specs.LogSeats.{CommittedGroup}
 abbrev pub IsBetween : ℕ → ℕ → ℕ → Type 0
 IsBetween low high number = (low ≤ number) × (number ≤ high)
 
--- The group belongs to one of this number of warehouses. A warehouse has ten districts, and its stock has 64 parts.
+-- The group belongs to one of this number of warehouses. A warehouse has ten districts, and its stock has STOCK_GROUPS parts.
 abbrev pub IsGroupOf : ℕ → Group → Type 0
 IsGroupOf warehouses (Warehouse w_id) = IsBetween 1 warehouses w_id
 IsGroupOf warehouses (District w_id d_id) = IsBetween 1 warehouses w_id × IsBetween 1 10 d_id
 IsGroupOf warehouses (Customers w_id d_id) = IsBetween 1 warehouses w_id × IsBetween 1 10 d_id
 IsGroupOf warehouses (Orders w_id d_id) = IsBetween 1 warehouses w_id × IsBetween 1 10 d_id
 IsGroupOf warehouses (History w_id d_id) = IsBetween 1 warehouses w_id × IsBetween 1 10 d_id
-IsGroupOf warehouses (Stock w_id residue) = IsBetween 1 warehouses w_id × (residue < 64)
+IsGroupOf warehouses (Stock w_id residue) = IsBetween 1 warehouses w_id × (residue < STOCK_GROUPS)
 
 -- the place of a group among the 105 of its warehouse: the warehouse's row, the ten districts' rows, the customers of
 -- each district, the orders of each, the payments of each, and the parts of the stock

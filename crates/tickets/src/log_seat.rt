@@ -57,7 +57,8 @@ impl<J: GroupNames> LogSeat<J> {
     pub fn settle(&mut self, claim: &mut Claim<J>)
         requires group { claim.old.group ≡ self.old.group }
         ensures recorded { claim.old.recorded ≡ self.old.content }
-        ensures content { self.new ≡ with_content self.old (committed_by claim.old.mode claim.old.left self.old.content) }
+        ensures content { self.new
+            ≡ with_content self.old (committed_by claim.old.mode claim.old.left self.old.content) }
         ensures claim { claim.new ≡ settled claim.old }
     {
         match claim.mode {

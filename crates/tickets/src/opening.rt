@@ -37,7 +37,9 @@ impl Model for GroupSeats {
 
     ghost view = { λ s. opened s.log.agreement.table s.work.agreement.table s.log.value.content };
 
-    ghost invariant = { λ s. AreOpened s.log.agreement.table s.work.agreement.table s.log.value.content s.log s.tickets s.work (vec_len s.spare)
+    ghost invariant = { λ s. AreOpened
+        (opened s.log.agreement.table s.work.agreement.table s.log.value.content)
+        s.log s.tickets s.work (vec_len s.spare)
         × ((8 ≤ vec_capacity s.spare) × AreSpent s.log.agreement.table s.work.agreement.table s.spare.items) };
 }
 
@@ -106,7 +108,8 @@ pub fn named_all<J: GroupNames>(
     requires all { vec_len openings ≡ 105 * warehouses }
     requires names { AreNamed warehouses J.committed J.work openings.items }
     ensures places { IfOk result (λ opened. AreInPlace warehouses opened.1) }
-    ensures contents { IfOk result (λ opened. contents_committed opened.1 ≡ contents_opened openings.items) }
+    ensures contents { IfOk result (λ opened.
+        contents_committed opened.1 ≡ contents_opened openings.items) }
     ensures boxes { IfOk result (λ opened. opened.0.items ≡ boxes_beside opened.1) }
 {
     let mut boxes = Vec::with_capacity(alloc.clone()?, openings.len())?;
@@ -131,7 +134,8 @@ fn spent_pairs(
     ensures same { (tickets.new ≡ tickets.old) × (work.new ≡ work.old) }
     ensures eight { IfOk result (λ pairs. vec_len pairs ≡ 8) }
     ensures room { IfOk result (λ pairs. 8 ≤ vec_capacity pairs) }
-    ensures spent { IfOk result (λ pairs. AreSpent tickets.old.agreement.table work.old.agreement.table pairs.items) }
+    ensures spent { IfOk result (λ pairs.
+        AreSpent tickets.old.agreement.table work.old.agreement.table pairs.items) }
 {
     let mut pairs = Vec::with_capacity(alloc, 8)?;
     for _ in 0..8_usize {

@@ -7,7 +7,7 @@ use crate::GroupNames;
 use requests::Group;
 
 /// The number of groups of a warehouse: its row; the rows, customers, orders and payments of its ten
-/// districts; and the 64 parts of its stock.
+/// districts; and the `STOCK_GROUPS` parts of its stock.
 pub const GROUPS_PER_WAREHOUSE: usize = 105;
 
 /// Returns the group at a place, among those of all warehouses.

@@ -40,12 +40,13 @@ impl<J: GroupNames> Model for TicketBox<J> {
     ghost coded = { Prim.hlevel (codes, content.the_row.coded) };
 
     ghost use Rattle.std.specs.Prelude.{◌≤◌, vec_len, vec_capacity};
-    ghost use Rattle.tickets.specs.Boxes.{ticket_box_view, HoldsBox, AreSpent};
+    ghost use Rattle.tickets.specs.Boxes.{ticket_box_view, group_tables, HoldsBox, AreSpent};
     ghost use Rattle.tickets.specs.Places.{IsGroupOf};
 
     ghost view = { λ b. ticket_box_view b.group b.mode b.shared b.work.value };
 
-    ghost invariant = { λ b. HoldsBox (J.committed b.group) (J.work b.group) b.mode b.shared b.tickets b.work (vec_len b.spare)
+    ghost invariant = { λ b. HoldsBox (group_tables (J.committed b.group) (J.work b.group))
+        b.mode b.shared b.tickets b.work (vec_len b.spare)
         × ((8 ≤ vec_capacity b.spare) × AreSpent (J.committed b.group) (J.work b.group) b.spare.items)
         × IsGroupOf J.warehouses b.group };
 }
@@ -70,7 +71,8 @@ impl<J: GroupNames> TicketBox<J> {
     pub fn share(&mut self, by: Holder) -> Option<Claim<J>>
         ensures free { IfSome result (λ _. (self.old.mode ≡ Shared) × (self.old.shared < 8)) }
         ensures claim { IfSome result (λ c. c ≡ fresh by self.old.group Shared self.old.left) }
-        ensures out { IfSome result (λ _. self.new ≡ sharing self.old.group self.old.left (self.old.shared + 1)) }
+        ensures out { IfSome result (λ _.
+            self.new ≡ sharing self.old.group self.old.left (self.old.shared + 1)) }
         ensures none { IfNone result ((self.old.mode ≡ Exclusive) ⊎ (self.old.shared ≡ 8)) }
         ensures same { IfNone result (self.new ≡ self.old) }
         ensures kept { IfSome result (λ c. BoxKeepsCommitted [] self.old (c ∷ []) self.new) }
@@ -192,7 +194,8 @@ impl<J: GroupNames> TicketBox<J> {
 
     // Takes back the seats of a shared claim.
     fn take_shared(&mut self, mut tickets: Seat<CommittedContent>, mut work: Seat<Work>)
-        requires { HoldsClaim (J.committed self.old.group) (J.work self.old.group) Shared tickets work }
+        requires { HoldsClaim
+            (J.committed self.old.group) (J.work self.old.group) Shared tickets work }
         ensures mode { self.old.mode ≡ Shared }
         ensures some { (0 < self.old.shared) × (self.old.shared ≤ 8) }
         ensures recorded { tickets.value.content ≡ self.old.left }
@@ -206,7 +209,8 @@ impl<J: GroupNames> TicketBox<J> {
 
     // Takes back the seats of an exclusive claim, which left what is committed.
     fn take_exclusive(&mut self, mut tickets: Seat<CommittedContent>, mut work: Seat<Work>)
-        requires holds { HoldsClaim (J.committed self.old.group) (J.work self.old.group) Exclusive tickets work }
+        requires holds { HoldsClaim
+            (J.committed self.old.group) (J.work self.old.group) Exclusive tickets work }
         requires committed { tickets.value.content ≡ work.value.left }
         ensures mode { self.old.mode ≡ Exclusive }
         ensures alone { self.old.shared ≡ 0 }

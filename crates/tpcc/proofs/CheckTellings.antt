@@ -4,18 +4,19 @@ use Rattle.tpcc.specs.declared.command_fault.CommandFault.{CommandFault}
 use Rattle.tpcc.specs.declared.command_fault.CommandFault.TheVariants as fault
 use Rattle.command_line.specs.declared.settings.check.CheckSettings.{CheckSettings}
 use Rattle.command_line.specs.declared.status.Status.{Status}
+use Rattle.tpcc.specs.Effects.{Change, Source}
 use Rattle.tpcc.specs.Check.{CheckEnds, ChecksSome}
 use Rattle.tpcc.specs.EarlyEnds.{IsOfChecking}
 use Rattle.tpcc.specs.Faults.{Reports, status_of}
 use Rattle.tpcc.proofs.EarlyTellings.{ends_early}
 
-module _ (s : CheckSettings) (source : Option (List ℕ)) (lasts : Type 0) (before after : Option (List ℕ)) (reported reported' : Option (List CommandFault)) where
-  no_condition : (condition : ℕ) → IsOfChecking s source lasts (fault.NotConsistent condition) → ⊥
+module _ (s : CheckSettings) («data» : Source) (printed : Change (Option (List ℕ))) (reported : Change (Option (List CommandFault))) where
+  no_condition : (condition : ℕ) → IsOfChecking s «data» (fault.NotConsistent condition) → ⊥
   no_condition condition (inl a) = a
   no_condition condition (inr a) = a
 
-  pub check_ends_early : (of : CommandFault) (ended : Status) → ended ≡ status_of of → ChecksSome s.fresh source before after → IsOfChecking s source lasts of → Reports reported reported' of
-      → CheckEnds s source lasts before after reported reported' ended
+  pub check_ends_early : (of : CommandFault) (ended : Status) → ended ≡ status_of of → ChecksSome s.fresh «data».remaining printed → IsOfChecking s «data» of → Reports reported.before reported.after of
+      → CheckEnds s «data» printed reported ended
   check_ends_early of ended is some said reports =
-      ends_early (IsOfChecking s source lasts) reported reported' (CheckEnds s source lasts before after reported reported') no_condition
+      ends_early (IsOfChecking s «data») reported.before reported.after (CheckEnds s «data» printed reported) no_condition
       (λ early. (some, early)) (λ early. (some, early)) (λ early. (some, early)) of ended is said reports

@@ -13,23 +13,23 @@ use Rattle.command_line.specs.declared.settings.replay.ReplaySettings.{ReplaySet
 use Rattle.command_line.specs.declared.status.Status.{Status}
 use Rattle.tpcc.specs.declared.command_fault.CommandFault.TheVariants as fault
 use Rattle.tpcc.specs.EarlyEnds.{IsOfReplaying}
-use Rattle.tpcc.specs.Edges.{Gives}
+use Rattle.files.specs.Place.{Gives}
 use Rattle.tpcc.specs.Faults.{IsOfWritingSome, Reports, status_of}
-use Rattle.tpcc.specs.Replay.{ReportsReplay, ReplayEnds, ReplaysSome}
+use Rattle.tpcc.specs.Effects.{Change, CommandOutput}
+use Rattle.tpcc.specs.Replay.{ReportsReplay, ReplayEnds, ReplaysSome, ReplayStreams}
 use Rattle.tpcc.proofs.EarlyTellings.{ends_early}
 
-module _ {F : Type 0} (contents : F → Option (List ℕ)) (file : Option F) (s : ReplaySettings) (source : Option (List ℕ)) (source_lasts : Type 0) (log : Option (List ℕ)) (log_lasts : Type 0)
-    (before after : Option (List ℕ)) (named named' : Option (List (Option (List ℕ)))) (reported reported' : Option (List CommandFault)) where
-  pub replay_ends : (opening : Database) (entries : List Entry) (replay : Replay) (ended : Status) → Gives source (AreRecords opening) → Gives log (IsLog entries) → IsReplayOf opening entries replay
-      → ReportsReplay contents file before after named named' entries replay ended → reported' ≡ reported → ReplayEnds contents file s source source_lasts log log_lasts before after named named' reported reported' ended
+module _ {F : Type 0} (contents : F → Option (List ℕ)) (s : ReplaySettings) (streams : ReplayStreams F) (output : CommandOutput) (reported : Change (Option (List CommandFault))) where
+  pub replay_ends : (opening : Database) (entries : List Entry) (replay : Replay) (ended : Status) → Gives streams.«data».remaining (AreRecords opening) → Gives streams.log.remaining (IsLog entries) → IsReplayOf opening entries replay
+      → ReportsReplay contents streams.tables output entries replay ended → reported.after ≡ reported.before → ReplayEnds contents s streams output reported ended
   replay_ends opening entries (Equal last) ended is_dataset is_log is_replay reports same =
-      subst (ReplayEnds contents file s source source_lasts log log_lasts before after named named' reported reported') (sym reports.0)
-      (last, record { entries = entries; is_replayed = record { opening = opening; is_dataset = is_dataset; is_log = is_log; is_replay = is_replay }; printed = reports.1; no_fault = same }, reports.2)
+      subst (ReplayEnds contents s streams output reported) (sym reports.0)
+      (last, record { entries = entries; is_replayed = record { opening = opening; is_dataset = is_dataset; is_log = is_log; is_replay = is_replay }; appended = reports.1; no_fault = same }, reports.2)
   replay_ends opening entries (Differs place) ended is_dataset is_log is_replay reports same =
-      subst (ReplayEnds contents file s source source_lasts log log_lasts before after named named' reported reported') (sym reports.0)
-      (place, record { entries = entries; is_replayed = record { opening = opening; is_dataset = is_dataset; is_log = is_log; is_replay = is_replay }; printed = reports.1; no_fault = same }, reports.2)
+      subst (ReplayEnds contents s streams output reported) (sym reports.0)
+      (place, record { entries = entries; is_replayed = record { opening = opening; is_dataset = is_dataset; is_log = is_log; is_replay = is_replay }; appended = reports.1; no_fault = same }, reports.2)
 
-  no_condition : (condition : ℕ) → IsOfReplaying s source source_lasts log log_lasts (fault.NotConsistent condition) → ⊥
+  no_condition : (condition : ℕ) → IsOfReplaying s streams.«data» streams.log (fault.NotConsistent condition) → ⊥
   no_condition condition (inl a) = a
   no_condition condition (inr (inl a)) = a.1
   no_condition condition (inr (inr (inl a))) = a
@@ -40,8 +40,8 @@ module _ {F : Type 0} (contents : F → Option (List ℕ)) (file : Option F) (s 
       none (Some path) a = a
 
   -- the same, where it ends early
-  pub replay_ends_early : (of : CommandFault) (ended : Status) → ended ≡ status_of of → IsOfReplaying s source source_lasts log log_lasts of → Reports reported reported' of → named' ≡ named → ReplaysSome source log before after
-      → ReplayEnds contents file s source source_lasts log log_lasts before after named named' reported reported' ended
+  pub replay_ends_early : (of : CommandFault) (ended : Status) → ended ≡ status_of of → IsOfReplaying s streams.«data» streams.log of → Reports reported.before reported.after of → output.named.after ≡ output.named.before
+      → ReplaysSome streams.«data».remaining streams.log.remaining output.printed → ReplayEnds contents s streams output reported ended
   replay_ends_early of ended is said reports same some =
-      ends_early (IsOfReplaying s source source_lasts log log_lasts) reported reported' (ReplayEnds contents file s source source_lasts log log_lasts before after named named' reported reported') no_condition
+      ends_early (IsOfReplaying s streams.«data» streams.log) reported.before reported.after (ReplayEnds contents s streams output reported) no_condition
       (λ early. (same, some, early)) (λ early. (same, some, early)) (λ early. (same, some, early)) of ended is said reports

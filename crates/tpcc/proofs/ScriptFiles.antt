@@ -2,6 +2,7 @@
 use Rattle.std.proofs.Common.{◌≡◌, ◌⊎◌, inl, inr, ℕ, suc, ◌+◌, ◌<◌, ◌≤◌, List, [], ◌∷◌, ◌++◌, length, take, drop, get_or, Option, Some, refl, sym, ap, subst, ◌∙◌, arith}
 use Rattle.std.proofs.lemmas.List.{take_more, length-take-le, take-append-drop}
 use Rattle.workload.specs.declared.sessions.Workload.{Workload}
+use Rattle.tpcc.specs.Effects.{Source}
 use Rattle.tpcc.specs.Edges.{NamesFile}
 use Rattle.std.specs.Borrow.{Bor}
 use Rattle.tpcc.specs.declared.command_fault.CommandFault.{CommandFault}
@@ -12,9 +13,9 @@ use Rattle.tpcc.specs.Faults.{IsFirst, IsOfReading, IsOfWritingOneOf}
 use Rattle.tpcc.specs.Script.{AreDrawn, IsOfMaking, NamesFirstScripts, NamesScripts}
 
 -- one of the files that are made, or no memory, as a fault of the command
-pub of_making : (s : ScriptSettings) (source : Option (List ℕ)) (lasts : Type 0) (paths : List (Bor (List ℕ))) (f : CommandFault) → paths ≡ s.files.items → (f ≡ NoMemory) ⊎ IsOfWritingOneOf paths f → IsOfMaking s source lasts f
-of_making s source lasts paths f is (inl none) = inl (subst (IsOfReading s.«data».now source lasts (IsFirst first_fault)) (sym none) tt)
-of_making s source lasts paths f is (inr said) = inr (inr (subst (λ l. IsOfWritingOneOf l f) is said))
+pub of_making : (s : ScriptSettings) («data» : Source) (paths : List (Bor (List ℕ))) (f : CommandFault) → paths ≡ s.files.items → (f ≡ NoMemory) ⊎ IsOfWritingOneOf paths f → IsOfMaking s «data» f
+of_making s «data» paths f is (inl none) = inl (subst (IsOfReading s.«data».now «data».remaining «data».lasts (IsFirst first_fault)) (sym none) tt)
+of_making s «data» paths f is (inr said) = inr (inr (subst (λ l. IsOfWritingOneOf l f) is said))
 
 module _ {F : Type 0} (contents : F → Option (List ℕ)) (workload : Workload) where
   scripts-push : (session : ℕ) (files : List F) (file : F) (named between named' : Option (List (Option (List ℕ)))) → NamesScripts contents workload session files named between

@@ -6,7 +6,7 @@ use Rattle.engine.specs.declared.outcome.ServeFault.{ServeFault}
 use Rattle.engine.specs.declared.outcome.ServeFault.TheVariants.{BadMove, NoMemory, NotConsistent, NoThread, Unsettled}
 use Rattle.engine.specs.Faults.{IsFaultOf}
 use Rattle.dataset.specs.Records.{AreRecords}
-use Rattle.tpcc.specs.Edges.{Gives}
+use Rattle.files.specs.Place.{Gives}
 use Rattle.tpcc.specs.EarlyEnds.{IsOfServing}
 use Rattle.tpcc.specs.Faults.{fault_of_serving}
 use Rattle.tpcc.specs.Run.{GivesMoves}

@@ -9,8 +9,10 @@ use Rattle.dataset.specs.Records.{AreRecords}
 use Rattle.tpcc.specs.declared.command_fault.CommandFault.{CommandFault}
 use Rattle.command_line.specs.declared.status.Status.{Status}
 use Rattle.command_line.specs.declared.status.Status.TheVariants as status
+use Rattle.tpcc.specs.Effects.{Change, Source}
 use Rattle.tpcc.specs.Verdicts.{verdict_text, verdicts_of, is_broken}
-use Rattle.tpcc.specs.Edges.{Gives, lines_text}
+use Rattle.files.specs.Place.{Gives}
+use Rattle.tpcc.specs.Edges.{lines_text}
 use Rattle.command_line.specs.declared.settings.check.CheckSettings.{CheckSettings}
 use Rattle.tpcc.specs.EarlyEnds.{IsOfChecking}
 use Rattle.tpcc.specs.Faults.{EndsEarly}
@@ -27,23 +29,24 @@ module _ (fresh : Bool) where
   verdicts_text answers = lines_text (map verdict_text (verdicts_of fresh 1 answers))
 
   -- nothing was printed; or each condition was checked, and a beginning of the lines was printed
-  abbrev pub ChecksSome : Option (List ℕ) → Option (List ℕ) → Option (List ℕ) → Type 0
-  ChecksSome «data» before after = (after ≡ before) ⊎ ((answers : List Bool) × IsChecked «data» answers × Begins before after (verdicts_text answers))
+  abbrev pub ChecksSome : Option (List ℕ) → Change (Option (List ℕ)) → Type 0
+  ChecksSome «data» printed =
+      (printed.after ≡ printed.before)
+      ⊎ ((answers : List Bool) × IsChecked «data» answers × Begins printed.before printed.after (verdicts_text answers))
 
-module _ (fresh : Bool) («data» before after : Option (List ℕ)) (reported reported' : Option (List CommandFault)) where
-  -- the verdict on each condition of the source's tables was printed, line by line, and no fault was reported; `broken` says whether a
-  -- condition is broken
+module _ (fresh : Bool) («data» : Option (List ℕ)) (printed : Change (Option (List ℕ))) where
+  -- the verdict on each condition of the source's tables was printed, line by line; `broken` says whether a condition is broken
   pub record Checks (broken : Bool) : Type 0 where
     pub answers : List Bool
     pub is_checked : IsChecked «data» answers
-    pub printed : Appends before after (verdicts_text fresh answers)
+    pub appended : Appends printed.before printed.after (verdicts_text fresh answers)
     pub any_broken : broken ≡ list_any (λ verdict. is_broken verdict.found) (verdicts_of fresh 1 answers)
-    pub no_fault : reported' ≡ reported
 
-module _ (s : CheckSettings) («data» : Option (List ℕ)) (lasts : Type 0) (before after : Option (List ℕ)) (reported reported' : Option (List CommandFault)) where
-  -- By the exit status. Success: no condition is broken. NotConsistent: one is. Otherwise a fault was reported, of the dataset or of
-  -- printing, and at most a beginning of the lines was printed.
+module _ (s : CheckSettings) («data» : Source) (printed : Change (Option (List ℕ))) (reported : Change (Option (List CommandFault))) where
+  -- By the exit status. Success: no condition is broken. NotConsistent: one is. No fault was reported then. Otherwise a fault was reported, of
+  -- the dataset or of printing, and at most a beginning of the lines was printed.
   abbrev pub CheckEnds : Status → Type 0
-  CheckEnds status.Success = Checks s.fresh «data» before after reported reported' false
-  CheckEnds status.NotConsistent = Checks s.fresh «data» before after reported reported' true
-  CheckEnds ended = ChecksSome s.fresh «data» before after × EndsEarly (IsOfChecking s «data» lasts) reported reported' ended
+  CheckEnds status.Success = Checks s.fresh «data».remaining printed false × (reported.after ≡ reported.before)
+  CheckEnds status.NotConsistent = Checks s.fresh «data».remaining printed true × (reported.after ≡ reported.before)
+  CheckEnds ended =
+      ChecksSome s.fresh «data».remaining printed × EndsEarly (IsOfChecking s «data») reported.before reported.after ended

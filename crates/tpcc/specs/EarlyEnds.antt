@@ -23,10 +23,11 @@ use Rattle.command_line.specs.declared.settings.check.CheckSettings.{CheckSettin
 use Rattle.command_line.specs.declared.settings.replay.ReplaySettings.{ReplaySettings}
 use Rattle.command_line.specs.declared.settings.run.RunSettings.{RunSettings}
 use Rattle.command_line.specs.declared.settings.sim.SimSettings.{SimSettings}
-use Rattle.tpcc.specs.Edges.{Gives}
+use Rattle.files.specs.Place.{Gives}
 use Rattle.tpcc.specs.Faults.{IsFirst, IsOfReading, IsOfWriting, IsOfWritingSome, standard_output}
-use Rattle.tpcc.specs.Run.{GivesMoves}
-use Rattle.tpcc.specs.Sim.{IsSimulation}
+use Rattle.tpcc.specs.Effects.{Source}
+use Rattle.tpcc.specs.Run.{GivesMoves, RunInputs}
+use Rattle.tpcc.specs.Sim.{IsSimulation, SimInputs}
 
 -- the source gives tables
 abbrev pub GivesTables : Option (List ℕ) → Type 0
@@ -35,8 +36,9 @@ GivesTables source = (tables : Database) × Gives source (AreRecords tables)
 -- ---- check
 
 -- a fault of the dataset or of the standard output
-abbrev pub IsOfChecking : CheckSettings → Option (List ℕ) → Type 0 → CommandFault → Type 0
-IsOfChecking s source lasts of = IsOfReading s.«data».now source lasts IsFaultOf of ⊎ IsOfWriting standard_output of
+abbrev pub IsOfChecking : CheckSettings → Source → CommandFault → Type 0
+IsOfChecking s «data» of =
+    IsOfReading s.«data».now «data».remaining «data».lasts IsFaultOf of ⊎ IsOfWriting standard_output of
 
 -- ---- replay
 
@@ -45,10 +47,10 @@ abbrev pub ReplayMayReport : ReplaySettings → CommandFault → Type 0
 ReplayMayReport s of = IsOfWriting standard_output of ⊎ IsOfWritingSome s.tables of
 
 -- a fault of the dataset; or of the log, and the dataset gives tables; or of an output
-abbrev pub IsOfReplaying : ReplaySettings → Option (List ℕ) → Type 0 → Option (List ℕ) → Type 0 → CommandFault → Type 0
-IsOfReplaying s «data» data_lasts log log_lasts of =
-    IsOfReading s.«data».now «data» data_lasts IsFaultOf of
-    ⊎ (GivesTables «data» × IsOfReading s.log.now log log_lasts (IsFirst log_fault) of)
+abbrev pub IsOfReplaying : ReplaySettings → Source → Source → CommandFault → Type 0
+IsOfReplaying s «data» log of =
+    IsOfReading s.«data».now «data».remaining «data».lasts IsFaultOf of
+    ⊎ (GivesTables «data».remaining × IsOfReading s.log.now log.remaining log.lasts (IsFirst log_fault) of)
     ⊎ ReplayMayReport s of
 
 -- ---- run
@@ -78,10 +80,11 @@ module _ {S : Type 0} (remaining : S → Option (List ℕ)) (lasts : S → Type 
 
   -- a fault of the dataset; or of a script, and the dataset gives tables; or of the moves, and the dataset gives tables and all sources give
   -- scripts
-  abbrev pub RunMayReport : RunSettings → Option (List ℕ) → Type 0 → List S → Option S → CommandFault → Type 0
-  RunMayReport s «data» data_lasts scripts moves of =
-      IsOfReading s.«data».now «data» data_lasts IsFaultOf of
-      ⊎ (GivesTables «data» × (IsOfScripts s.scripts.items scripts of ⊎ (GiveScripts scripts × IsOfMoves s.moves moves of)))
+  abbrev pub RunMayReport : RunSettings → RunInputs S → CommandFault → Type 0
+  RunMayReport s inputs of =
+      IsOfReading s.«data».now inputs.«data».remaining inputs.«data».lasts IsFaultOf of
+      ⊎ (GivesTables inputs.«data».remaining
+      × (IsOfScripts s.scripts.items inputs.scripts of ⊎ (GiveScripts inputs.scripts × IsOfMoves s.moves inputs.moves of)))
 
 -- a fault of the log, the standard output or the file of the last tables
 abbrev pub IsOfAnswering : RunSettings → CommandFault → Type 0
@@ -105,10 +108,10 @@ IsOfServing source executors moving _ = ⊥
 
 module _ {S : Type 0} (remaining : S → Option (List ℕ)) (lasts : S → Type 0) where
   -- a fault of an input, of serving or of an output
-  abbrev pub IsOfRunning : RunSettings → Option (List ℕ) → Type 0 → List S → Option S → CommandFault → Type 0
-  IsOfRunning s «data» data_lasts scripts moves of =
-      RunMayReport remaining lasts s «data» data_lasts scripts moves of
-      ⊎ IsOfServing «data» s.executors (option_map remaining moves) of
+  abbrev pub IsOfRunning : RunSettings → RunInputs S → CommandFault → Type 0
+  IsOfRunning s inputs of =
+      RunMayReport remaining lasts s inputs of
+      ⊎ IsOfServing inputs.«data».remaining s.executors (option_map remaining inputs.moves) of
       ⊎ IsOfAnswering s of
 
 -- ---- sim
@@ -134,9 +137,10 @@ abbrev pub IsOfShowing : SimSettings → CommandFault → Type 0
 IsOfShowing s of = IsOfWritingSome s.log of ⊎ IsOfWriting standard_output of ⊎ IsOfWritingSome s.picture of ⊎ IsOfWritingSome s.tables of
 
 -- a fault of the dataset; or of the schedule, and the dataset gives tables; or of simulating; or of an output
-abbrev pub IsOfSimulating : SimSettings → Option (List ℕ) → Type 0 → Option (List ℕ) → Type 0 → CommandFault → Type 0
-IsOfSimulating s «data» data_lasts source source_lasts of =
-    IsOfReading s.«data».now «data» data_lasts IsFaultOf of
-    ⊎ (GivesTables «data» × IsOfReading s.schedule.now source source_lasts (IsFirst schedule_fault) of)
-    ⊎ IsOfPlaying «data» source s.executors (is_some s.tables) of
+abbrev pub IsOfSimulating : SimSettings → SimInputs → CommandFault → Type 0
+IsOfSimulating s inputs of =
+    IsOfReading s.«data».now inputs.«data».remaining inputs.«data».lasts IsFaultOf of
+    ⊎ (GivesTables inputs.«data».remaining
+    × IsOfReading s.schedule.now inputs.schedule.remaining inputs.schedule.lasts (IsFirst schedule_fault) of)
+    ⊎ IsOfPlaying inputs.«data».remaining inputs.schedule.remaining s.executors (is_some s.tables) of
     ⊎ IsOfShowing s of

@@ -1,5 +1,6 @@
 pub mod OtherName
 pub mod OutputFiles
+pub mod Effects
 pub mod Tally
 pub mod Edges
 pub mod Sim

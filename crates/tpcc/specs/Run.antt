@@ -16,7 +16,10 @@ use Rattle.terminals.specs.Script.{IsScript}
 use Rattle.terminals.specs.Answers.{AreAnswers, AreInLog}
 use Rattle.tpcc.specs.declared.command_fault.CommandFault.{CommandFault}
 use Rattle.files.specs.Sending.{BeginsToWrite, OfFirst, Writes}
-use Rattle.tpcc.specs.Edges.{Gives, NamesFile}
+use Rattle.tpcc.specs.Effects.{Change, CommandOutput, Source}
+use Rattle.tpcc.specs.OutputFiles.{NamedTexts}
+use Rattle.files.specs.Place.{Gives}
+use Rattle.tpcc.specs.Edges.{NamesFile}
 
 -- each place in the answers of a session is that of an entry of the log
 abbrev pub AreAllInLog : List Entry → List (List (Result ℕ Refusal)) → Type 0
@@ -40,49 +43,81 @@ abbrev pub GivesMoves : Option (Option (List ℕ)) → List MoveOrder → Type 0
 GivesMoves None moves = moves ≡ []
 GivesMoves (Some source) moves = Gives source (AreMoves moves)
 
--- The scripts that the sources give were served by that many executors on the tables that `data` gives, which are consistent, with this log,
+-- what a run reads: the dataset, the scripts, and the moves, if there is a file of them
+pub record RunInputs (S : Type 0) : Type 1 where
+  pub «data» : Source
+  pub scripts : List S
+  pub moves : Option S
+
+-- the dataset, the scripts and the moves, as inputs
+abbrev pub run_inputs : {S : Type 0} → Source → List S → Option S → RunInputs S
+run_inputs «data» scripts moves = record { «data» = «data»; scripts = scripts; moves = moves }
+
+-- the texts of these inputs, where they are known
+pub record RunTexts : Type 0 where
+  pub «data» : Option (List ℕ)
+  pub scripts : List (Option (List ℕ))
+  pub moves : Option (Option (List ℕ))
+
+-- the texts of the dataset, the scripts and the moves, as those of a run
+abbrev pub texts_of : Option (List ℕ) → List (Option (List ℕ)) → Option (Option (List ℕ)) → RunTexts
+texts_of «data» scripts moves = record { «data» = «data»; scripts = scripts; moves = moves }
+
+-- the files that a run makes, if they are asked for
+pub record RunOutputs (F : Type 0) : Type 0 where
+  pub log : Option F
+  pub tables : Option F
+
+-- the files of the log and the tables, as outputs
+abbrev pub run_outputs : {F : Type 0} → Option F → Option F → RunOutputs F
+run_outputs log tables = record { log = log; tables = tables }
+
+-- The scripts that the texts give were served by that many executors on the tables that the dataset gives, which are consistent, with this log,
 -- these last tables and these answers. All moves are possible.
-pub record AreServed («data» : Option (List ℕ)) (sources : List (Option (List ℕ))) (executors : ℕ) (moving : Option (Option (List ℕ))) (log : List Entry) (last : Database) (answers : List (List (Result ℕ Refusal))) : Type 0 where
+pub record AreServed (executors : ℕ) (texts : RunTexts) (log : List Entry) (last : Database) (answers : List (List (Result ℕ Refusal))) : Type 0 where
   pub opening : Database
-  pub is_dataset : Gives «data» (AreRecords opening)
+  pub is_dataset : Gives texts.«data» (AreRecords opening)
   pub consistent : Consistent opening
   pub moves : List MoveOrder
-  pub are_moves : GivesMoves moving moves
+  pub are_moves : GivesMoves texts.moves moves
   pub within : AreWithin opening executors moves
   pub scripts : List (List Request)
-  pub are_scripts : AllZip (λ source script. Gives source (IsScript script)) sources scripts
+  pub are_scripts : AllZip (λ source script. Gives source (IsScript script)) texts.scripts scripts
   pub outcome : IsOutcome opening scripts log last answers
 
-module _ {F : Type 0} (contents : F → Option (List ℕ)) (file tables : Option F) (before after : Option (List ℕ)) (named named' : Option (List (Option (List ℕ)))) where
+module _ {F : Type 0} (contents : F → Option (List ℕ)) (files : RunOutputs F) (output : CommandOutput) where
   -- The records of all answers were printed. Then the files, if there are such, got their names: first the log with its records, then the tables
   -- with the records of the last tables.
   pub record HandsOut (log : List Entry) (last : Database) (answers : List (List (Result ℕ Refusal))) : Type 0 where
-    pub printed : Writes before after (AreAllAnswers log 0 answers)
-    pub with_log : Option (List (Option (List ℕ)))
-    pub logged : NamesFile contents file named with_log (IsLog log)
-    pub left : NamesFile contents tables with_log named' (AreRecords last)
+    pub printed : Writes output.printed.before output.printed.after (AreAllAnswers log 0 answers)
+    pub with_log : NamedTexts
+    pub logged : NamesFile contents files.log output.named.before with_log (IsLog log)
+    pub left : NamesFile contents files.tables with_log output.named.after (AreRecords last)
 
   -- A beginning of these records was printed, and no file has got its name; or tables are asked for, all records were printed, and the log, if
   -- there is one, has got its name.
   abbrev pub HandsOutSome : List Entry → List (List (Result ℕ Refusal)) → Type 0
   HandsOutSome log answers =
-      (BeginsToWrite before after (BeginAllAnswers log 0 answers) × (named' ≡ named))
-      ⊎ ((is_some tables ≡ true) × Writes before after (AreAllAnswers log 0 answers) × NamesFile contents file named named' (IsLog log))
+      (BeginsToWrite output.printed.before output.printed.after (BeginAllAnswers log 0 answers)
+      × (output.named.after ≡ output.named.before))
+      ⊎ ((is_some files.tables ≡ true)
+      × Writes output.printed.before output.printed.after (AreAllAnswers log 0 answers)
+      × NamesFile contents files.log output.named.before output.named.after (IsLog log))
 
-module _ {F : Type 0} (contents : F → Option (List ℕ)) («data» : Option (List ℕ)) (sources : List (Option (List ℕ))) (executors : ℕ) (moving : Option (Option (List ℕ))) (file tables : Option F)
-    (before after : Option (List ℕ)) (named named' : Option (List (Option (List ℕ)))) where
+module _ {F : Type 0} (contents : F → Option (List ℕ)) (executors : ℕ) (texts : RunTexts) (files : RunOutputs F) (output : CommandOutput) where
   -- nothing was printed, and no file has got its name; or the scripts were served, and a part of the output was made (`HandsOutSome`)
   abbrev pub ServesSome : Type 0
   ServesSome =
-      ((after ≡ before) × (named' ≡ named))
-      ⊎ ((log : List Entry) × (last : Database) × (answers : List (List (Result ℕ Refusal))) × AreServed «data» sources executors moving log last answers
-      × HandsOutSome contents file tables before after named named' log answers)
+      ((output.printed.after ≡ output.printed.before) × (output.named.after ≡ output.named.before))
+      ⊎ ((log : List Entry) × (last : Database) × (answers : List (List (Result ℕ Refusal)))
+      × AreServed executors texts log last answers × HandsOutSome contents files output log answers)
 
-  -- The scripts that the sources give were served on the tables that `data` gives, all output was made (`HandsOut`), and no fault was reported.
-  pub record Serves (reported reported' : Option (List CommandFault)) : Type 0 where
+  -- The scripts that the texts give were served on the tables that the dataset gives, all output was made (`HandsOut`), and no fault was
+  -- reported.
+  pub record Serves (reported : Change (Option (List CommandFault))) : Type 0 where
     pub log : List Entry
     pub last : Database
     pub answers : List (List (Result ℕ Refusal))
-    pub are_served : AreServed «data» sources executors moving log last answers
-    pub handed_out : HandsOut contents file tables before after named named' log last answers
-    pub no_fault : reported' ≡ reported
+    pub are_served : AreServed executors texts log last answers
+    pub handed_out : HandsOut contents files output log last answers
+    pub no_fault : reported.after ≡ reported.before

@@ -15,6 +15,8 @@ use Rattle.tpcc.specs.declared.command_fault.CommandFault.{CommandFault}
 use Rattle.tpcc.specs.declared.command_fault.CommandFault.TheVariants as fault
 use Rattle.command_line.specs.declared.status.Status.{Status}
 use Rattle.command_line.specs.declared.status.Status.TheVariants as status
+use Rattle.tpcc.specs.Effects.{Change, Source}
+use Rattle.tpcc.specs.OutputFiles.{NamedTexts}
 use Rattle.tpcc.specs.Edges.{NamesFile}
 use Rattle.tpcc.specs.Faults.{IsFirst, IsOfReading, IsOfWritingOneOf, EndsEarly}
 
@@ -43,41 +45,53 @@ IsNoWarehouse home scale _ = ⊥
 
 -- a fault of the dataset's header; or NoWarehouse: the header gives a scale without the home warehouse; or a fault of one of the files that
 -- are made
-abbrev pub IsOfMaking : ScriptSettings → Option (List ℕ) → Type 0 → CommandFault → Type 0
-IsOfMaking s source lasts of =
-    IsOfReading s.«data».now source lasts (IsFirst first_fault) of
-    ⊎ ((scale : Scale) × GivesScale source scale × IsNoWarehouse s.home scale of)
+abbrev pub IsOfMaking : ScriptSettings → Source → CommandFault → Type 0
+IsOfMaking s «data» of =
+    IsOfReading s.«data».now «data».remaining «data».lasts (IsFirst first_fault) of
+    ⊎ ((scale : Scale) × GivesScale «data».remaining scale × IsNoWarehouse s.home scale of)
     ⊎ IsOfWritingOneOf s.files.items of
+
+-- the dataset whose header is read, and the files of the scripts
+pub record ScriptStreams (F : Type 0) : Type 1 where
+  pub «data» : Source
+  pub files : List F
+
+-- the dataset and the files of the scripts, as streams
+abbrev pub script_streams : {F : Type 0} → Source → List F → ScriptStreams F
+script_streams «data» files = record { «data» = «data»; files = files }
 
 module _ {F : Type 0} (contents : F → Option (List ℕ)) where
   -- these files have got their names in order, each with the script of its session; the first is the file of this session
-  abbrev pub NamesScripts : Workload → ℕ → List F → Option (List (Option (List ℕ))) → Option (List (Option (List ℕ))) → Type 0
+  abbrev pub NamesScripts : Workload → ℕ → List F → NamedTexts → NamedTexts → Type 0
   NamesScripts workload session [] named named' = named' ≡ named
   NamesScripts workload session (file ∷ files) named named' =
-      (between : Option (List (Option (List ℕ)))) × NamesFile contents (Some file) named between (AreDrawn workload session) × NamesScripts workload (session + 1) files between named'
+      (between : NamedTexts) × NamesFile contents (Some file) named between (AreDrawn workload session) × NamesScripts workload (session + 1) files between named'
 
   -- a prefix of the files have got their names, each with its script, and the others have not
-  abbrev pub NamesFirstScripts : Workload → List F → Option (List (Option (List ℕ))) → Option (List (Option (List ℕ))) → Type 0
+  abbrev pub NamesFirstScripts : Workload → List F → NamedTexts → NamedTexts → Type 0
   NamesFirstScripts workload files named named' =
       (first : List F) × (others : List F) × (files ≡ first ++ others) × NamesScripts workload 0 first named named'
 
-  module _ (settings : ScriptSettings) («data» : Option (List ℕ)) (files : List F) (named named' : Option (List (Option (List ℕ)))) where
+  module _ (settings : ScriptSettings) («data» : Option (List ℕ)) (files : List F) (named : Change NamedTexts) where
     -- each file has got its name with the script of its session, drawn at the scale in the source's header
     abbrev pub MakesAll : Type 0
     MakesAll =
         (scale : Scale) × GivesScale «data» scale × (workload : Workload) × IsWorkload settings scale workload
-        × NamesScripts workload 0 files named named'
+        × NamesScripts workload 0 files named.before named.after
 
     -- no file has got a name; or a prefix of the files have, each with its script
     abbrev pub MakesSome : Type 0
     MakesSome =
-        (named' ≡ named)
+        (named.after ≡ named.before)
         ⊎ ((scale : Scale) × GivesScale «data» scale × (workload : Workload) × IsWorkload settings scale workload
-        × NamesFirstScripts workload files named named')
+        × NamesFirstScripts workload files named.before named.after)
 
-  module _ (settings : ScriptSettings) («data» : Option (List ℕ)) (lasts : Type 0) (files : List F) (named named' : Option (List (Option (List ℕ)))) where
+  module _ (settings : ScriptSettings) (streams : ScriptStreams F) (named : Change NamedTexts) (reported : Change (Option (List CommandFault))) where
     -- By the exit status. Success: all files have their names, and no fault was reported. Otherwise at most a prefix of the files have, and a
     -- fault was reported.
-    abbrev pub ScriptEnds : Option (List CommandFault) → Option (List CommandFault) → Status → Type 0
-    ScriptEnds reported reported' status.Success = MakesAll settings «data» files named named' × (reported' ≡ reported)
-    ScriptEnds reported reported' ended = MakesSome settings «data» files named named' × EndsEarly (IsOfMaking settings «data» lasts) reported reported' ended
+    abbrev pub ScriptEnds : Status → Type 0
+    ScriptEnds status.Success =
+        MakesAll settings streams.«data».remaining streams.files named × (reported.after ≡ reported.before)
+    ScriptEnds ended =
+        MakesSome settings streams.«data».remaining streams.files named
+        × EndsEarly (IsOfMaking settings streams.«data») reported.before reported.after ended

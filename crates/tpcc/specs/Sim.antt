@@ -1,5 +1,5 @@
 -- What `tpcc sim` prints and writes.
-use Rattle.std.specs.Prelude.{◌≡◌, ◌⊎◌, ℕ, List, [], Option, None, Some, Result, Ok}
+use Rattle.std.specs.Prelude.{◌≡◌, ◌⊎◌, ℕ, List, Option, None, Some, Result, Ok}
 use Rattle.std.specs.Io.KnownBytes.{Appends}
 use Rattle.std.specs.declared.marker.Brand.{Brand}
 use Rattle.schema.specs.Database.{Database}
@@ -10,17 +10,48 @@ use Rattle.world.specs.declared.simulating.Simulation.{Simulation}
 use Rattle.world.specs.declared.world.GatherFault.{GatherFault}
 use Rattle.world.specs.Openings.{Simulates}
 use Rattle.picture.specs.declared.asides.Aside.{Aside}
-use Rattle.picture.specs.Drawing.{picture_text}
-use Rattle.picture.specs.Lanes.{sessions_from}
-use Rattle.picture.specs.Rows as row
+use Rattle.picture.specs.Drawing.{drawing_text}
 use Rattle.dataset.specs.Records.{AreRecords}
 use Rattle.terminals.specs.LogRecord.{IsLog}
 use Rattle.terminals.specs.Outputs.{AreOutputs}
 use Rattle.terminals.specs.Schedule.{IsSchedule}
 use Rattle.tpcc.specs.declared.command_fault.CommandFault.{CommandFault}
-use Rattle.tpcc.specs.OutputFiles.{Shelves}
+use Rattle.tpcc.specs.Effects.{Change, CommandOutput, Source}
+use Rattle.tpcc.specs.OutputFiles.{NamedTexts, Shelves}
 use Rattle.files.specs.Sending.{BeginsToWrite, OfFirst, Writes}
-use Rattle.tpcc.specs.Edges.{Gives, NamesFile}
+use Rattle.files.specs.Place.{Gives}
+use Rattle.tpcc.specs.Edges.{NamesFile}
+
+-- what a simulation reads
+pub record SimInputs : Type 1 where
+  pub «data» : Source
+  pub schedule : Source
+
+-- the dataset and the schedule, as inputs
+abbrev pub sim_inputs : Source → Source → SimInputs
+sim_inputs «data» schedule = record { «data» = «data»; schedule = schedule }
+
+-- the files that a simulation makes, if they are asked for
+pub record SimOutputs (F : Type 0) : Type 0 where
+  pub log : Option F
+  pub picture : Option F
+  pub tables : Option F
+
+-- the files of the log, the picture and the tables, as outputs
+abbrev pub sim_outputs : {F : Type 0} → Option F → Option F → Option F → SimOutputs F
+sim_outputs log picture tables = record { log = log; picture = picture; tables = tables }
+
+-- a schedule that so many executors have played, its outputs, and the log
+pub record PlayedSchedule : Type 0 where
+  pub executors : ℕ
+  pub schedule : List Scheduled
+  pub outputs : List Output
+  pub entries : List Entry
+
+-- the number of executors, the schedule, its outputs and the log, as a played schedule
+abbrev pub played_schedule : ℕ → List Scheduled → List Output → List Entry → PlayedSchedule
+played_schedule executors schedule outputs entries =
+    record { executors = executors; schedule = schedule; outputs = outputs; entries = entries }
 
 -- the schedule, which `source` gives, was simulated on the tables that `data` gives, with that many executors and this result
 pub record IsSimulation («data» source : Option (List ℕ)) (executors : ℕ) (schedule : List Scheduled) (simulation : Simulation) : Type 0 where
@@ -30,49 +61,58 @@ pub record IsSimulation («data» source : Option (List ℕ)) (executors : ℕ) 
   pub simulates : Simulates Brand opening executors schedule simulation
 
 module _ {F : Type 0} (contents : F → Option (List ℕ)) where
-  -- the file, if there is one, has got its name with the picture of the schedule and its outputs, with this log
-  abbrev pub NamesPicture : Option F → Option (List (Option (List ℕ))) → Option (List (Option (List ℕ))) → ℕ → List Scheduled → List Output → List Entry → Type 0
-  NamesPicture None named named' executors schedule outputs entries = named' ≡ named
-  NamesPicture (Some file) named named' executors schedule outputs entries =
-      (text : Option (List ℕ)) × (asides : List Aside) × Appends (contents file) text (picture_text (sessions_from [] schedule) executors (row.rows_of entries 1 schedule outputs) asides) × Shelves named named' text
+  -- the file, if there is one, has got its name with the picture of the played schedule
+  abbrev pub NamesPicture : Option F → NamedTexts → NamedTexts → PlayedSchedule → Type 0
+  NamesPicture None named named' played = named' ≡ named
+  NamesPicture (Some file) named named' played =
+      (text : Option (List ℕ)) × (asides : List Aside)
+      × Appends (contents file) text (drawing_text played.executors played.schedule played.outputs played.entries asides)
+      × Shelves named named' text
 
   -- the file, if there is one, has got its name with the records of the gathered tables
-  abbrev pub NamesTables : Option F → Option (List (Option (List ℕ))) → Option (List (Option (List ℕ))) → Result Database GatherFault → Type 0
+  abbrev pub NamesTables : Option F → NamedTexts → NamedTexts → Result Database GatherFault → Type 0
   NamesTables None named named' gathered = named' ≡ named
   NamesTables (Some file) named named' gathered = (last : Database) × (gathered ≡ Ok last) × NamesFile contents (Some file) named named' (AreRecords last)
 
-  module _ (executors : ℕ) (schedule : List Scheduled) (simulation : Simulation) (log picture tables : Option F) (before after : Option (List ℕ)) (named named' : Option (List (Option (List ℕ)))) where
+  module _ (executors : ℕ) (schedule : List Scheduled) (simulation : Simulation) (files : SimOutputs F) (output : CommandOutput) where
     -- The records of all outputs of the simulation were printed. The files, if there are such, have got their names in this order: the log with
     -- the records of the simulation's log, the picture with the drawing of its outputs, and the tables with the records of its tables.
     pub record Shows : Type 0 where
-      pub printed : Writes before after (AreOutputs simulation.log.items simulation.outputs.items)
-      pub with_log : Option (List (Option (List ℕ)))
-      pub with_picture : Option (List (Option (List ℕ)))
-      pub logged : NamesFile contents log named with_log (IsLog simulation.log.items)
-      pub drawn : NamesPicture picture with_log with_picture executors schedule simulation.outputs.items simulation.log.items
-      pub gathered : NamesTables tables with_picture named' simulation.tables
+      pub printed : Writes output.printed.before output.printed.after (AreOutputs simulation.log.items simulation.outputs.items)
+      pub with_log : NamedTexts
+      pub with_picture : NamedTexts
+      pub logged : NamesFile contents files.log output.named.before with_log (IsLog simulation.log.items)
+      pub drawn : NamesPicture files.picture with_log with_picture
+          (played_schedule executors schedule simulation.outputs.items simulation.log.items)
+      pub gathered : NamesTables files.tables with_picture output.named.after simulation.tables
 
     -- A beginning of these records was printed, and no file has got its name; or all were printed, the log, if there is one, has got its name,
     -- and then the picture may have.
     abbrev pub ShowsSome : Type 0
     ShowsSome =
-        (BeginsToWrite before after (OfFirst (AreOutputs simulation.log.items) simulation.outputs.items) × (named' ≡ named))
-        ⊎ (Writes before after (AreOutputs simulation.log.items simulation.outputs.items)
-        × (with_log : Option (List (Option (List ℕ)))) × NamesFile contents log named with_log (IsLog simulation.log.items)
-        × ((named' ≡ with_log) ⊎ NamesPicture picture with_log named' executors schedule simulation.outputs.items simulation.log.items))
+        (BeginsToWrite output.printed.before output.printed.after
+        (OfFirst (AreOutputs simulation.log.items) simulation.outputs.items)
+        × (output.named.after ≡ output.named.before))
+        ⊎ (Writes output.printed.before output.printed.after (AreOutputs simulation.log.items simulation.outputs.items)
+        × (with_log : NamedTexts) × NamesFile contents files.log output.named.before with_log (IsLog simulation.log.items)
+        × ((output.named.after ≡ with_log)
+        ⊎ NamesPicture files.picture with_log output.named.after
+        (played_schedule executors schedule simulation.outputs.items simulation.log.items)))
 
-  module _ («data» source : Option (List ℕ)) (executors : ℕ) (log picture tables : Option F) (before after : Option (List ℕ)) (named named' : Option (List (Option (List ℕ)))) where
+  module _ (executors : ℕ) (inputs : SimInputs) (files : SimOutputs F) (output : CommandOutput) where
     -- nothing was printed, and no file has got its name; or the schedule was simulated, and a part of the output was made (`ShowsSome`)
     abbrev pub SimulatesSome : Type 0
     SimulatesSome =
-        ((after ≡ before) × (named' ≡ named))
-        ⊎ ((schedule : List Scheduled) × (simulation : Simulation) × IsSimulation «data» source executors schedule simulation
-        × ShowsSome executors schedule simulation log picture tables before after named named')
+        ((output.printed.after ≡ output.printed.before) × (output.named.after ≡ output.named.before))
+        ⊎ ((schedule : List Scheduled) × (simulation : Simulation)
+        × IsSimulation inputs.«data».remaining inputs.schedule.remaining executors schedule simulation
+        × ShowsSome executors schedule simulation files output)
 
-    -- The schedule that `source` gives was simulated on the tables that `data` gives, all output was made (`Shows`), and no fault was reported.
-    pub record SimulatesAll (reported reported' : Option (List CommandFault)) : Type 0 where
+    -- The schedule that the input gives was simulated on the tables that the dataset gives, all output was made (`Shows`), and no fault was
+    -- reported.
+    pub record SimulatesAll (reported : Change (Option (List CommandFault))) : Type 0 where
       pub schedule : List Scheduled
       pub simulation : Simulation
-      pub is_simulation : IsSimulation «data» source executors schedule simulation
-      pub shows : Shows executors schedule simulation log picture tables before after named named'
-      pub no_fault : reported' ≡ reported
+      pub is_simulation : IsSimulation inputs.«data».remaining inputs.schedule.remaining executors schedule simulation
+      pub shows : Shows executors schedule simulation files output
+      pub no_fault : reported.after ≡ reported.before

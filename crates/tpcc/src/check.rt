@@ -1,7 +1,7 @@
-ghost use Rattle.std.specs.Prelude.{List, Option, IfOk, IfErr, OnErr};
-ghost use Rattle.tpcc.specs.declared.command_fault.CommandFault as command_fault;
+ghost use Rattle.std.specs.Prelude.{IfOk, IfErr, OnErr};
 ghost use Rattle.tpcc.specs.Check.{Checks, ChecksSome, CheckEnds};
 ghost use Rattle.tpcc.specs.EarlyEnds.{IsOfChecking};
+ghost use Rattle.tpcc.specs.Effects.{change, source_of};
 
 use crate::command_fault::CommandFault;
 use crate::report::Report;
@@ -27,7 +27,8 @@ pub fn check_over<D: Input + Drop, A: Write, E: Report>(
     found: &mut A,
     errors: &mut E,
 ) -> Status
-    ensures { CheckEnds settings.entry.now (D.remaining «data») (D.lasts «data») (A.contents found.old) (A.contents found.new) (E.reported errors.old) (E.reported errors.new) result }
+    ensures { CheckEnds settings.entry.now (source_of D.remaining D.lasts «data»)
+        (change A.contents found.old found.new) (change E.reported errors.old errors.new) result }
 {
     match check(alloc, settings, data, found) {
         Ok(false) => Status::Success,
@@ -43,9 +44,12 @@ fn check<'a, D: Input + Drop, A: Write>(
     data: D,
     found: &mut A,
 ) -> Result<bool, CommandFault<'a>>
-    ensures checks { IfOk result (λ broken. (reported : Option (List command_fault.CommandFault)) → Checks settings.entry.now.fresh (D.remaining «data») (A.contents found.old) (A.contents found.new) reported reported broken) }
-    ensures some { OnErr result (ChecksSome settings.entry.now.fresh (D.remaining «data») (A.contents found.old) (A.contents found.new)) }
-    ensures fault { IfErr result (IsOfChecking settings.entry.now (D.remaining «data») (D.lasts «data»)) }
+    ensures checks { IfOk result (Checks settings.entry.now.fresh (D.remaining «data»)
+        (change A.contents found.old found.new)) }
+    ensures some { OnErr result (ChecksSome settings.entry.now.fresh (D.remaining «data»)
+        (change A.contents found.old found.new)) }
+    ensures fault { IfErr result
+        (IsOfChecking settings.entry.now (source_of D.remaining D.lasts «data»)) }
 {
     let tables = read_tables(alloc, settings.data, data)?;
     let answers = consistency::check(alloc, &tables)?;

@@ -7,12 +7,13 @@ use engine::ServeFault;
 use files::{FileError, FileFault};
 use std::alloc::{AllocError, AllocFailed};
 use std::fmt;
+use thiserror::Error;
 
 /// The fault number of a failure to read or write. The faults of texts are 1 to 9.
 const FAILED: u8 = 10;
 
 /// Why a command ended early.
-#[derive(Clone, Copy, Debug, PartialEq, Eq)]
+#[derive(Clone, Copy, Debug, Drop, Error, PartialEq, Eq)]
 pub enum CommandFault<'a> {
     NoMemory,
     /// The text of the file of that path has a fault.

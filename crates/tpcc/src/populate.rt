@@ -1,4 +1,5 @@
 ghost use Rattle.std.specs.Prelude.{◌≡◌, IfErr, OnOk, OnErr};
+ghost use Rattle.tpcc.specs.Effects.{change};
 ghost use Rattle.tpcc.specs.Faults.{IsOfWriting};
 ghost use Rattle.tpcc.specs.Populate.{Populates, PopulateEnds};
 
@@ -21,7 +22,9 @@ pub fn populate_over<T: Write + Drop, N: OutputFiles<T>, E: Report>(
     output_files: &mut N,
     errors: &mut E,
 ) -> Status
-    ensures { PopulateEnds T.contents settings.entry.now file (N.named output_files.old) (N.named output_files.new) (E.reported errors.old) (E.reported errors.new) result }
+    ensures { PopulateEnds T.contents settings.entry.now file
+        (change N.named output_files.old output_files.new)
+        (change E.reported errors.old errors.new) result }
 {
     match make(alloc, settings, file, output_files, errors) {
         Ok(()) => Status::Success,
@@ -37,7 +40,9 @@ fn make<'a, T: Write + Drop, N: OutputFiles<T>, E: Report>(
     output_files: &mut N,
     errors: &mut E,
 ) -> Result<(), CommandFault<'a>>
-    ensures populates { OnOk result (Populates T.contents settings.entry.now.scale settings.entry.now.seed settings.entry.now.now file (N.named output_files.old) (N.named output_files.new) (E.reported errors.old) (E.reported errors.new)) }
+    ensures populates { OnOk result (Populates T.contents settings.entry.now file
+        (change N.named output_files.old output_files.new)
+        (change E.reported errors.old errors.new)) }
     ensures named { OnErr result (N.named output_files.new ≡ N.named output_files.old) }
     ensures reported { OnErr result (E.reported errors.new ≡ E.reported errors.old) }
     ensures fault { IfErr result (IsOfWriting settings.entry.now.file.now) }

@@ -1,13 +1,14 @@
-ghost use Rattle.std.specs.Prelude.{◌≡◌, ◌∷◌, [], is_some, IfOk, IfErr, OnErr};
+ghost use Rattle.std.specs.Prelude.{◌≡◌, is_some, IfOk, IfErr, OnErr};
 ghost use Rattle.files.specs.Sending.{Begins};
 ghost use Rattle.terminals.specs.FirstFault.{log_fault};
 ghost use Rattle.terminals.specs.LogRecord.{IsLog};
-ghost use Rattle.tpcc.specs.Edges.{Gives, lines_text};
+ghost use Rattle.files.specs.Place.{Gives};
+ghost use Rattle.tpcc.specs.Effects.{change, output_of, source_of};
 ghost use Rattle.tpcc.specs.EarlyEnds.{IsOfReplaying, ReplayMayReport};
 ghost use Rattle.tpcc.specs.Faults.{IsFirst, IsOfReading};
 ghost use Rattle.schema.specs.Database.{Database};
 ghost use Rattle.commit_log.specs.Replay.{IsReplayOf};
-ghost use Rattle.tpcc.specs.Replay.{ReportsReplay, ReplayEnds, ReplaysSome, found_of, found_text};
+ghost use Rattle.tpcc.specs.Replay.{ReportsReplay, ReplayEnds, ReplaysSome, found_line, found_of, replay_streams};
 
 use crate::command_fault::CommandFault;
 use crate::output_files::OutputFiles;
@@ -55,7 +56,10 @@ pub fn replay_over<
     errors: &mut E,
 ) -> Status
     requires { is_some tables ≡ is_some settings.now.tables }
-    ensures { ReplayEnds T.contents tables settings.entry.now (D.remaining «data») (D.lasts «data») (L.remaining log) (L.lasts log) (A.contents found.old) (A.contents found.new) (N.named output_files.old) (N.named output_files.new) (E.reported errors.old) (E.reported errors.new) result }
+    ensures { ReplayEnds T.contents settings.entry.now (replay_streams
+        (source_of D.remaining D.lasts «data») (source_of L.remaining L.lasts log) tables)
+        (output_of A.contents found.old found.new N.named output_files.old output_files.new)
+        (change E.reported errors.old errors.new) result }
 {
     match replay_log(
         rt,
@@ -95,11 +99,16 @@ fn replay_log<
     errors: &mut E,
 ) -> Result<Status, CommandFault<'a>>
     requires { is_some tables ≡ is_some settings.now.tables }
-    ensures ends { IfOk result (ReplayEnds T.contents tables settings.entry.now (D.remaining «data») (D.lasts «data») (L.remaining log) (L.lasts log) (A.contents found.old) (A.contents found.new) (N.named output_files.old) (N.named output_files.new) (E.reported errors.old) (E.reported errors.new)) }
+    ensures ends { IfOk result (ReplayEnds T.contents settings.entry.now (replay_streams
+        (source_of D.remaining D.lasts «data») (source_of L.remaining L.lasts log) tables)
+        (output_of A.contents found.old found.new N.named output_files.old output_files.new)
+        (change E.reported errors.old errors.new)) }
     ensures named { OnErr result (N.named output_files.new ≡ N.named output_files.old) }
-    ensures some { OnErr result (ReplaysSome (D.remaining «data») (L.remaining log) (A.contents found.old) (A.contents found.new)) }
+    ensures some { OnErr result (ReplaysSome (D.remaining «data») (L.remaining log)
+        (change A.contents found.old found.new)) }
     ensures reported { OnErr result (E.reported errors.new ≡ E.reported errors.old) }
-    ensures fault { IfErr result (IsOfReplaying settings.entry.now (D.remaining «data») (D.lasts «data») (L.remaining log) (L.lasts log)) }
+    ensures fault { IfErr result (IsOfReplaying settings.entry.now
+        (source_of D.remaining D.lasts «data») (source_of L.remaining L.lasts log)) }
 {
     let opening = read_tables(alloc, settings.data, data)?;
     let entries = read_entries(alloc, settings.log, log)?;
@@ -142,9 +151,12 @@ fn print<'a, A: Write, T: Write + Drop, N: OutputFiles<T>>(
     output_files: &mut N,
 ) -> Result<Status, CommandFault<'a>>
     requires { is_some tables ≡ is_some settings.now.tables }
-    ensures reports { IfOk result (ReportsReplay T.contents tables (A.contents found.old) (A.contents found.new) (N.named output_files.old) (N.named output_files.new) entries.now came_to) }
+    ensures reports { IfOk result (ReportsReplay T.contents tables
+        (output_of A.contents found.old found.new N.named output_files.old output_files.new)
+        entries.now came_to) }
     ensures named { OnErr result (N.named output_files.new ≡ N.named output_files.old) }
-    ensures begun { OnErr result (Begins (A.contents found.old) (A.contents found.new) (lines_text (found_text (found_of entries.now came_to) ∷ []))) }
+    ensures begun { OnErr result (Begins (A.contents found.old) (A.contents found.new)
+        (found_line (found_of entries.now came_to))) }
     ensures fault { IfErr result (ReplayMayReport settings.entry.now) }
 {
     match came_to {
@@ -186,7 +198,8 @@ fn read_entries<'a, L: Input + Drop>(
     log: L,
 ) -> Result<Vec<Entry>, CommandFault<'a>>
     ensures entries { IfOk result (λ entries. Gives (L.remaining log) (IsLog entries.items)) }
-    ensures fault { IfErr result (IsOfReading path.now (L.remaining log) (L.lasts log) (IsFirst log_fault)) }
+    ensures fault { IfErr result
+        (IsOfReading path.now (L.remaining log) (L.lasts log) (IsFirst log_fault)) }
 {
     match read_log(alloc, log) {
         Ok(entries) => Ok(entries),

@@ -75,7 +75,8 @@ impl<'a, R: Files + AllocGlobal> FaultReporter<'a, R> {
 
 // Prints the line of the fault.
 fn print<W: Write>(sink: &mut W, fault: CommandFault<'_>) -> io::Result<()>
-    ensures { OnOk result (Appends (W.contents sink.old) (W.contents sink.new) (reported_line fault.entry)) }
+    ensures { OnOk result
+        (Appends (W.contents sink.old) (W.contents sink.new) (reported_line fault.entry)) }
 {
     writeln!(sink, "tpcc: {fault}")
 }

@@ -4,10 +4,11 @@ ghost use Rattle.std.specs.Option.{option_map};
 ghost use Rattle.terminals.specs.Answers.{AreAnswers, AreInLog};
 ghost use Rattle.terminals.specs.Script.{IsScript};
 ghost use Rattle.files.specs.Sending.{BeginsToWrite, OfFirst, Writes};
-ghost use Rattle.tpcc.specs.Edges.{Gives};
+ghost use Rattle.files.specs.Place.{Gives};
+ghost use Rattle.tpcc.specs.Effects.{change, output_of, source_of};
 ghost use Rattle.tpcc.specs.EarlyEnds.{IsOfAnswering, IsOfMoves, IsOfRunning, IsOfScripts};
 ghost use Rattle.tpcc.specs.Faults.{IsOfWriting, standard_output, EndsEarly};
-ghost use Rattle.tpcc.specs.Run.{AreAllAnswers, AreAllInLog, BeginAllAnswers, GivesMoves, HandsOut, HandsOutSome, Serves, ServesSome};
+ghost use Rattle.tpcc.specs.Run.{AreAllAnswers, AreAllInLog, BeginAllAnswers, GivesMoves, HandsOut, HandsOutSome, Serves, ServesSome, run_inputs, run_outputs, texts_of};
 ghost use Rattle.command_line.specs.Settings.{IsRunnable};
 
 use crate::command_fault::CommandFault;
@@ -23,6 +24,7 @@ use engine::{Answers, Outcome, serve};
 use files::Input;
 use range_moves::MoveOrder;
 use requests::Script;
+use rows::SESSIONS;
 use schema::NoMemory;
 use std::alloc::Global;
 use std::io::Write;
@@ -71,9 +73,18 @@ pub fn run_over<
     requires moves { is_some moves ≡ is_some settings.now.moves }
     requires log { is_some log ≡ is_some settings.now.log }
     requires tables { is_some tables ≡ is_some settings.now.tables }
-    ensures serves { OnOk result (Serves F.contents (D.remaining «data») (map S.remaining scripts.old) settings.now.executors (option_map S.remaining moves) log tables (A.contents answers.old) (A.contents answers.new) (N.named output_files.old) (N.named output_files.new) (E.reported errors.old) (E.reported errors.new)) }
-    ensures some { OnErr result (ServesSome F.contents (D.remaining «data») (map S.remaining scripts.old) settings.now.executors (option_map S.remaining moves) log tables (A.contents answers.old) (A.contents answers.new) (N.named output_files.old) (N.named output_files.new)) }
-    ensures early { IfErr result (EndsEarly (IsOfRunning S.remaining S.lasts settings.now (D.remaining «data») (D.lasts «data») scripts.old moves) (E.reported errors.old) (E.reported errors.new)) }
+    ensures serves { OnOk result (Serves F.contents settings.now.executors
+        (texts_of (D.remaining «data») (map S.remaining scripts.old) (option_map S.remaining moves))
+        (run_outputs log tables)
+        (output_of A.contents answers.old answers.new N.named output_files.old output_files.new)
+        (change E.reported errors.old errors.new)) }
+    ensures some { OnErr result (ServesSome F.contents settings.now.executors
+        (texts_of (D.remaining «data») (map S.remaining scripts.old) (option_map S.remaining moves))
+        (run_outputs log tables)
+        (output_of A.contents answers.old answers.new N.named output_files.old output_files.new)) }
+    ensures early { IfErr result (EndsEarly (IsOfRunning S.remaining S.lasts settings.now
+        (run_inputs (source_of D.remaining D.lasts «data») scripts.old moves))
+        (E.reported errors.old) (E.reported errors.new)) }
 {
     match run(
         rt,
@@ -122,10 +133,18 @@ fn run<
     requires moves { is_some moves ≡ is_some settings.now.moves }
     requires log { is_some log ≡ is_some settings.now.log }
     requires tables { is_some tables ≡ is_some settings.now.tables }
-    ensures serves { OnOk result (Serves F.contents (D.remaining «data») (map S.remaining scripts.old) settings.now.executors (option_map S.remaining moves) log tables (A.contents answers.old) (A.contents answers.new) (N.named output_files.old) (N.named output_files.new) (E.reported errors.old) (E.reported errors.new)) }
-    ensures some { OnErr result (ServesSome F.contents (D.remaining «data») (map S.remaining scripts.old) settings.now.executors (option_map S.remaining moves) log tables (A.contents answers.old) (A.contents answers.new) (N.named output_files.old) (N.named output_files.new)) }
+    ensures serves { OnOk result (Serves F.contents settings.now.executors
+        (texts_of (D.remaining «data») (map S.remaining scripts.old) (option_map S.remaining moves))
+        (run_outputs log tables)
+        (output_of A.contents answers.old answers.new N.named output_files.old output_files.new)
+        (change E.reported errors.old errors.new)) }
+    ensures some { OnErr result (ServesSome F.contents settings.now.executors
+        (texts_of (D.remaining «data») (map S.remaining scripts.old) (option_map S.remaining moves))
+        (run_outputs log tables)
+        (output_of A.contents answers.old answers.new N.named output_files.old output_files.new)) }
     ensures reported { OnErr result (E.reported errors.new ≡ E.reported errors.old) }
-    ensures fault { IfErr result (IsOfRunning S.remaining S.lasts settings.now (D.remaining «data») (D.lasts «data») scripts.old moves) }
+    ensures fault { IfErr result (IsOfRunning S.remaining S.lasts settings.now
+        (run_inputs (source_of D.remaining D.lasts «data») scripts.old moves)) }
 {
     let opening = read_tables(alloc, settings.data, data)?;
     let scripts = read_scripts(alloc, &settings.scripts, scripts)?;
@@ -170,12 +189,16 @@ fn hand_out<'a, A: Write, F: Write + Drop, N: OutputFiles<F>>(
     tables: Option<F>,
     output_files: &mut N,
 ) -> Result<(), CommandFault<'a>>
-    requires few { length outcome.now.answers.items ≤ 64 }
+    requires few { length outcome.now.answers.items ≤ SESSIONS }
     requires placed { AreAllInLog outcome.now.log.items outcome.now.answers.items }
     requires log { is_some log ≡ is_some settings.now.log }
     requires tables { is_some tables ≡ is_some settings.now.tables }
-    ensures all { OnOk result (HandsOut F.contents log tables (A.contents answers.old) (A.contents answers.new) (N.named output_files.old) (N.named output_files.new) outcome.now.log.items outcome.now.tables outcome.now.answers.items) }
-    ensures some { OnErr result (HandsOutSome F.contents log tables (A.contents answers.old) (A.contents answers.new) (N.named output_files.old) (N.named output_files.new) outcome.now.log.items outcome.now.answers.items) }
+    ensures all { OnOk result (HandsOut F.contents (run_outputs log tables)
+        (output_of A.contents answers.old answers.new N.named output_files.old output_files.new)
+        outcome.now.log.items outcome.now.tables outcome.now.answers.items) }
+    ensures some { OnErr result (HandsOutSome F.contents (run_outputs log tables)
+        (output_of A.contents answers.old answers.new N.named output_files.old output_files.new)
+        outcome.now.log.items outcome.now.answers.items) }
     ensures fault { IfErr result (IsOfAnswering settings.now) }
 {
     let entries = outcome.log.as_slice();
@@ -199,8 +222,11 @@ fn read_scripts<'a, S: Input + Drop>(
 ) -> Result<Vec<Script>, CommandFault<'a>>
     requires { length sources.old ≡ length paths.now }
     ensures count { IfOk result (λ scripts. length scripts.items ≡ length paths.now) }
-    ensures scripts { IfOk result (λ scripts. AllZip (λ source script. Gives source (IsScript script)) (map S.remaining sources.old) scripts.items) }
-    ensures fault { IfErr result (λ fault. (fault ≡ CommandFault.NoMemory) ⊎ IsOfScripts S.remaining S.lasts paths.now sources.old fault) }
+    ensures scripts { IfOk result
+        (λ scripts. AllZip (λ source script. Gives source (IsScript script))
+        (map S.remaining sources.old) scripts.items) }
+    ensures fault { IfErr result (λ fault. (fault ≡ CommandFault.NoMemory)
+        ⊎ IsOfScripts S.remaining S.lasts paths.now sources.old fault) }
 {
     let mut scripts = Vec::new(alloc);
     for (session, source) in sources.iter_mut().enumerate() {
@@ -239,10 +265,12 @@ fn print_answers<A: Write>(
     answers: &[Answers],
     log: &[Entry],
 ) -> Result<(), CommandFault<'static>>
-    requires few { length answers.now ≤ 64 }
+    requires few { length answers.now ≤ SESSIONS }
     requires placed { AreAllInLog log.now answers.now }
-    ensures printed { OnOk result (Writes (A.contents sink.old) (A.contents sink.new) (AreAllAnswers log.now 0 answers.now)) }
-    ensures begun { OnErr result (BeginsToWrite (A.contents sink.old) (A.contents sink.new) (BeginAllAnswers log.now 0 answers.now)) }
+    ensures printed { OnOk result (Writes (A.contents sink.old) (A.contents sink.new)
+        (AreAllAnswers log.now 0 answers.now)) }
+    ensures begun { OnErr result (BeginsToWrite (A.contents sink.old) (A.contents sink.new)
+        (BeginAllAnswers log.now 0 answers.now)) }
     ensures fault { IfErr result (IsOfWriting standard_output) }
 {
     for (session, reported) in answers.iter().enumerate() {
@@ -260,8 +288,10 @@ fn print_session<A: Write>(
     log: &[Entry],
 ) -> Result<(), CommandFault<'static>>
     requires { AreInLog log.now reported.now }
-    ensures printed { OnOk result (Writes (A.contents sink.old) (A.contents sink.new) (AreAnswers log.now session reported.now)) }
-    ensures begun { OnErr result (BeginsToWrite (A.contents sink.old) (A.contents sink.new) (OfFirst (AreAnswers log.now session) reported.now)) }
+    ensures printed { OnOk result (Writes (A.contents sink.old) (A.contents sink.new)
+        (AreAnswers log.now session reported.now)) }
+    ensures begun { OnErr result (BeginsToWrite (A.contents sink.old) (A.contents sink.new)
+        (OfFirst (AreAnswers log.now session) reported.now)) }
     ensures fault { IfErr result (IsOfWriting standard_output) }
 {
     match write_answers(alloc, sink, session, reported.as_slice(), log) {

@@ -1,7 +1,8 @@
 ghost use Rattle.std.specs.Prelude.{◌≡◌, ◌⊎◌, ◌≤◌, length, IfOk, IfErr, OnOk, OnErr};
 ghost use Rattle.dataset.specs.FirstFault.{first_fault};
+ghost use Rattle.tpcc.specs.Effects.{change, source_of};
 ghost use Rattle.tpcc.specs.Faults.{IsFirst, IsOfReading, IsOfWritingOneOf};
-ghost use Rattle.tpcc.specs.Script.{GivesScale, IsNoWarehouse, IsOfMaking, MakesAll, MakesSome, NamesFirstScripts, NamesScripts, ScriptEnds, IsWorkload};
+ghost use Rattle.tpcc.specs.Script.{GivesScale, IsNoWarehouse, IsOfMaking, MakesAll, MakesSome, NamesFirstScripts, NamesScripts, ScriptEnds, IsWorkload, script_streams};
 ghost use Rattle.command_line.specs.Settings.{HasFiles};
 
 use crate::command_fault::CommandFault;
@@ -11,6 +12,7 @@ use crate::streams::write_requests;
 use command_line::{ScriptSettings, Status};
 use dataset::read_scale;
 use files::Input;
+use rows::SESSIONS;
 use schema::Scale;
 use std::alloc::Global;
 use std::io::Write;
@@ -29,7 +31,10 @@ pub fn script_over<D: Input + Drop, T: Write + Drop, N: OutputFiles<T>, E: Repor
 ) -> Status
     requires settings { HasFiles settings.now }
     requires files { length files.items ≡ length settings.now.files.items }
-    ensures { ScriptEnds T.contents settings.entry.now (D.remaining «data») (D.lasts «data») files.items (N.named output_files.old) (N.named output_files.new) (E.reported errors.old) (E.reported errors.new) result }
+    ensures { ScriptEnds T.contents settings.entry.now
+        (script_streams (source_of D.remaining D.lasts «data») files.items)
+        (change N.named output_files.old output_files.new)
+        (change E.reported errors.old errors.new) result }
 {
     match make(alloc, settings, data, files, output_files) {
         Ok(()) => Status::Success,
@@ -47,9 +52,12 @@ fn make<'a, D: Input + Drop, T: Write + Drop, N: OutputFiles<T>>(
 ) -> Result<(), CommandFault<'a>>
     requires settings { HasFiles settings.now }
     requires files { length files.items ≡ length settings.now.files.items }
-    ensures all { OnOk result (MakesAll T.contents settings.entry.now (D.remaining «data») files.items (N.named output_files.old) (N.named output_files.new)) }
-    ensures some { OnErr result (MakesSome T.contents settings.entry.now (D.remaining «data») files.items (N.named output_files.old) (N.named output_files.new)) }
-    ensures fault { IfErr result (IsOfMaking settings.entry.now (D.remaining «data») (D.lasts «data»)) }
+    ensures all { OnOk result (MakesAll T.contents settings.entry.now (D.remaining «data»)
+        files.items (change N.named output_files.old output_files.new)) }
+    ensures some { OnErr result (MakesSome T.contents settings.entry.now (D.remaining «data»)
+        files.items (change N.named output_files.old output_files.new)) }
+    ensures fault { IfErr result
+        (IsOfMaking settings.entry.now (source_of D.remaining D.lasts «data»)) }
 {
     let scale = read_header(alloc, settings.data, data)?;
     let workload = match workload(settings, scale) {
@@ -66,7 +74,8 @@ fn read_header<'a, D: Input + Drop>(
     data: D,
 ) -> Result<Scale, CommandFault<'a>>
     ensures scale { IfOk result (GivesScale (D.remaining «data»)) }
-    ensures fault { IfErr result (IsOfReading path.now (D.remaining «data») (D.lasts «data») (IsFirst first_fault)) }
+    ensures fault { IfErr result
+        (IsOfReading path.now (D.remaining «data») (D.lasts «data») (IsFirst first_fault)) }
 {
     match read_scale(alloc, data) {
         Ok(scale) => Ok(scale),
@@ -103,11 +112,14 @@ fn write_scripts<'a, T: Write + Drop, N: OutputFiles<T>>(
     mut files: Vec<T>,
     output_files: &mut N,
 ) -> Result<(), CommandFault<'a>>
-    requires few { length paths.now ≤ 64 }
+    requires few { length paths.now ≤ SESSIONS }
     requires files { length files.items ≡ length paths.now }
-    ensures all { OnOk result (NamesScripts T.contents workload.now 0 files.items (N.named output_files.old) (N.named output_files.new)) }
-    ensures some { OnErr result (NamesFirstScripts T.contents workload.now files.items (N.named output_files.old) (N.named output_files.new)) }
-    ensures fault { IfErr result (λ fault. (fault ≡ CommandFault.NoMemory) ⊎ IsOfWritingOneOf paths.now fault) }
+    ensures all { OnOk result (NamesScripts T.contents workload.now 0 files.items
+        (N.named output_files.old) (N.named output_files.new)) }
+    ensures some { OnErr result (NamesFirstScripts T.contents workload.now files.items
+        (N.named output_files.old) (N.named output_files.new)) }
+    ensures fault { IfErr result
+        (λ fault. (fault ≡ CommandFault.NoMemory) ⊎ IsOfWritingOneOf paths.now fault) }
 {
     for (session, path) in paths.iter().enumerate() {
         let file = files.remove(0);

@@ -3,11 +3,12 @@ ghost use Rattle.terminals.specs.FirstFault.{schedule_fault};
 ghost use Rattle.terminals.specs.Outputs.{AreOutputs, NameEntries};
 ghost use Rattle.terminals.specs.Schedule.{IsSchedule};
 ghost use Rattle.files.specs.Sending.{BeginsToWrite, OfFirst, Writes};
-ghost use Rattle.tpcc.specs.Edges.{Gives};
+ghost use Rattle.files.specs.Place.{Gives};
+ghost use Rattle.tpcc.specs.Effects.{change, output_of, source_of};
 ghost use Rattle.tpcc.specs.EarlyEnds.{IsOfGathering, IsOfShowing, IsOfSimulating};
 ghost use Rattle.tpcc.specs.Faults.{IsFirst, IsOfReading, IsOfWriting, IsOfWritingSome, standard_output, EndsEarly};
 ghost use Rattle.command_line.specs.Settings.{HasExecutors};
-ghost use Rattle.tpcc.specs.Sim.{NamesPicture, NamesTables, Shows, ShowsSome, SimulatesAll, SimulatesSome};
+ghost use Rattle.tpcc.specs.Sim.{NamesPicture, NamesTables, Shows, ShowsSome, SimulatesAll, SimulatesSome, played_schedule, sim_inputs, sim_outputs};
 
 use crate::command_fault::CommandFault;
 use crate::output_files::OutputFiles;
@@ -61,9 +62,19 @@ pub fn sim_over<
     requires log { is_some log ≡ is_some settings.now.log }
     requires picture { is_some picture ≡ is_some settings.now.picture }
     requires tables { is_some tables ≡ is_some settings.now.tables }
-    ensures simulates { OnOk result (SimulatesAll F.contents (D.remaining «data») (S.remaining schedule) settings.entry.now.executors log picture tables (A.contents reported.old) (A.contents reported.new) (N.named output_files.old) (N.named output_files.new) (E.reported errors.old) (E.reported errors.new)) }
-    ensures some { OnErr result (SimulatesSome F.contents (D.remaining «data») (S.remaining schedule) settings.entry.now.executors log picture tables (A.contents reported.old) (A.contents reported.new) (N.named output_files.old) (N.named output_files.new)) }
-    ensures early { IfErr result (EndsEarly (IsOfSimulating settings.entry.now (D.remaining «data») (D.lasts «data») (S.remaining schedule) (S.lasts schedule)) (E.reported errors.old) (E.reported errors.new)) }
+    ensures simulates { OnOk result (SimulatesAll F.contents settings.entry.now.executors
+        (sim_inputs (source_of D.remaining D.lasts «data») (source_of S.remaining S.lasts schedule))
+        (sim_outputs log picture tables)
+        (output_of A.contents reported.old reported.new N.named output_files.old output_files.new)
+        (change E.reported errors.old errors.new)) }
+    ensures some { OnErr result (SimulatesSome F.contents settings.entry.now.executors
+        (sim_inputs (source_of D.remaining D.lasts «data») (source_of S.remaining S.lasts schedule))
+        (sim_outputs log picture tables)
+        (output_of A.contents reported.old reported.new
+        N.named output_files.old output_files.new)) }
+    ensures early { IfErr result (EndsEarly (IsOfSimulating settings.entry.now (sim_inputs
+        (source_of D.remaining D.lasts «data») (source_of S.remaining S.lasts schedule)))
+        (E.reported errors.old) (E.reported errors.new)) }
 {
     match sim(
         alloc,
@@ -106,10 +117,19 @@ fn sim<
     requires log { is_some log ≡ is_some settings.now.log }
     requires picture { is_some picture ≡ is_some settings.now.picture }
     requires tables { is_some tables ≡ is_some settings.now.tables }
-    ensures simulates { OnOk result (SimulatesAll F.contents (D.remaining «data») (S.remaining schedule) settings.entry.now.executors log picture tables (A.contents reported.old) (A.contents reported.new) (N.named output_files.old) (N.named output_files.new) (E.reported errors.old) (E.reported errors.new)) }
-    ensures some { OnErr result (SimulatesSome F.contents (D.remaining «data») (S.remaining schedule) settings.entry.now.executors log picture tables (A.contents reported.old) (A.contents reported.new) (N.named output_files.old) (N.named output_files.new)) }
+    ensures simulates { OnOk result (SimulatesAll F.contents settings.entry.now.executors
+        (sim_inputs (source_of D.remaining D.lasts «data») (source_of S.remaining S.lasts schedule))
+        (sim_outputs log picture tables)
+        (output_of A.contents reported.old reported.new N.named output_files.old output_files.new)
+        (change E.reported errors.old errors.new)) }
+    ensures some { OnErr result (SimulatesSome F.contents settings.entry.now.executors
+        (sim_inputs (source_of D.remaining D.lasts «data») (source_of S.remaining S.lasts schedule))
+        (sim_outputs log picture tables)
+        (output_of A.contents reported.old reported.new
+        N.named output_files.old output_files.new)) }
     ensures reported { OnErr result (E.reported errors.new ≡ E.reported errors.old) }
-    ensures fault { IfErr result (IsOfSimulating settings.entry.now (D.remaining «data») (D.lasts «data») (S.remaining schedule) (S.lasts schedule)) }
+    ensures fault { IfErr result (IsOfSimulating settings.entry.now (sim_inputs
+        (source_of D.remaining D.lasts «data») (source_of S.remaining S.lasts schedule))) }
 {
     let opening = read_tables(alloc, settings.data, data)?;
     let scale = opening.scale();
@@ -154,9 +174,17 @@ fn show<'a, A: Write, F: Write + Drop, N: OutputFiles<F>>(
     requires log { is_some log ≡ is_some settings.now.log }
     requires picture { is_some picture ≡ is_some settings.now.picture }
     requires tables { is_some tables ≡ is_some settings.now.tables }
-    ensures all { OnOk result (Shows F.contents settings.entry.now.executors schedule.now simulation.now log picture tables (A.contents reported.old) (A.contents reported.new) (N.named output_files.old) (N.named output_files.new)) }
-    ensures some { OnErr result (ShowsSome F.contents settings.entry.now.executors schedule.now simulation.now log picture tables (A.contents reported.old) (A.contents reported.new) (N.named output_files.old) (N.named output_files.new)) }
-    ensures fault { IfErr result (λ fault. IsOfGathering (is_some settings.now.tables) simulation.now.tables fault ⊎ IsOfShowing settings.now fault) }
+    ensures all { OnOk result (Shows F.contents settings.entry.now.executors
+        schedule.now simulation.now (sim_outputs log picture tables)
+        (output_of A.contents reported.old reported.new
+        N.named output_files.old output_files.new)) }
+    ensures some { OnErr result (ShowsSome F.contents settings.entry.now.executors
+        schedule.now simulation.now (sim_outputs log picture tables)
+        (output_of A.contents reported.old reported.new
+        N.named output_files.old output_files.new)) }
+    ensures fault { IfErr result
+        (λ fault. IsOfGathering (is_some settings.now.tables) simulation.now.tables fault
+        ⊎ IsOfShowing settings.now fault) }
 {
     let entries = simulation.log.as_slice();
     let outputs = simulation.outputs.as_slice();
@@ -189,7 +217,8 @@ fn read_items<'a, S: Input + Drop>(
     schedule: S,
 ) -> Result<Vec<Scheduled>, CommandFault<'a>>
     ensures items { IfOk result (λ items. Gives (S.remaining schedule) (IsSchedule items.items)) }
-    ensures fault { IfErr result (IsOfReading path.now (S.remaining schedule) (S.lasts schedule) (IsFirst schedule_fault)) }
+    ensures fault { IfErr result
+        (IsOfReading path.now (S.remaining schedule) (S.lasts schedule) (IsFirst schedule_fault)) }
 {
     match read_schedule(alloc, schedule) {
         Ok(schedule) => Ok(schedule),
@@ -205,8 +234,10 @@ fn print_outputs<A: Write>(
     entries: &[Entry],
 ) -> Result<(), CommandFault<'static>>
     requires { NameEntries entries.now outputs.now }
-    ensures printed { OnOk result (Writes (A.contents sink.old) (A.contents sink.new) (AreOutputs entries.now outputs.now)) }
-    ensures begun { OnErr result (BeginsToWrite (A.contents sink.old) (A.contents sink.new) (OfFirst (AreOutputs entries.now) outputs.now)) }
+    ensures printed { OnOk result (Writes (A.contents sink.old) (A.contents sink.new)
+        (AreOutputs entries.now outputs.now)) }
+    ensures begun { OnErr result (BeginsToWrite (A.contents sink.old) (A.contents sink.new)
+        (OfFirst (AreOutputs entries.now) outputs.now)) }
     ensures fault { IfErr result (IsOfWriting standard_output) }
 {
     match write_outputs(alloc, sink, outputs, entries) {
@@ -224,9 +255,11 @@ fn name_gathered<'a, F: Write + Drop, N: OutputFiles<F>>(
     output_files: &mut N,
 ) -> Result<(), CommandFault<'a>>
     requires { is_some tables ≡ is_some path }
-    ensures named { OnOk result (NamesTables F.contents tables (N.named output_files.old) (N.named output_files.new) gathered.now) }
+    ensures named { OnOk result (NamesTables F.contents tables
+        (N.named output_files.old) (N.named output_files.new) gathered.now) }
     ensures err { OnErr result (N.named output_files.new ≡ N.named output_files.old) }
-    ensures fault { IfErr result (λ fault. IsOfWritingSome path.entry fault ⊎ IsOfGathering (is_some path.entry) gathered.now fault) }
+    ensures fault { IfErr result (λ fault. IsOfWritingSome path.entry fault
+        ⊎ IsOfGathering (is_some path.entry) gathered.now fault) }
 {
     match gathered {
         Ok(last) => Ok(write_tables(alloc, path, tables, last, output_files)?),
@@ -249,7 +282,9 @@ fn draw<'a, F: Write + Drop, N: OutputFiles<F>>(
 ) -> Result<(), CommandFault<'a>>
     requires executors { HasExecutors settings.now }
     requires asked { is_some picture ≡ is_some settings.now.picture }
-    ensures named { OnOk result (NamesPicture F.contents picture (N.named output_files.old) (N.named output_files.new) settings.entry.now.executors schedule.now outputs.now entries.now) }
+    ensures named { OnOk result (NamesPicture F.contents picture
+        (N.named output_files.old) (N.named output_files.new)
+        (played_schedule settings.entry.now.executors schedule.now outputs.now entries.now)) }
     ensures err { OnErr result (N.named output_files.new ≡ N.named output_files.old) }
     ensures fault { IfErr result (IsOfWritingSome settings.now.picture) }
 {

@@ -1,5 +1,5 @@
 //! Reads and writes the files of several commands. A fault contains the path of the file.
-ghost use Rattle.std.specs.Prelude.{◌≡◌, ◌⊎◌, ◌++◌, ◌∷◌, [], ℕ, List, Some, Ok, Err, option_map, is_some, true, map, IfOk, IfErr, IfSome, OnOk, OnErr, string_bytes};
+ghost use Rattle.std.specs.Prelude.{◌≡◌, ◌⊎◌, ◌++◌, ◌∷◌, [], Some, Ok, Err, option_map, is_some, true, IfOk, IfErr, IfSome, OnOk, OnErr, string_bytes};
 ghost use Rattle.std.specs.Io.KnownBytes.{Appends};
 ghost use Rattle.dataset.specs.FirstFault.{IsFaultOf};
 ghost use Rattle.dataset.specs.Records.{AreRecords};
@@ -7,7 +7,8 @@ ghost use Rattle.files.specs.Sending.{Begins, Writes};
 ghost use Rattle.terminals.specs.LogRecord.{IsLog};
 ghost use Rattle.terminals.specs.Script.{IsScript};
 ghost use Rattle.tpcc.specs.OutputFiles.{Shelves};
-ghost use Rattle.tpcc.specs.Edges.{Gives, NamesFile, HasWritten, IsNamed, lines_text};
+ghost use Rattle.files.specs.Place.{Gives};
+ghost use Rattle.tpcc.specs.Edges.{NamesFile, HasWritten, IsNamed, OfLines};
 ghost use Rattle.tpcc.specs.Faults.{IsOfReading, IsOfWriting, IsOfWritingSome, standard_output};
 
 use crate::command_fault::CommandFault;
@@ -31,7 +32,8 @@ pub fn read_tables<'a, D: Input + Drop>(
     data: D,
 ) -> Result<Tables, CommandFault<'a>>
     ensures tables { IfOk result (λ tables. Gives (D.remaining «data») (AreRecords tables)) }
-    ensures fault { IfErr result (IsOfReading path.now (D.remaining «data») (D.lasts «data») IsFaultOf) }
+    ensures fault { IfErr result
+        (IsOfReading path.now (D.remaining «data») (D.lasts «data») IsFaultOf) }
 {
     match dataset::read(alloc, data) {
         Ok(tables) => Ok(tables),
@@ -70,7 +72,8 @@ fn whole_log<'a, L: Write + Drop, N: OutputFiles<L>>(
     entries: &[Entry],
     output_files: &mut N,
 ) -> Result<L, CommandFault<'a>>
-    ensures text { IfOk result (λ whole. Writes (L.contents sink) (L.contents whole) (IsLog entries.now)) }
+    ensures text { IfOk result
+        (λ whole. Writes (L.contents sink) (L.contents whole) (IsLog entries.now)) }
     ensures same { N.named output_files.new ≡ N.named output_files.old }
     ensures fault { IfErr result (IsOfWriting path.now) }
 {
@@ -91,7 +94,8 @@ pub fn write_tables<'a, T: Write + Drop, N: OutputFiles<T>>(
 ) -> Result<(), CommandFault<'a>>
     requires { is_some sink ≡ is_some path }
     ensures asked { OnErr result (is_some sink ≡ true) }
-    ensures named { OnOk result (NamesFile T.contents sink (N.named output_files.old) (N.named output_files.new) (AreRecords tables.now)) }
+    ensures named { OnOk result (NamesFile T.contents sink
+        (N.named output_files.old) (N.named output_files.new) (AreRecords tables.now)) }
     ensures err { OnErr result (N.named output_files.new ≡ N.named output_files.old) }
     ensures fault { IfErr result (IsOfWritingSome path.entry) }
 {
@@ -110,7 +114,8 @@ pub fn name_tables<'a, T: Write + Drop, N: OutputFiles<T>>(
     tables: &Tables,
     output_files: &mut N,
 ) -> Result<(), CommandFault<'a>>
-    ensures ok { OnOk result (NamesFile T.contents (Some sink) (N.named output_files.old) (N.named output_files.new) (AreRecords tables.now)) }
+    ensures ok { OnOk result (NamesFile T.contents (Some sink)
+        (N.named output_files.old) (N.named output_files.new) (AreRecords tables.now)) }
     ensures err { OnErr result (N.named output_files.new ≡ N.named output_files.old) }
     ensures fault { IfErr result (IsOfWriting path.now) }
 {
@@ -129,7 +134,8 @@ pub fn write_requests<'a, T: Write + Drop, N: OutputFiles<T>>(
     script: &Script,
     output_files: &mut N,
 ) -> Result<(), CommandFault<'a>>
-    ensures ok { OnOk result (NamesFile T.contents (Some sink) (N.named output_files.old) (N.named output_files.new) (IsScript script.now)) }
+    ensures ok { OnOk result (NamesFile T.contents (Some sink)
+        (N.named output_files.old) (N.named output_files.new) (IsScript script.now)) }
     ensures err { OnErr result (N.named output_files.new ≡ N.named output_files.old) }
     ensures fault { IfErr result (IsOfWriting path.now) }
 {
@@ -162,7 +168,8 @@ pub fn finished<'a, F: Write + Drop, N: OutputFiles<F>>(
     file: F,
     output_files: &mut N,
 ) -> Result<(), CommandFault<'a>>
-    ensures ok { OnOk result (Shelves (N.named output_files.old) (N.named output_files.new) (F.contents file)) }
+    ensures ok { OnOk result
+        (Shelves (N.named output_files.old) (N.named output_files.new) (F.contents file)) }
     ensures err { OnErr result (N.named output_files.new ≡ N.named output_files.old) }
     ensures fault { IfErr result (IsOfWriting path.now) }
 {
@@ -176,7 +183,8 @@ fn named<'a, F: Write + Drop, N: OutputFiles<F>>(
     file: F,
     output_files: &mut N,
 ) -> Result<(), CommandFault<'a>>
-    ensures ok { OnOk result (Shelves (N.named output_files.old) (N.named output_files.new) (F.contents file)) }
+    ensures ok { OnOk result
+        (Shelves (N.named output_files.old) (N.named output_files.new) (F.contents file)) }
     ensures err { OnErr result (N.named output_files.new ≡ N.named output_files.old) }
     ensures fault { IfErr result (IsOfWriting path.now) }
 {
@@ -194,9 +202,11 @@ pub fn name_printed<'a, L: Write + Drop, N: OutputFiles<L>>(
     output_files: &mut N,
 ) -> Result<(), CommandFault<'a>>
     ensures printed { OnOk result (printed.entry ≡ Ok tt) }
-    ensures named { OnOk result (IsNamed L.contents log.entry (N.named output_files.old) (N.named output_files.new)) }
+    ensures named { OnOk result (IsNamed L.contents log.entry
+        (N.named output_files.old) (N.named output_files.new)) }
     ensures err { OnErr result (N.named output_files.new ≡ N.named output_files.old) }
-    ensures fault { IfErr result (λ fault. (printed.entry ≡ Err fault) ⊎ IsOfWritingSome (option_map (λ named. named.0) log.entry) fault) }
+    ensures fault { IfErr result (λ fault. (printed.entry ≡ Err fault)
+        ⊎ IsOfWritingSome (option_map (λ named. named.0) log.entry) fault) }
 {
     match (printed, log) {
         (Ok(()), Some((path, log))) => named(path, log, output_files),
@@ -215,8 +225,10 @@ pub fn print_lines<A: Write, L: Display>(
     sink: &mut A,
     lines: &[L],
 ) -> Result<(), CommandFault<'static>>
-    ensures printed { OnOk result ((text : L → List ℕ) → ((line : L) → L.output line ≡ Some (text line)) → Appends (A.contents sink.old) (A.contents sink.new) (lines_text (map text lines.now))) }
-    ensures begun { OnErr result ((text : L → List ℕ) → ((line : L) → L.output line ≡ Some (text line)) → Begins (A.contents sink.old) (A.contents sink.new) (lines_text (map text lines.now))) }
+    ensures printed { OnOk result
+        (OfLines L.output lines.now (Appends (A.contents sink.old) (A.contents sink.new))) }
+    ensures begun { OnErr result
+        (OfLines L.output lines.now (Begins (A.contents sink.old) (A.contents sink.new))) }
     ensures fault { IfErr result (IsOfWriting standard_output) }
 {
     let text = text_of(alloc, lines)?;
@@ -231,7 +243,8 @@ pub fn print_lines<A: Write, L: Display>(
 
 // The text of the lines, with a line feed behind each.
 fn text_of<L: Display>(alloc: Global, lines: &[L]) -> Result<String, NoMemory>
-    ensures { IfOk result (λ whole. (text : L → List ℕ) → ((line : L) → L.output line ≡ Some (text line)) → string_bytes whole ≡ lines_text (map text lines.now)) }
+    ensures { IfOk result
+        (λ whole. OfLines L.output lines.now (λ text. string_bytes whole ≡ text)) }
 {
     let mut whole = String::new(alloc);
     for line in lines {
@@ -242,7 +255,8 @@ fn text_of<L: Display>(alloc: Global, lines: &[L]) -> Result<String, NoMemory>
 
 // Appends the line and a line feed.
 fn push_line<L: Display>(whole: &mut String, line: &L) -> Result<(), NoMemory>
-    ensures { OnOk result (IfSome (L.output line.now) (λ text. string_bytes whole.new ≡ string_bytes whole.old ++ (text ++ 10 ∷ []))) }
+    ensures { OnOk result (IfSome (L.output line.now)
+        (λ text. string_bytes whole.new ≡ string_bytes whole.old ++ (text ++ 10 ∷ []))) }
 {
     writeln!(whole, "{line}")
 }

@@ -45,7 +45,8 @@ impl Tally {
         log: &[Entry],
     ) -> Result<Tally, NoMemory>
         ensures kinds { IfOk result (λ tally. tally.kinds.items ≡ map kind_number requests.now) }
-        ensures ends { IfOk result (λ tally. tally.ends.items ≡ map (answer_number log.now) answers.now) }
+        ensures ends { IfOk result
+            (λ tally. tally.ends.items ≡ map (answer_number log.now) answers.now) }
     {
         Ok(Tally {
             kinds: kinds_of(alloc, requests)?,
@@ -55,7 +56,8 @@ impl Tally {
 
     /// A tally of the entries of a log, none of which was refused. Returns NoMemory if an allocation fails.
     pub fn of_entries(alloc: Global, entries: &[Entry]) -> Result<Tally, NoMemory>
-        ensures kinds { IfOk result (λ tally. tally.kinds.items ≡ map (λ entry. kind_number entry.request) entries.now) }
+        ensures kinds { IfOk result
+            (λ tally. tally.kinds.items ≡ map (λ entry. kind_number entry.request) entries.now) }
         ensures ends { IfOk result (λ tally. tally.ends.items ≡ map end_number entries.now) }
     {
         Ok(Tally {
@@ -67,8 +69,10 @@ impl Tally {
     /// Adds what another tally has counted. Returns NoMemory if an allocation fails; nothing is promised of the tally
     /// then.
     pub fn add(&mut self, other: &Tally) -> Result<(), NoMemory>
-        ensures kinds { OnOk result (self.new.kinds.items ≡ self.old.kinds.items ++ other.now.kinds.items) }
-        ensures ends { OnOk result (self.new.ends.items ≡ self.old.ends.items ++ other.now.ends.items) }
+        ensures kinds { OnOk result
+            (self.new.kinds.items ≡ self.old.kinds.items ++ other.now.kinds.items) }
+        ensures ends { OnOk result
+            (self.new.ends.items ≡ self.old.ends.items ++ other.now.ends.items) }
     {
         self.kinds.extend_from_slice(other.kinds.as_slice())?;
         self.ends.extend_from_slice(other.ends.as_slice())
@@ -82,7 +86,8 @@ impl Tally {
     /// How many requests of that kind, from 0, had that end: 0 done, 1 rolled back, one more than its number for a
     /// refusal, and `NOBODY` rolled back because no customer has the last name of the request.
     pub fn count(&self, kind: u8, end: u8) -> usize
-        ensures { result ≡ count_by (λ it. (it.0 == kind) && (it.1 == end)) (zip self.now.kinds.items self.now.ends.items) }
+        ensures { result ≡ count_by (λ it. (it.0 == kind) && (it.1 == end))
+            (zip self.now.kinds.items self.now.ends.items) }
     {
         self.kinds
             .iter()
@@ -113,7 +118,8 @@ fn ends_of(
 }
 
 fn entry_kinds_of(alloc: Global, entries: &[Entry]) -> Result<Vec<u8>, NoMemory>
-    ensures { IfOk result (λ kinds. kinds.items ≡ map (λ entry. kind_number entry.request) entries.now) }
+    ensures { IfOk result
+        (λ kinds. kinds.items ≡ map (λ entry. kind_number entry.request) entries.now) }
 {
     let mut kinds = Vec::with_capacity(alloc, entries.len())?;
     for entry in entries {

@@ -4,6 +4,7 @@ use Rattle.std.specs.Prelude.{All, not}
 use Rattle.std.specs.List.{filter, list_all, range_with_len}
 use Rattle.std.proofs.lemmas.Bool.{and_parts, not-false}
 use Rattle.std.proofs.lemmas.List.Elements.{All-nil, All-cons, All-head, All-tail, All-filter}
+use Rattle.rows.specs.declared.limits.TheConstants.{STOCK_GROUPS}
 use Rattle.schema.specs.declared.scale.Scale.{Scale}
 use Rattle.schema.specs.Scale.{has_warehouse}
 use Rattle.requests.specs.declared.group.Group.{Group}
@@ -56,7 +57,7 @@ pub all_supplies : (scale : Scale) (lines : List OrderedLine) → list_all (λ (
 all_supplies scale [] is = All-nil (IsGroupOf scale.warehouses)
 all_supplies scale (line ∷ lines) is =
     let parts = and_parts (has_warehouse scale line.supply_w_id) (list_all (λ (l : OrderedLine). has_warehouse scale l.supply_w_id) lines) is in
-    let below : line.i_id % 64 < 64 = omega arith in
+    let below : line.i_id % STOCK_GROUPS < STOCK_GROUPS = omega arith in
     All-cons (IsGroupOf scale.warehouses) (group_of_supply line) (map group_of_supply lines)
     (between 1 scale.warehouses line.supply_w_id parts.0, below) (all_supplies scale lines parts.1)
 
@@ -104,7 +105,7 @@ level_groups_there scale s accepted =
     let warehouse = between 1 scale.warehouses s.home.w_id (not-false _ first.0) in
     let district = between 1 10 s.home.d_id (not-false _ second.0) in
     let own_orders = Orders s.home.w_id s.home.d_id in
-    let stock = groups_of (map (λ residue. shared (Stock s.home.w_id residue)) (range_with_len 0 64)) in
+    let stock = groups_of (map (λ residue. shared (Stock s.home.w_id residue)) (range_with_len 0 STOCK_GROUPS)) in
     All-cons P (District s.home.w_id s.home.d_id) (own_orders ∷ stock) (warehouse, district)
     (All-cons P own_orders stock (warehouse, district)
-    (all_from P (λ residue. shared (Stock s.home.w_id residue)) 0 64 (λ number low high. (warehouse, high)) 0 64 (omega arith) (omega arith)))
+    (all_from P (λ residue. shared (Stock s.home.w_id residue)) 0 STOCK_GROUPS (λ number low high. (warehouse, high)) 0 STOCK_GROUPS (omega arith) (omega arith)))

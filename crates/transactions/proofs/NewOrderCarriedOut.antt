@@ -33,7 +33,7 @@ use Rattle.groups.proofs.Parts.{get-rows_of-own}
 use Rattle.tickets.specs.Claims.{ClaimView}
 use Rattle.tickets.specs.Committed.{RecordsContent, contents_after}
 use Rattle.machine.specs.Outcome.{Outcome, rolled_back}
-use Rattle.machine.specs.NewOrder.{district_ordered, items_found, line_rows, lines_shown, new_order, new_order_reply, order_key, order_row, ordered, placed, placed_of, placed_within, supplies}
+use Rattle.machine.specs.NewOrder.{district_ordered, items_found, line_rows, lines_shown, new_order, new_order_reply, order_key, order_row, ordered, placed, placed_of, placed_within, found_rows, supplies}
 use Rattle.machine.specs.NewOrderLines.{lines_placed}
 use Rattle.machine.proofs.LinesPlaced.{Agrees, agrees}
 use Rattle.transactions.specs.declared.new_order.HomeFound.{HomeFound}
@@ -216,10 +216,10 @@ module _ (t : Database) (n : NewOrder) where
 
       out_of_range : (items : List Item) → items_found t n.lines ≡ Some items → (district_ordered d ≡ None) ⊎ (supplies t n ≡ None) → new_order t n ≡ rolled_back t Range
       out_of_range items items_are (inl none) =
-          all_there ∙ ap (placed_of t n w d who.customer) items_are ∙ ap (λ o. placed_within t n w d who.customer items o (supplies t n)) none
+          all_there ∙ ap (placed_of t n w d who.customer) items_are ∙ ap (λ o. placed_within t n (found_rows w d who.customer items) o (supplies t n)) none
       out_of_range items items_are (inr none) =
-          all_there ∙ ap (placed_of t n w d who.customer) items_are ∙ ap (placed_within t n w d who.customer items (district_ordered d)) none
-          ∙ elim (district_ordered d) as (λ o. placed_within t n w d who.customer items o None ≡ rolled_back t Range) [ None ↦ refl | Some new ↦ refl ]
+          all_there ∙ ap (placed_of t n w d who.customer) items_are ∙ ap (placed_within t n (found_rows w d who.customer items) (district_ordered d)) none
+          ∙ elim (district_ordered d) as (λ o. placed_within t n (found_rows w d who.customer items) o None ≡ rolled_back t Range) [ None ↦ refl | Some new ↦ refl ]
 
       no_next : home.has_next ≡ false → district_ordered d ≡ None
       no_next none = is_none (district_ordered d) (sym (ap (λ (s : HomeShown). s.has_next) is.rows.shown) ∙ none)
@@ -288,10 +288,10 @@ module _ (t : Database) (n : NewOrder) where
           new : (new : District) × (district_ordered d ≡ Some new)
           new = is_there (district_ordered d) (sym (ap (λ (s : HomeShown). s.has_next) is.rows.shown) ∙ by.next)
 
-          carried : new_order t n ≡ placed_within t n w d who.customer are_sold.items (Some new.0) (Some are_sold.supplied)
+          carried : new_order t n ≡ placed_within t n (found_rows w d who.customer are_sold.items) (Some new.0) (Some are_sold.supplied)
           carried =
               all_there ∙ ap (placed_of t n w d who.customer) are_sold.items_are
-              ∙ (λ i. placed_within t n w d who.customer are_sold.items (new.1 i) (are_sold.supplied_is i))
+              ∙ (λ i. placed_within t n (found_rows w d who.customer are_sold.items) (new.1 i) (are_sold.supplied_is i))
 
           reply_is : new_order_reply n w d who.customer rows (lines_shown n.lines 1 n.lines are_sold.items are_sold.supplied) ≡ given.reply
           reply_is =

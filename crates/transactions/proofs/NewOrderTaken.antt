@@ -11,6 +11,7 @@ use Rattle.rows.specs.Keys.{stock_cmp}
 use Rattle.rows.specs.declared.keys.StockKey.{StockKey}
 use Rattle.rows.specs.declared.records.Item.{Item}
 use Rattle.rows.specs.declared.records.Stock.{Stock}
+use Rattle.rows.specs.declared.limits.TheConstants.{STOCK_GROUPS}
 use Rattle.partitions.specs.Parts.{SharedTables, shared_of, Part, IsPart}
 use Rattle.schema.specs.declared.scale.Scale.{Scale}
 use Rattle.schema.specs.Scale.{has_item, has_warehouse}
@@ -140,7 +141,7 @@ enough group key own low (line ∷ lines) =
           (λ is.
           let warehouse : line.supply_w_id ≡ key.w_id = grind (arith, nat_tests) in
           let item : line.i_id ≡ key.i_id = grind (arith, nat_tests) in
-          let here : group_of_supply line ≡ group = (λ i. g.Stock (warehouse i) (item i % 64)) ∙ own in
+          let here : group_of_supply line ≡ group = (λ i. g.Stock (warehouse i) (item i % STOCK_GROUPS)) ∙ own in
           let inside : is_in group (low, line) ≡ true = ap (λ other. is_same other group) here ∙ is_same-itself group in
           absurd cc)
           (λ e. e) in
@@ -233,10 +234,10 @@ module _ (t : Database) (n : NewOrder) (group : Group) where
 
   pub puts_of_group : IsStock group → (claim : ClaimView) → claim.group ≡ group → (puts : List StockPut) → ArePuts supplied puts → AreOfGroup claim t.stocks puts
   puts_of_group is claim on puts are =
-      All-from_recursion (λ (put : StockPut). (claim.group ≡ g.Stock put.key.w_id (put.key.i_id % 64)) × IsTrue (table.contains_key t.stocks put.key)) puts (each puts are.keys)
+      All-from_recursion (λ (put : StockPut). (claim.group ≡ g.Stock put.key.w_id (put.key.i_id % STOCK_GROUPS)) × IsTrue (table.contains_key t.stocks put.key)) puts (each puts are.keys)
     where
       each : (puts : List StockPut) → AllByRecursion (λ (put : StockPut). (group ≡ group_of_stock put.key) × (table.contains_key t.stocks put.key ≡ true)) puts
-          → AllByRecursion (λ (put : StockPut). (claim.group ≡ g.Stock put.key.w_id (put.key.i_id % 64)) × IsTrue (table.contains_key t.stocks put.key)) puts
+          → AllByRecursion (λ (put : StockPut). (claim.group ≡ g.Stock put.key.w_id (put.key.i_id % STOCK_GROUPS)) × IsTrue (table.contains_key t.stocks put.key)) puts
       each [] known = tt
       each (put ∷ puts) known = ((on ∙ known.0.0, known.0.1), each puts known.1)
 

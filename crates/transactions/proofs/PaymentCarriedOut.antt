@@ -18,7 +18,7 @@ use Rattle.groups.specs.Laws.{with_customer}
 use Rattle.tickets.specs.Claims.{ClaimView}
 use Rattle.tickets.specs.Committed.{RecordsContent, content_after, contents_after}
 use Rattle.machine.specs.Outcome.{Outcome}
-use Rattle.machine.specs.Payment.{payment, posted, payment_row, history_row}
+use Rattle.machine.specs.Payment.{payment, posted, posting, payment_row, history_row}
 use Rattle.machine.proofs.ChosenRows.{chosen_there}
 use Rattle.machine.proofs.Payments.{payment-posted}
 use Rattle.machine.proofs.PaymentGroups as puts
@@ -57,7 +57,7 @@ module _
       abbrev left : Database
       left = puts.left p customer.key of_home home.new_warehouse home.new_district customer.new_row row t
 
-      carried : payment t p ≡ posted t p customer.key row (Some home.new_warehouse) (Some home.new_district) (Some customer.new_row)
+      carried : payment t p ≡ posted t (posting p customer.key row) (Some home.new_warehouse) (Some home.new_district) (Some customer.new_row)
       carried =
           let warehouse_there = recorded.warehouse_recorded t p warehouse records.0 (Some home.warehouse_row) on_warehouse home.warehouse_recorded in
           let district_there = recorded.district_recorded t p district records.1.0 (Some home.district_row) on_district home.district_recorded in

@@ -22,7 +22,7 @@ use Rattle.tickets.specs.Claims.{ClaimView}
 use Rattle.tickets.specs.Committed.{RecordsContent}
 use Rattle.machine.specs.Chosen.{chosen}
 use Rattle.machine.specs.Outcome.{Outcome, rolled_back}
-use Rattle.machine.specs.Payment.{payment, paid, posted, payment_row, warehouse_paid, district_paid}
+use Rattle.machine.specs.Payment.{payment, paid, posted, posting, payment_row, warehouse_paid, district_paid}
 use Rattle.transactions.specs.declared.payment.HomePaid.{HomePaid}
 use Rattle.transactions.specs.declared.payment.HomePaid.TheVariants as h
 use Rattle.transactions.specs.declared.payment.CustomerPaid.{CustomerPaid}
@@ -51,20 +51,20 @@ module _ (t : Database) (p : Payment) where
   -- ---- a sum that would leave its range
 
   module _ (key : CustomerKey) (row : History) where
-    home_out : (w : Option Warehouse) (d : Option District) (customer : Option Customer) → (w ≡ None) ⊎ (d ≡ None) → posted t p key row w d customer ≡ rolled_back t Range
-    home_out w d customer (inl none) = ap (λ o. posted t p key row o d customer) none
-    home_out (Some w) d customer (inr none) = ap (λ o. posted t p key row (Some w) o customer) none
+    home_out : (w : Option Warehouse) (d : Option District) (customer : Option Customer) → (w ≡ None) ⊎ (d ≡ None) → posted t (posting p key row) w d customer ≡ rolled_back t Range
+    home_out w d customer (inl none) = ap (λ o. posted t (posting p key row) o d customer) none
+    home_out (Some w) d customer (inr none) = ap (λ o. posted t (posting p key row) (Some w) o customer) none
     home_out None d customer (inr none) = refl
 
-    customer_out : (w : Option Warehouse) (d : Option District) (customer : Option Customer) → customer ≡ None → posted t p key row w d customer ≡ rolled_back t Range
-    customer_out (Some w) (Some d) customer none = ap (λ o. posted t p key row (Some w) (Some d) o) none
+    customer_out : (w : Option Warehouse) (d : Option District) (customer : Option Customer) → customer ≡ None → posted t (posting p key row) w d customer ≡ rolled_back t Range
+    customer_out (Some w) (Some d) customer none = ap (λ o. posted t (posting p key row) (Some w) (Some d) o) none
     customer_out (Some w) None customer none = refl
     customer_out None d customer none = refl
 
   -- the rows that are there
   all_there : (w : Warehouse) (d : District) (key : CustomerKey) (customer : Customer)
       → map.get t.warehouses p.home.w_id ≡ Some w → map.get t.districts p.home ≡ Some d → chosen t.customers p.customer_home p.customer ≡ Some (key, customer)
-      → payment t p ≡ posted t p key (payment_row p key w d) (warehouse_paid w (pos p.amount)) (district_paid d (pos p.amount)) (payer_paid p key customer)
+      → payment t p ≡ posted t (posting p key (payment_row p key w d)) (warehouse_paid w (pos p.amount)) (district_paid d (pos p.amount)) (payer_paid p key customer)
   all_there w d key customer w_is d_is c_is = λ i. paid t p (w_is i) (d_is i) (c_is i)
 
   -- ---- by what was found

@@ -13,7 +13,7 @@ use Rattle.commit_log.specs.PassView.{PassView}
 use Rattle.slices.specs.SliceView.{AreOfOneHome, IsClaimAt}
 use Rattle.transactions.specs.declared.logging.Logged.{Logged}
 use Rattle.transactions.specs.Acting.{AreGivenBy, AreUndoneBy, CanBeSettled, IsAged}
-use Rattle.transactions.specs.Logged.{Logs, is_settled}
+use Rattle.transactions.specs.Logged.{LogAndClaims, Logs, is_settled}
 
 -- what a claim left is committed once it is settled
 settled_given : (c : ClaimView) → CanBeSettled (settled c)
@@ -53,11 +53,11 @@ all_logged_given shown age (cs ∷ held) h =
 
 module _ {J : Type 0} where
   -- so they are, whatever came of it at the log
-  pub given_back : (age : ℕ) (entry : Entry) (pass : PassView) (old new : List Entry) (held after : List (List ClaimView)) (logged : Logged J)
-      → Logs entry pass old held logged new after → All (AreUndoneBy age) held → All (AreGivenBy logged.is_settled age) after
-  given_back age entry pass old new held after logged (inl logs) undone =
-      subst (λ (l : Logged J). All (AreGivenBy l.is_settled age) after) (sym logs.2)
-      (subst (λ (hs : List (List ClaimView)). All (AreGivenBy (is_settled entry.reply) age) hs) (sym logs.4) (all_logged_given entry.reply age held undone))
-  given_back age entry pass old new held after logged (inr refused) undone =
-      subst (λ (l : Logged J). All (AreGivenBy l.is_settled age) after) (sym refused.2)
+  pub given_back : (age : ℕ) (entry : Entry) (pass : PassView) (old new : LogAndClaims) (logged : Logged J)
+      → Logs entry pass old logged new → All (AreUndoneBy age) old.held → All (AreGivenBy logged.is_settled age) new.held
+  given_back age entry pass old new logged (inl logs) undone =
+      subst (λ (l : Logged J). All (AreGivenBy l.is_settled age) new.held) (sym logs.2)
+      (subst (λ (hs : List (List ClaimView)). All (AreGivenBy (is_settled entry.reply) age) hs) (sym logs.4) (all_logged_given entry.reply age old.held undone))
+  given_back age entry pass old new logged (inr refused) undone =
+      subst (λ (l : Logged J). All (AreGivenBy l.is_settled age) new.held) (sym refused.2)
       (subst (λ (hs : List (List ClaimView)). All (AreUndoneBy age) hs) (sym refused.4) undone)

@@ -3,6 +3,7 @@ use Rattle.std.proofs.Common.{◌≡◌, ℕ, zero, suc, ◌+◌, ◌<◌, List,
 use Rattle.std.specs.Prelude.{slice_index_or}
 use Rattle.std.specs.List.{range_with_len}
 use Rattle.rows.specs.declared.keys.DistrictKey.{DistrictKey}
+use Rattle.rows.specs.declared.limits.TheConstants.{STOCK_GROUPS}
 use Rattle.schema.specs.Database.{Database}
 use Rattle.requests.specs.declared.group.Group.{Group}
 use Rattle.requests.specs.declared.group.Group.TheVariants as g
@@ -44,8 +45,8 @@ module _ (w_id : ℕ) where
   many_from from (suc count) [] on = absurd on
   many_from from (suc count) (claim ∷ claims) on = ap suc (many_from (from + 1) count claims on.1)
 
-  pub many : (claims : List ClaimView) → AreSharedOn (stock_of w_id) claims → length claims ≡ 64
-  many claims on = many_from 0 64 claims on
+  pub many : (claims : List ClaimView) → AreSharedOn (stock_of w_id) claims → length claims ≡ STOCK_GROUPS
+  many claims on = many_from 0 STOCK_GROUPS claims on
 
   -- each is a shared one on the group of its residue
   at_from : (from count : ℕ) (claims : List ClaimView) → AreSharedOn (stock_from from count) claims → (k : ℕ) (d : ClaimView) → k < length claims
@@ -64,7 +65,7 @@ module _ (w_id : ℕ) where
       → IsSharedOn (g.Stock w_id k) (slice_index_or claims k d)
   shared_at claims on k d less =
       let same : 0 + k ≡ k = omega arith in
-      subst (λ (residue : ℕ). IsSharedOn (g.Stock w_id residue) (slice_index_or claims k d)) same (at_from 0 64 claims on k d less)
+      subst (λ (residue : ℕ). IsSharedOn (g.Stock w_id residue) (slice_index_or claims k d)) same (at_from 0 STOCK_GROUPS claims on k d less)
 
   -- those that were granted for the wants are such
   granted_from : (from count : ℕ) (claims : List ClaimView) → AreGrantedFor (stock_group_wants w_id from count) claims → AreSharedOn (stock_from from count) claims
@@ -74,8 +75,8 @@ module _ (w_id : ℕ) where
   granted_from from (suc count) (claim ∷ claims) granted =
       (record { group = granted.0.group; mode = granted.0.mode }, granted_from (from + 1) count claims granted.1)
 
-  pub granted_shared : (claims : List ClaimView) → AreGrantedFor (stock_group_wants w_id 0 64) claims → AreSharedOn (stock_of w_id) claims
-  granted_shared claims granted = granted_from 0 64 claims granted
+  pub granted_shared : (claims : List ClaimView) → AreGrantedFor (stock_group_wants w_id 0 STOCK_GROUPS) claims → AreSharedOn (stock_of w_id) claims
+  granted_shared claims granted = granted_from 0 STOCK_GROUPS claims granted
 
 -- claims that stay left what they left
 pub left_themselves : (claims : List ClaimView) → AreLeft claims claims
@@ -90,7 +91,7 @@ low_is_found t s items count stock on recorded is = record {
   claims = on;
   shown = λ other records.
       let w_id = s.home.w_id in
-      let alike : (residue : ℕ) → residue < 64 → content t (g.Stock w_id residue) ≡ content other (g.Stock w_id residue) = λ residue less.
+      let alike : (residue : ℕ) → residue < STOCK_GROUPS → content t (g.Stock w_id residue) ≡ content other (g.Stock w_id residue) = λ residue less.
       let none : ClaimView = record { by = record { age = 0; place = 0 }; group = g.Stock w_id 0; mode = Shared; recorded = OfDistrict None; left = OfDistrict None; back = OfDistrict None } in
       let within : residue < length stock = omega (arith, less, many w_id stock on) in
       let group = (shared_at w_id stock on residue none within).group in

@@ -6,6 +6,7 @@ use Rattle.std.proofs.lemmas.Bool.{not-false}
 use Rattle.std.proofs.lemmas.List.{append-nil}
 use Rattle.std.proofs.lemmas.List.Elements.{All-nil, All-cons, All-head, All-tail}
 use Rattle.std.proofs.lemmas.List.FromFn.{get_or-map-range_with_len, length-map-range_with_len, take-map-range_with_len}
+use Rattle.rows.specs.declared.limits.TheConstants.{STOCK_GROUPS}
 use Rattle.partitions.specs.Parts.{SharedTables}
 use Rattle.schema.specs.declared.scale.Scale.{Scale}
 use Rattle.schema.specs.Scale.{has_warehouse}
@@ -55,11 +56,11 @@ module _ (w_id : ℕ) where
       All-cons (λ (before : GroupWant). before.group ≢ Stock w_id residue) (stock_group_want from) (stock_group_wants (from + 1) count)
       (λ (same : Stock w_id from ≡ Stock w_id residue). let equal : from ≡ residue = cc in absurd (omega arith)) (stock_before residue (from + 1) count (omega arith))
 
-  stock_apart : AreApart (stock_group_wants 0 64)
+  stock_apart : AreApart (stock_group_wants 0 STOCK_GROUPS)
   stock_apart k d less =
-      let small : k < 64 = omega (arith, less, length-map-range_with_len stock_group_want 0 64) in
-      subst (λ (group_want : GroupWant). All (λ (before : GroupWant). before.group ≢ group_want.group) (take k (stock_group_wants 0 64))) (sym (get_or-map-range_with_len stock_group_want 0 64 k k d small (omega arith)))
-      (subst (All (λ (before : GroupWant). before.group ≢ Stock w_id k)) (sym (take-map-range_with_len stock_group_want 0 64 k (omega arith))) (stock_before k 0 k (omega arith)))
+      let small : k < STOCK_GROUPS = omega (arith, less, length-map-range_with_len stock_group_want 0 STOCK_GROUPS) in
+      subst (λ (group_want : GroupWant). All (λ (before : GroupWant). before.group ≢ group_want.group) (take k (stock_group_wants 0 STOCK_GROUPS))) (sym (get_or-map-range_with_len stock_group_want 0 STOCK_GROUPS k k d small (omega arith)))
+      (subst (All (λ (before : GroupWant). before.group ≢ Stock w_id k)) (sym (take-map-range_with_len stock_group_want 0 STOCK_GROUPS k (omega arith))) (stock_before k 0 k (omega arith)))
 
   -- the groups of the wants are those of the stock
   same_groups : (from count : ℕ) → map (λ (residue : ℕ). Stock w_id residue) (range_with_len from count) ≡ groups_of (stock_group_wants from count)
@@ -86,19 +87,19 @@ works_have_their_groups shared (ReadNext s) accepted =
     let P = IsGroupOf shared.scale.warehouses in
     let district = District s.home.w_id s.home.d_id in
     let orders = Orders s.home.w_id s.home.d_id in
-    let stock = groups_of (stock_group_wants s.home.w_id 0 64) in
+    let stock = groups_of (stock_group_wants s.home.w_id 0 STOCK_GROUPS) in
     All-cons P district [] (All-head P district (orders ∷ stock) (level_groups_there shared.scale s accepted)) (All-nil P)
 works_have_their_groups shared (ReadItems s next) accepted =
     let P = IsGroupOf shared.scale.warehouses in
     let district = District s.home.w_id s.home.d_id in
     let orders = Orders s.home.w_id s.home.d_id in
-    let stock = groups_of (stock_group_wants s.home.w_id 0 64) in
+    let stock = groups_of (stock_group_wants s.home.w_id 0 STOCK_GROUPS) in
     All-cons P orders [] (All-head P orders stock (All-tail P district (orders ∷ stock) (level_groups_there shared.scale s accepted))) (All-nil P)
 works_have_their_groups shared (CountLow s items) accepted =
     let P = IsGroupOf shared.scale.warehouses in
     let district = District s.home.w_id s.home.d_id in
     let orders = Orders s.home.w_id s.home.d_id in
-    let stock = groups_of (stock_group_wants s.home.w_id 0 64) in
+    let stock = groups_of (stock_group_wants s.home.w_id 0 STOCK_GROUPS) in
     All-tail P orders stock (All-tail P district (orders ∷ stock) (level_groups_there shared.scale s accepted))
 
 pub works_are_at_warehouses : (shared : SharedTables) (work : Work) → CanDo shared work → IsTrue (has_warehouse shared.scale (home_of work))
@@ -109,12 +110,12 @@ works_are_at_warehouses shared (CountLow s items) accepted = warehouse_there sha
 pub works_have_group_wants : (work : Work) → 1 ≤ length (group_wants_of work)
 works_have_group_wants (ReadNext s) = omega arith
 works_have_group_wants (ReadItems s next) = omega arith
-works_have_group_wants (CountLow s items) = omega (arith, length-map-range_with_len (stock_group_want s.home.w_id) 0 64)
+works_have_group_wants (CountLow s items) = omega (arith, length-map-range_with_len (stock_group_want s.home.w_id) 0 STOCK_GROUPS)
 
 pub works_claim_at_home : (work : Work) → AreGroupWantsAt (home_of work) (group_wants_of work)
 works_claim_at_home (ReadNext s) = one_group_want s.home.w_id (sharing (District s.home.w_id s.home.d_id)) refl
 works_claim_at_home (ReadItems s next) = one_group_want s.home.w_id (sharing (Orders s.home.w_id s.home.d_id)) refl
-works_claim_at_home (CountLow s items) = stock_at_home s.home.w_id 0 64
+works_claim_at_home (CountLow s items) = stock_at_home s.home.w_id 0 STOCK_GROUPS
 
 -- no group is wanted for twice
 pub works_group_want_once : (work : Work) → AreApart (group_wants_of work)
@@ -129,7 +130,7 @@ pub done_on : (shared : SharedTables) (work : Work) (found : Found) (claims : Li
     → map (λ (claim : ClaimView). claim.group) claims ≡ groups_of (group_wants_of work)
 done_on shared (ReadNext s) found claims done = ap (map (λ (claim : ClaimView). claim.group)) done.3 ∙ (λ i. done.4.claim.group i ∷ [])
 done_on shared (ReadItems s next) found claims done = ap (map (λ (claim : ClaimView). claim.group)) done.3 ∙ (λ i. done.4.claim.group i ∷ [])
-done_on shared (CountLow s items) found claims done = claims_on (stock_of s.home.w_id) claims done.2.claims ∙ same_groups s.home.w_id 0 64
+done_on shared (CountLow s items) found claims done = claims_on (stock_of s.home.w_id) claims done.2.claims ∙ same_groups s.home.w_id 0 STOCK_GROUPS
 
 -- ---- each phase
 
@@ -161,17 +162,17 @@ within shared asked (at.ReadNext s) held known =
     let home = s.home in
     subst (λ held. AreSomeOf (map group_want_of (all_claims held) ++ all_group_wants (works_of (at.ReadNext s))) (footprint asked)) (sym known.none)
     (subst (λ r. AreSomeOf (all_group_wants (works_of (at.ReadNext s))) (footprint r)) (sym known.is)
-    (first_are_some (sharing (District home.w_id home.d_id) ∷ []) (sharing (Orders home.w_id home.d_id) ∷ stock_group_wants home.w_id 0 64)))
+    (first_are_some (sharing (District home.w_id home.d_id) ∷ []) (sharing (Orders home.w_id home.d_id) ∷ stock_group_wants home.w_id 0 STOCK_GROUPS)))
 within shared asked (at.ReadItems s next) held known =
     let home = s.home in
     let orders = sharing (Orders home.w_id home.d_id) in
     subst (λ held. AreSomeOf (map group_want_of (all_claims held) ++ all_group_wants (works_of (at.ReadItems s next))) (footprint asked)) (sym known.claims)
     (subst (λ r. AreSomeOf (group_want_of known.district ∷ orders ∷ []) (footprint r)) (sym known.is)
     (subst (λ (w : GroupWant). AreSomeOf (w ∷ orders ∷ []) (footprint (request.StockLevel s))) (sym (shared_group_want _ known.district known.read.claim))
-    (first_are_some (sharing (District home.w_id home.d_id) ∷ orders ∷ []) (stock_group_wants home.w_id 0 64))))
+    (first_are_some (sharing (District home.w_id home.d_id) ∷ orders ∷ []) (stock_group_wants home.w_id 0 STOCK_GROUPS))))
 within shared asked (at.CountLow s items) held known =
     let home = s.home in
-    let stock = stock_group_wants home.w_id 0 64 in
+    let stock = stock_group_wants home.w_id 0 STOCK_GROUPS in
     subst (λ held. AreSomeOf (map group_want_of (all_claims held) ++ all_group_wants (works_of (at.CountLow s items))) (footprint asked)) (sym known.claims)
     (subst (λ r. AreSomeOf (group_want_of known.district ∷ group_want_of known.orders ∷ (stock ++ [])) (footprint r)) (sym known.is)
     (all_are_some (group_want_of known.district ∷ group_want_of known.orders ∷ (stock ++ [])) (footprint (request.StockLevel s))

@@ -1,6 +1,6 @@
 -- A Delivery (clause 2.7.4.2): what its actions find and do, stated of their claims alone, that is of the content that they
 -- record and leave; and its phases.
-use Rattle.std.specs.Prelude.{◌≡◌, ◌⊎◌, ℕ, Bool, List, [], ◌∷◌, map, Option, Some, None, is_some}
+use Rattle.std.specs.Prelude.{◌≡◌, ◌≢◌, ◌⊎◌, ℕ, Bool, List, [], ◌∷◌, length, map, Option, Some, None, is_some}
 use Rattle.std.specs.List.{list_any, range_with_len}
 use Rattle.std.specs.Option.{option_map, option_and_then}
 use Rattle.std.specs.FinMap as table
@@ -38,7 +38,7 @@ use Rattle.transactions.specs.declared.work.Work.{Work as AnyWork}
 use Rattle.transactions.specs.declared.work.Work.TheVariants as any_work
 use Rattle.transactions.specs.declared.work.Found.{Found as AnyFound}
 use Rattle.transactions.specs.declared.work.Found.TheVariants as any_found
-use Rattle.transactions.specs.Granted.{IsAsked, IsExclusiveOn}
+use Rattle.transactions.specs.Granted.{IsAsked, IsExclusiveOn, group_of_orders}
 
 -- what was found in each of some districts: the order that was delivered, if there is one
 abbrev pub Deliveries : Type 0
@@ -67,7 +67,7 @@ order_delivered t home carrier moment (Some order) = with_delivery t (order_key 
 -- What was found of the district holds in all tables whose content of the group is the recorded one, and the claim leaves what
 -- these have there once that order is delivered.
 pub record IsOrderDelivered (carrier moment : ℕ) (home : DistrictKey) (one : Option OrderDelivered) (orders : ClaimView) : Type 0 where
-  pub claim : IsExclusiveOn (g.Orders home.w_id home.d_id) orders
+  pub claim : IsExclusiveOn (group_of_orders home) orders
   pub shown : (t : Database) → content t orders.group ≡ orders.recorded → FindsOldest t home one
   pub left : (t : Database) → content t orders.group ≡ orders.recorded → orders.left ≡ content (order_delivered t home carrier moment one) orders.group
 
@@ -144,9 +144,25 @@ pub record AreCustomersCredited (w_id : ℕ) (districts : List ℕ) (delivered :
 
 -- ---- the actions
 
+-- the districts of a warehouse from this one on, one for each element of the list
+abbrev pub districts_from : ℕ → Deliveries → List ℕ
+districts_from d_id delivered = range_with_len d_id (length delivered)
+
 -- the ten districts of a warehouse
 abbrev pub ten : List ℕ
 ten = range_with_len 1 10
+
+-- exclusive wants of the orders of these districts of the warehouse
+abbrev pub wants_of_orders : ℕ → List ℕ → List GroupWant
+wants_of_orders w_id districts = map (λ k. exclusively (g.Orders w_id k)) districts
+
+-- exclusive wants of the customers of these districts of the warehouse
+abbrev pub wants_of_customers : ℕ → List ℕ → List GroupWant
+wants_of_customers w_id districts = map (λ k. exclusively (g.Customers w_id k)) districts
+
+-- Every group but this one has the same content as before.
+abbrev pub SameElsewhere : Group → Database → Database → Type 0
+SameElsewhere own old new = (other : Group) → other ≢ own → content new other ≡ content old other
 
 -- the warehouse at which the work is done
 abbrev pub home_of : Work → ℕ
@@ -155,8 +171,8 @@ home_of (CreditCustomers d delivered) = d.w_id
 
 -- the wants of an action's work
 abbrev pub group_wants_of : Work → List GroupWant
-group_wants_of (DeliverOrders d) = map (λ k. exclusively (g.Orders d.w_id k)) (range_with_len 1 10)
-group_wants_of (CreditCustomers d delivered) = map (λ k. exclusively (g.Customers d.w_id k)) (range_with_len 1 10)
+group_wants_of (DeliverOrders d) = wants_of_orders d.w_id ten
+group_wants_of (CreditCustomers d delivered) = wants_of_customers d.w_id ten
 
 -- The work can be done: its Delivery is one that the check accepts.
 abbrev pub CanDo : SharedTables → Work → Type 0

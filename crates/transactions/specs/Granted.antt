@@ -1,7 +1,9 @@
 -- Claims that were granted for wants, and the facts of a request that holds none yet.
 use Rattle.std.specs.Prelude.{◌≡◌, ◌≤◌, ℕ, Bool, List, [], ◌∷◌, All, count_by}
+use Rattle.rows.specs.declared.keys.DistrictKey.{DistrictKey}
 use Rattle.partitions.specs.Parts.{SharedTables}
 use Rattle.requests.specs.declared.group.Group.{Group}
+use Rattle.requests.specs.declared.group.Group.TheVariants as g
 use Rattle.requests.specs.declared.request.Request.{Request}
 use Rattle.requests.specs.Check.{IsAccepted}
 use Rattle.groups.specs.declared.group_wants.Mode.TheVariants as m
@@ -14,6 +16,16 @@ pub record IsAsked (shared : SharedTables) (asked given : Request) (held : List 
   pub is : asked ≡ given
   pub accepted : IsAccepted shared.scale asked
   pub none : held ≡ []
+
+-- ---- the groups of a district
+
+-- the customers of a district are one group
+abbrev pub group_of_customers : DistrictKey → Group
+group_of_customers home = g.Customers home.w_id home.d_id
+
+-- the orders of a district, with their rows of NEW-ORDER and their lines, are one group
+abbrev pub group_of_orders : DistrictKey → Group
+group_of_orders home = g.Orders home.w_id home.d_id
 
 -- ---- one claim
 

@@ -24,6 +24,14 @@ abbrev pub why_refused : AppendFault → Refusal
 why_refused fault.NoMemory = refusal.NoMemory
 why_refused fault.LogFull = refusal.LogFull
 
+-- the entries of a log, and the claims of each action of a transaction that is to be logged
+pub record LogAndClaims : Type 0 where
+  pub log : List Entry
+  pub held : List (List ClaimView)
+
+abbrev pub log_and_claims : List Entry → List (List ClaimView) → LogAndClaims
+log_and_claims log held = record { log = log; held = held }
+
 module _ {J : Type 0} where
   -- the entry is at this place, and the session's pass records it
   abbrev pub logged_at : ℕ → Entry → PassView → Logged J
@@ -36,9 +44,9 @@ module _ {J : Type 0} where
 
   -- The log has one entry more, at its end, behind all that the session has seen, and the claims are as the log leaves them; or
   -- it refused the entry, and log and claims are unchanged. It refuses an entry with LogFull exactly if it is full.
-  abbrev pub Logs : Entry → PassView → List Entry → List (List ClaimView) → Logged J → List Entry → List (List ClaimView) → Type 0
-  Logs entry pass old held logged new after =
-      ((length old < MOST_ENTRIES) × (pass.seen ≤ length old) × (logged ≡ logged_at (length old) entry pass)
-      × (new ≡ old ++ entry ∷ []) × (after ≡ map (claims_logged entry.reply) held))
-      ⊎ ((why : AppendFault) × ((why ≡ fault.LogFull) ↔ (MOST_ENTRIES ≤ length old)) × (logged ≡ refused_for why (length old) pass)
-      × (new ≡ old) × (after ≡ held))
+  abbrev pub Logs : Entry → PassView → LogAndClaims → Logged J → LogAndClaims → Type 0
+  Logs entry pass old logged new =
+      ((length old.log < MOST_ENTRIES) × (pass.seen ≤ length old.log) × (logged ≡ logged_at (length old.log) entry pass)
+      × (new.log ≡ old.log ++ entry ∷ []) × (new.held ≡ map (claims_logged entry.reply) old.held))
+      ⊎ ((why : AppendFault) × ((why ≡ fault.LogFull) ↔ (MOST_ENTRIES ≤ length old.log)) × (logged ≡ refused_for why (length old.log) pass)
+      × (new.log ≡ old.log) × (new.held ≡ old.held))

@@ -23,7 +23,7 @@ use Rattle.requests.specs.declared.request.Request.{Request}
 use Rattle.requests.specs.declared.request.Request.TheVariants as request
 use Rattle.requests.specs.declared.reply.Fault.{Fault}
 use Rattle.requests.specs.declared.reply.Fault.TheVariants.{NoItem as NoItemOf, Range}
-use Rattle.groups.specs.Groups.{is_same, warehouse_of}
+use Rattle.groups.specs.Groups.{group_of_district, group_of_order, is_same, warehouse_of}
 use Rattle.groups.specs.Content.{content}
 use Rattle.groups.specs.Content.Content.{OfWarehouse, OfDistrict, OfCustomers}
 use Rattle.groups.specs.NewOrder.{group_of_supply, supplies_of}
@@ -55,7 +55,7 @@ use Rattle.transactions.specs.declared.work.Work.{Work as AnyWork}
 use Rattle.transactions.specs.declared.work.Work.TheVariants as any_work
 use Rattle.transactions.specs.declared.work.Found.{Found as AnyFound}
 use Rattle.transactions.specs.declared.work.Found.TheVariants as any_found
-use Rattle.transactions.specs.Granted.{IsAsked, IsExclusiveOn, IsSharedOn}
+use Rattle.transactions.specs.Granted.{IsAsked, IsExclusiveOn, IsSharedOn, group_of_customers}
 
 -- ---- the home warehouse and district
 
@@ -85,7 +85,7 @@ FindsHome (h.Shown home) warehouse district = IsNumberTaken home warehouse distr
 -- what a New-Order found of its home warehouse and district, and did there
 pub record IsHomeOrdered (n : NewOrder) (found : HomeFound) (warehouse district : ClaimView) : Type 0 where
   pub warehouse_claim : IsSharedOn (g.Warehouse n.home.w_id) warehouse
-  pub district_claim : IsExclusiveOn (g.District n.home.w_id n.home.d_id) district
+  pub district_claim : IsExclusiveOn (group_of_district n.home) district
   pub rows : FindsHome found warehouse district
 
 -- if the district has a next number, an order can have this number
@@ -106,7 +106,7 @@ orderer_found None = c.Missing
 
 -- what a New-Order found of its customer, among those of the district
 pub record IsOrdererShown (n : NewOrder) (found : OrdererFound) (customers : ClaimView) : Type 0 where
-  pub claim : IsSharedOn (g.Customers n.home.w_id n.home.d_id) customers
+  pub claim : IsSharedOn (group_of_customers n.home) customers
   pub rows : Customers
   pub recorded : customers.recorded ≡ OfCustomers rows
   pub shown : found ≡ orderer_found (table.get rows (customer_key n.home n.c_id))
@@ -144,6 +144,10 @@ has_item_of t line = table.contains_key t.items line.1.i_id
 abbrev pub line_sold : Database → NewOrder → Numbered → Option LineSold
 line_sold t n line = option_map (λ placed. record { number = line.0; row = placed.row; shown = placed.shown }) (line_placed t n line.0 line.1)
 
+-- all of these lines sold, if each can be
+abbrev pub lines_sold : Database → NewOrder → List Numbered → Option (List LineSold)
+lines_sold t n lines = all_there (map (line_sold t n) lines)
+
 -- all lines could be sold, or a counter would leave its range
 abbrev pub sold_or_out : Option (List LineSold) → StockTaken
 sold_or_out (Some sold) = Taken sold
@@ -151,7 +155,7 @@ sold_or_out None = OutOfRange
 
 -- what is found of these lines of the order in these tables: a missing item comes before a counter out of its range
 abbrev pub stock_found : Database → NewOrder → List Numbered → StockTaken
-stock_found t n lines = if list_all (has_item_of t) lines then sold_or_out (all_there (map (line_sold t n) lines)) else NoItem
+stock_found t n lines = if list_all (has_item_of t) lines then sold_or_out (lines_sold t n lines) else NoItem
 
 -- the tables once this was found: the order's lines are taken from the stock if they were sold; else nothing changes
 abbrev pub once_found : StockTaken → NewOrder → Database → Database
@@ -190,7 +194,7 @@ pub record IsOrderKnown (scale : Scale) (order : OrderRows) : Type 0 where
 
 -- the claim leaves what all tables whose content of the group is the recorded one have there with the order
 pub record IsOrderAdded (order : OrderRows) (orders : ClaimView) : Type 0 where
-  pub claim : IsExclusiveOn (g.Orders order.key.w_id order.key.d_id) orders
+  pub claim : IsExclusiveOn (group_of_order order.key) orders
   pub left : (t : Database) → content t orders.group ≡ orders.recorded → orders.left ≡ content (with_order t order.key order.row order.lines) orders.group
 
 -- ---- the decision on an order
@@ -255,10 +259,10 @@ home_of (AddOrder order) = order.key.w_id
 
 -- the wants of an action's work
 abbrev pub group_wants_of : Work → List GroupWant
-group_wants_of (TakeNumber n) = sharing (g.Warehouse n.home.w_id) ∷ exclusively (g.District n.home.w_id n.home.d_id) ∷ []
-group_wants_of (ShowOrderer n) = sharing (g.Customers n.home.w_id n.home.d_id) ∷ []
+group_wants_of (TakeNumber n) = sharing (g.Warehouse n.home.w_id) ∷ exclusively (group_of_district n.home) ∷ []
+group_wants_of (ShowOrderer n) = sharing (group_of_customers n.home) ∷ []
 group_wants_of (TakeStock n group) = exclusively group ∷ []
-group_wants_of (AddOrder order) = exclusively (g.Orders order.key.w_id order.key.d_id) ∷ []
+group_wants_of (AddOrder order) = exclusively (group_of_order order.key) ∷ []
 
 -- whether the group is one of those that supply the order's lines
 abbrev pub is_supply_of : NewOrder → Group → Bool

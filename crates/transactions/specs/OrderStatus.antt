@@ -36,7 +36,7 @@ use Rattle.transactions.specs.declared.work.Work.{Work as AnyWork}
 use Rattle.transactions.specs.declared.work.Work.TheVariants as any_work
 use Rattle.transactions.specs.declared.work.Found.{Found as AnyFound}
 use Rattle.transactions.specs.declared.work.Found.TheVariants as any_found
-use Rattle.transactions.specs.Granted.{IsAsked, IsSharedOn}
+use Rattle.transactions.specs.Granted.{IsAsked, IsSharedOn, group_of_customers}
 
 -- ---- the customer
 
@@ -51,7 +51,7 @@ customer_shown None = Missing
 
 -- what an Order-Status found of its customer, among those of the district
 pub record IsCustomerShown (o : OrderStatus) (found : CustomerShown) (customers : ClaimView) : Type 0 where
-  pub claim : IsSharedOn (g.Customers o.home.w_id o.home.d_id) customers
+  pub claim : IsSharedOn (group_of_customers o.home) customers
   pub rows : Customers
   pub recorded : customers.recorded ≡ OfCustomers rows
   pub shown : found ≡ customer_shown (chosen rows o.home o.customer)
@@ -72,7 +72,7 @@ home_of (ShowOrder key) = key.w_id
 
 -- the wants of an action's work
 abbrev pub group_wants_of : Work → List GroupWant
-group_wants_of (ShowCustomer o) = sharing (g.Customers o.home.w_id o.home.d_id) ∷ []
+group_wants_of (ShowCustomer o) = sharing (group_of_customers o.home) ∷ []
 group_wants_of (ShowOrder key) = sharing (g.Orders key.w_id key.d_id) ∷ []
 
 -- The work can be done: its Order-Status is one that the check accepts; the customer whose order it shows is of a district of the

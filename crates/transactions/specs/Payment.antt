@@ -21,6 +21,7 @@ use Rattle.requests.specs.declared.reply.Reply.TheVariants.{RolledBack}
 use Rattle.requests.specs.declared.payment.PaymentReply.{PaymentReply}
 use Rattle.requests.specs.Check.{IsAccepted}
 use Rattle.groups.specs.Content.Content.{OfWarehouse, OfDistrict, OfCustomers, OfHistory}
+use Rattle.groups.specs.Groups.{group_of_district, group_of_history}
 use Rattle.groups.specs.declared.group_wants.GroupWant.{GroupWant}
 use Rattle.groups.specs.Footprint.{exclusively}
 use Rattle.tickets.specs.Claims.{ClaimView}
@@ -44,7 +45,7 @@ use Rattle.transactions.specs.declared.work.Found.TheVariants as any_found
 use Rattle.transactions.specs.declared.progress.Progress.TheVariants as any_progress
 use Rattle.transactions.specs.declared.progress.Gathered.{Gathered}
 use Rattle.transactions.specs.declared.progress.Gathered.TheVariants.{Next, Finish}
-use Rattle.transactions.specs.Granted.{IsAsked, IsExclusiveOn}
+use Rattle.transactions.specs.Granted.{IsAsked, IsExclusiveOn, group_of_customers}
 
 -- ---- the home warehouse and district
 
@@ -89,7 +90,7 @@ FindsHome p (h.Paid warehouse_name district_name) warehouse district =
 -- what a payment found of its home warehouse and district, and did there
 pub record IsHomePaid (p : Payment) (found : HomePaid) (warehouse district : ClaimView) : Type 0 where
   pub warehouse_claim : IsExclusiveOn (g.Warehouse p.home.w_id) warehouse
-  pub district_claim : IsExclusiveOn (g.District p.home.w_id p.home.d_id) district
+  pub district_claim : IsExclusiveOn (group_of_district p.home) district
   pub rows : FindsHome p found warehouse district
 
 -- ---- the customer
@@ -135,7 +136,7 @@ FindsCustomer p (c.Paid reply) customers = IsCustomerRowPaid p reply customers
 
 -- what a payment found of its customer, and did there
 pub record IsCustomerPaid (p : Payment) (found : CustomerPaid) (customers : ClaimView) : Type 0 where
-  pub claim : IsExclusiveOn (g.Customers p.customer_home.w_id p.customer_home.d_id) customers
+  pub claim : IsExclusiveOn (group_of_customers p.customer_home) customers
   pub rows : FindsCustomer p found customers
 
 -- a customer whose row is paid is one of the scale
@@ -147,7 +148,7 @@ IsPayerKnown scale p _ = Unit {0}
 
 -- the claim leaves the home district's list with the row at its end
 pub record IsPaymentAdded (p : Payment) (row : History) (history : ClaimView) : Type 0 where
-  pub claim : IsExclusiveOn (g.History p.home.w_id p.home.d_id) history
+  pub claim : IsExclusiveOn (group_of_history p.home) history
   pub rows : Option (List History)
   pub recorded : history.recorded ≡ OfHistory rows
   pub left : history.left ≡ OfHistory (Some (unwrap_or rows [] ++ row ∷ []))
@@ -162,9 +163,9 @@ home_of (AddPayment p row) = p.home.w_id
 
 -- the wants of an action's work
 abbrev pub group_wants_of : Work → List GroupWant
-group_wants_of (PayHome p) = exclusively (g.Warehouse p.home.w_id) ∷ exclusively (g.District p.home.w_id p.home.d_id) ∷ []
-group_wants_of (PayCustomer p) = exclusively (g.Customers p.customer_home.w_id p.customer_home.d_id) ∷ []
-group_wants_of (AddPayment p row) = exclusively (g.History p.home.w_id p.home.d_id) ∷ []
+group_wants_of (PayHome p) = exclusively (g.Warehouse p.home.w_id) ∷ exclusively (group_of_district p.home) ∷ []
+group_wants_of (PayCustomer p) = exclusively (group_of_customers p.customer_home) ∷ []
+group_wants_of (AddPayment p row) = exclusively (group_of_history p.home) ∷ []
 
 -- The work can be done: its payment is one that the check accepts, and the customer of a row that is added is one of the scale.
 abbrev pub CanDo : SharedTables → Work → Type 0

@@ -16,6 +16,7 @@ use Rattle.transactions.specs.Payment as payment
 use Rattle.transactions.specs.OrderStatus as order_status
 use Rattle.transactions.specs.Delivery as delivery
 use Rattle.transactions.specs.StockLevel as stock_level
+use Rattle.transactions.specs.Granted.{IsAsked}
 use Rattle.transactions.specs.Works.{HaveAllDone}
 
 -- the facts of a request's transaction that has come so far, under the claims of each action of its earlier phases, by place
@@ -25,6 +26,12 @@ IsReached shared asked (Payment progress) held = payment.IsReached shared asked 
 IsReached shared asked (OrderStatus progress) held = order_status.IsReached shared asked progress held
 IsReached shared asked (Delivery progress) held = delivery.IsReached shared asked progress held
 IsReached shared asked (StockLevel progress) held = stock_level.IsReached shared asked progress held
+
+-- A transaction of this request has come so far before any of its actions has claimed anything.
+abbrev pub IsStartOf : Request → Progress → Type 0
+IsStartOf given progress =
+    (shared : SharedTables) (asked : Request) (held : List (List ClaimView))
+    → IsAsked shared asked given held → IsReached shared asked progress held
 
 -- the works of the phase's actions, by place
 abbrev pub works_of : Progress → List Work

@@ -1,10 +1,11 @@
 -- The results of a phase's actions: their claims, what they found, and why the transaction is refused, if it is.
-use Rattle.std.specs.Prelude.{◌≡◌, ℕ, List, [], ◌∷◌, ◌++◌, Option, Some, None}
+use Rattle.std.specs.Prelude.{◌≡◌, ◌≤◌, ℕ, List, [], ◌∷◌, ◌++◌, Option, Some, None, vec_capacity}
 use Rattle.requests.specs.declared.group.Group.{Group}
 use Rattle.requests.specs.declared.refusal.Refusal.{Refusal}
 use Rattle.requests.specs.declared.refusal.Refusal.TheVariants as refusal
 use Rattle.tickets.specs.Claims.{ClaimView}
 use Rattle.transactions.specs.declared.work.Found.{Found}
+use Rattle.transactions.specs.declared.sorting.Sorted.{Sorted}
 use Rattle.transactions.specs.declared.acting.Ran.{Ran}
 use Rattle.transactions.specs.declared.acting.Ran.TheVariants.{Done, Died, NoMemory}
 
@@ -53,6 +54,10 @@ module _ {J : Type 0} where
   abbrev pub refusal_of : Option Refusal → List (Ran J) → Option Refusal
   refusal_of why [] = why
   refusal_of why (ran ∷ rans) = refusal_of (refused_by why ran) rans
+
+-- The transaction is refused; or nothing is found yet, and there is room for what this many actions find.
+abbrev pub IsReadyFor : ℕ → Sorted → Type 0
+IsReadyFor count sorted = sorted.refusal ≡ None → (sorted.found.items ≡ []) × (count ≤ vec_capacity sorted.found)
 
 -- why it is refused in the end: for the reason so far, or else with NoMemory if an allocation fails for the next step
 abbrev pub IsRefusedFor : Option Refusal → Refusal → Type 0

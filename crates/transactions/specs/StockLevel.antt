@@ -4,6 +4,7 @@ use Rattle.std.specs.Prelude.{◌≡◌, ℕ, List, [], ◌∷◌, map}
 use Rattle.std.specs.List.{range_with_len}
 use Rattle.std.specs.FinMap as table
 use Rattle.rows.specs.declared.keys.DistrictKey.{DistrictKey}
+use Rattle.rows.specs.declared.limits.TheConstants.{STOCK_GROUPS}
 use Rattle.schema.specs.Database.{Database}
 use Rattle.partitions.specs.Parts.{SharedTables}
 use Rattle.requests.specs.declared.group.Group.{Group}
@@ -14,6 +15,7 @@ use Rattle.requests.specs.declared.stock_level.StockLevel.{StockLevel}
 use Rattle.requests.specs.declared.stock_level.StockLevelReply.{StockLevelReply}
 use Rattle.requests.specs.Check.{IsAccepted}
 use Rattle.groups.specs.Content.{content}
+use Rattle.groups.specs.Groups.{group_of_district}
 use Rattle.groups.specs.declared.group_wants.GroupWant.{GroupWant}
 use Rattle.groups.specs.Footprint.{shared as sharing}
 use Rattle.tickets.specs.Claims.{ClaimView}
@@ -29,27 +31,27 @@ use Rattle.transactions.specs.declared.work.Work.{Work as AnyWork}
 use Rattle.transactions.specs.declared.work.Work.TheVariants as any_work
 use Rattle.transactions.specs.declared.work.Found.{Found as AnyFound}
 use Rattle.transactions.specs.declared.work.Found.TheVariants as any_found
-use Rattle.transactions.specs.Granted.{IsAsked, IsSharedOn}
+use Rattle.transactions.specs.Granted.{IsAsked, IsSharedOn, group_of_orders}
 
 -- ---- the district
 
 -- The number of the district's next order, in all tables whose content of the group is the recorded one.
 pub record IsNextFound (home : DistrictKey) (next : ℕ) (district : ClaimView) : Type 0 where
-  pub claim : IsSharedOn (g.District home.w_id home.d_id) district
+  pub claim : IsSharedOn (group_of_district home) district
   pub shown : (t : Database) → content t district.group ≡ district.recorded → next ≡ next_order (table.get t.districts home)
 
 -- ---- the lines of its last orders
 
 -- the item of each line of the district's 20 orders before this number, likewise
 pub record AreItemsFound (home : DistrictKey) (next : ℕ) (items : List ℕ) (orders : ClaimView) : Type 0 where
-  pub claim : IsSharedOn (g.Orders home.w_id home.d_id) orders
+  pub claim : IsSharedOn (group_of_orders home) orders
   pub shown : (t : Database) → content t orders.group ≡ orders.recorded → items ≡ recent_items t home next
 
 -- ---- the stock
 
 -- all groups of a warehouse's stock
 abbrev pub stock_of : ℕ → List Group
-stock_of w_id = map (λ residue. g.Stock w_id residue) (range_with_len 0 64)
+stock_of w_id = map (λ residue. g.Stock w_id residue) (range_with_len 0 STOCK_GROUPS)
 
 -- these are shared claims on these groups, one on each in turn
 abbrev pub AreSharedOn : List Group → List ClaimView → Type 0
@@ -72,9 +74,9 @@ home_of (CountLow s items) = s.home.w_id
 
 -- the wants of an action's work
 abbrev pub group_wants_of : Work → List GroupWant
-group_wants_of (ReadNext s) = sharing (g.District s.home.w_id s.home.d_id) ∷ []
-group_wants_of (ReadItems s next) = sharing (g.Orders s.home.w_id s.home.d_id) ∷ []
-group_wants_of (CountLow s items) = map (λ residue. sharing (g.Stock s.home.w_id residue)) (range_with_len 0 64)
+group_wants_of (ReadNext s) = sharing (group_of_district s.home) ∷ []
+group_wants_of (ReadItems s next) = sharing (group_of_orders s.home) ∷ []
+group_wants_of (CountLow s items) = map (λ residue. sharing (g.Stock s.home.w_id residue)) (range_with_len 0 STOCK_GROUPS)
 
 -- The work can be done: its Stock-Level is one that the check accepts.
 abbrev pub CanDo : SharedTables → Work → Type 0

@@ -4,7 +4,7 @@ ghost use Rattle.requests.specs.Check.{IsAccepted};
 ghost use Rattle.tickets.specs.Claims.{all_claims};
 ghost use Rattle.commit_log.specs.Claimed.{IsCarriedOut};
 ghost use Rattle.transactions.specs.Logged as spec;
-ghost use Rattle.transactions.specs.Logged.{Logs};
+ghost use Rattle.transactions.specs.Logged.{Logs, log_and_claims};
 
 use crate::HeldClaims;
 use commit_log::{AppendFault, Entry, Log, Names, Pass};
@@ -29,8 +29,10 @@ impl<J: Names> HeldClaims<J> {
         requires number { pass.asks.number ≡ entry.number }
         requires request { pass.asks.request ≡ entry.request }
         requires accepted { IsAccepted J.opening.scale entry.request }
-        requires carried_out { IsCarriedOut J.opening entry.request (all_claims self.old) entry.reply }
-        ensures { Logs entry pass log.old self.old result log.new self.new }
+        requires carried_out { IsCarriedOut J.opening entry.request
+            (all_claims self.old) entry.reply }
+        ensures { Logs entry pass (log_and_claims log.old self.old) result
+            (log_and_claims log.new self.new) }
     {
         let is_settled = is_settled(&entry.reply);
         match log.append(&mut self.places, pass, entry) {

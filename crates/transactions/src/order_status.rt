@@ -7,7 +7,7 @@ ghost use Rattle.slices.specs.SliceView.{SliceKeeps};
 ghost use Rattle.transactions.specs.declared.order_status.CustomerShown.{CustomerShown as AnyCustomerShown};
 ghost use Rattle.transactions.specs.declared.work.Found.TheVariants as any_found;
 ghost use Rattle.transactions.specs.declared.progress.Progress.TheVariants as any;
-ghost use Rattle.transactions.specs.Granted.{AreGrantedFor, AreLeft, IsSharedOn};
+ghost use Rattle.transactions.specs.Granted.{AreGrantedFor, AreLeft, IsSharedOn, group_of_customers};
 ghost use Rattle.transactions.specs.OrderStatus.{CanDo, HasDone, IsCustomerFound, IsCustomerShown, IsOrderFound, IsOrderShown, home_of, reply_shown, group_wants_of, works_of};
 ghost use Rattle.transactions.specs.OrderStatusLaws.{AcceptedStatusesHaveTheirDistrict, OrderStatusesAreCarriedOut, RolledBackOrderStatusesAreCarriedOut, ShownCustomersAreAtHome};
 ghost use Rattle.transactions.specs.Progresses.{FollowsFrom, HasFound};
@@ -129,7 +129,8 @@ impl Work {
         requires home { home_of self ≡ slice.old.home }
         requires granted { AreGrantedFor (group_wants_of self) claims.old }
         ensures kept { SliceKeeps claims.old slice.old claims.new slice.new }
-        ensures done { IfOk result (λ found. HasDone (shared_of slice.old.tables) self found claims.new) }
+        ensures done { IfOk result (λ found.
+            HasDone (shared_of slice.old.tables) self found claims.new) }
         ensures left { AreLeft claims.old claims.new }
         ensures err { OnErr result ((slice.new ≡ slice.old) × (claims.new ≡ claims.old)) }
     {
@@ -150,7 +151,7 @@ pub fn show_customer<J: GroupNames>(
     customers: &mut Claim<J>,
     asked: &OrderStatus,
 ) -> CustomerShown
-    requires claim { IsSharedOn (group.Customers asked.now.home.w_id asked.now.home.d_id) customers.old }
+    requires claim { IsSharedOn (group_of_customers asked.now.home) customers.old }
     requires home { asked.now.home.w_id ≡ slice.old.home }
     ensures shown { IsCustomerShown asked.now result customers.new }
     ensures same { (slice.new ≡ slice.old) × (customers.new ≡ customers.old) }
@@ -215,7 +216,8 @@ impl Progress {
         found: Vec<crate::Found>,
     ) -> Result<Gathered, NoMemory>
         requires { HasFound (any.OrderStatus self) found.items }
-        ensures { IfOk result (λ gathered. FollowsFrom (any.OrderStatus self) found.items gathered) }
+        ensures { IfOk result (λ gathered.
+            FollowsFrom (any.OrderStatus self) found.items gathered) }
     {
         match self {
             Progress::ReadCustomer(asked) => Ok(gather_customer(asked, found)),

@@ -6,6 +6,7 @@ ghost use Rattle.schema.specs.Scale.{has_customer, has_district};
 ghost use Rattle.partitions.specs.Parts.{shared_of};
 ghost use Rattle.requests.specs.declared.group.Group.TheVariants as group;
 ghost use Rattle.groups.specs.Content.{content};
+ghost use Rattle.groups.specs.Groups.{group_of_district, group_of_history};
 ghost use Rattle.groups.specs.Laws.{with_district, with_warehouse};
 ghost use Rattle.tickets.specs.Claims.{leaving};
 ghost use Rattle.slices.specs.SliceView.{SliceKeeps};
@@ -13,7 +14,7 @@ ghost use Rattle.transactions.specs.declared.payment.HomePaid.{HomePaid as AnyHo
 ghost use Rattle.transactions.specs.declared.payment.CustomerPaid.{CustomerPaid as AnyCustomerPaid};
 ghost use Rattle.transactions.specs.declared.work.Found.TheVariants as any_found;
 ghost use Rattle.transactions.specs.declared.progress.Progress.TheVariants as any;
-ghost use Rattle.transactions.specs.Granted.{AreGrantedFor, AreLeft, IsExclusiveOn, IsFresh};
+ghost use Rattle.transactions.specs.Granted.{AreGrantedFor, AreLeft, IsExclusiveOn, IsFresh, group_of_customers};
 ghost use Rattle.transactions.specs.Payment.{AreRowsFound, CanDo, HasDone, IsCustomerPaid, IsHomePaid, IsPayerKnown, IsPaymentAdded, gathered, home_of, group_wants_of, works_of};
 ghost use Rattle.transactions.specs.PaymentLaws.{AcceptedPaymentsHaveTheirDistrict, GatheredPayersAreKnown, PaymentsAreCarriedOut, RolledBackPaymentsAreCarriedOut};
 ghost use Rattle.transactions.specs.Progresses.{FollowsFrom, HasFound};
@@ -156,7 +157,8 @@ impl Work {
         requires home { home_of self ≡ slice.old.home }
         requires granted { AreGrantedFor (group_wants_of self) claims.old }
         ensures kept { SliceKeeps claims.old slice.old claims.new slice.new }
-        ensures done { IfOk result (λ found. HasDone (shared_of slice.old.tables) self found claims.new) }
+        ensures done { IfOk result (λ found.
+            HasDone (shared_of slice.old.tables) self found claims.new) }
         ensures left { AreLeft claims.old claims.new }
         ensures err { OnErr result ((slice.new ≡ slice.old) × (claims.new ≡ claims.old)) }
     {
@@ -187,15 +189,17 @@ pub fn pay_home<J: GroupNames>(
     payment: &Payment,
 ) -> Result<HomePaid, NoMemory>
     requires warehouse_claim { IsExclusiveOn (group.Warehouse payment.now.home.w_id) warehouse.old }
-    requires district_claim { IsExclusiveOn (group.District payment.now.home.w_id payment.now.home.d_id) district.old }
+    requires district_claim { IsExclusiveOn (group_of_district payment.now.home) district.old }
     requires warehouse_fresh { IsFresh warehouse.old }
     requires district_fresh { IsFresh district.old }
     requires home { payment.now.home.w_id ≡ slice.old.home }
-    ensures kept { SliceKeeps (warehouse.old ∷ district.old ∷ []) slice.old (warehouse.new ∷ district.new ∷ []) slice.new }
+    ensures kept { SliceKeeps (warehouse.old ∷ district.old ∷ []) slice.old
+        (warehouse.new ∷ district.new ∷ []) slice.new }
     ensures paid { IfOk result (λ found. IsHomePaid payment.now found warehouse.new district.new) }
     ensures warehouse { warehouse.new ≡ leaving warehouse.old warehouse.new.left }
     ensures district { district.new ≡ leaving district.old district.new.left }
-    ensures err { OnErr result ((slice.new ≡ slice.old) × (warehouse.new ≡ warehouse.old) × (district.new ≡ district.old)) }
+    ensures err { OnErr result ((slice.new ≡ slice.old)
+        × (warehouse.new ≡ warehouse.old) × (district.new ≡ district.old)) }
 {
     slice.look(warehouse);
     slice.look(district);
@@ -237,16 +241,22 @@ fn put_home<J: GroupNames>(
     district_row: District,
 ) -> Result<(), NoMemory>
     requires warehouse_claim { IsExclusiveOn (group.Warehouse payment.now.home.w_id) warehouse.old }
-    requires district_claim { IsExclusiveOn (group.District payment.now.home.w_id payment.now.home.d_id) district.old }
+    requires district_claim { IsExclusiveOn (group_of_district payment.now.home) district.old }
     requires warehouse_fresh { IsFresh warehouse.old }
     requires warehouse_left { warehouse.old.left ≡ content slice.old.tables warehouse.old.group }
     requires home { payment.now.home.w_id ≡ slice.old.home }
-    requires warehouse_there { IsTrue (map.contains_key slice.old.tables.warehouses payment.now.home.w_id) }
-    requires district_there { IsTrue (map.contains_key slice.old.tables.districts payment.now.home) }
-    ensures kept { SliceKeeps (warehouse.old ∷ district.old ∷ []) slice.old (warehouse.new ∷ district.new ∷ []) slice.new }
-    ensures warehouse { OnOk result (warehouse.new ≡ leaving warehouse.old (with_warehouse warehouse_row warehouse.old.left)) }
-    ensures district { OnOk result (district.new ≡ leaving district.old (with_district district_row district.old.left)) }
-    ensures err { OnErr result ((slice.new ≡ slice.old) × (warehouse.new ≡ warehouse.old) × (district.new ≡ district.old)) }
+    requires warehouse_there { IsTrue
+        (map.contains_key slice.old.tables.warehouses payment.now.home.w_id) }
+    requires district_there { IsTrue
+        (map.contains_key slice.old.tables.districts payment.now.home) }
+    ensures kept { SliceKeeps (warehouse.old ∷ district.old ∷ []) slice.old
+        (warehouse.new ∷ district.new ∷ []) slice.new }
+    ensures warehouse { OnOk result (warehouse.new
+        ≡ leaving warehouse.old (with_warehouse warehouse_row warehouse.old.left)) }
+    ensures district { OnOk result (district.new
+        ≡ leaving district.old (with_district district_row district.old.left)) }
+    ensures err { OnErr result ((slice.new ≡ slice.old)
+        × (warehouse.new ≡ warehouse.old) × (district.new ≡ district.old)) }
 {
     slice.put_warehouse(warehouse, payment.home.w_id, warehouse_row)?;
     match slice.put_district(district, payment.home, district_row) {
@@ -266,7 +276,7 @@ pub fn pay_customer<J: GroupNames>(
     customers: &mut Claim<J>,
     payment: &Payment,
 ) -> Result<CustomerPaid, NoMemory>
-    requires claim { IsExclusiveOn (group.Customers payment.now.customer_home.w_id payment.now.customer_home.d_id) customers.old }
+    requires claim { IsExclusiveOn (group_of_customers payment.now.customer_home) customers.old }
     requires fresh { IsFresh customers.old }
     requires home { payment.now.customer_home.w_id ≡ slice.old.home }
     ensures kept { SliceKeeps (customers.old ∷ []) slice.old (customers.new ∷ []) slice.new }
@@ -296,7 +306,7 @@ pub fn add_payment<J: GroupNames>(
     payment: &Payment,
     row: History,
 ) -> Result<(), NoMemory>
-    requires claim { IsExclusiveOn (group.History payment.now.home.w_id payment.now.home.d_id) history.old }
+    requires claim { IsExclusiveOn (group_of_history payment.now.home) history.old }
     requires fresh { IsFresh history.old }
     requires home { payment.now.home.w_id ≡ slice.old.home }
     requires district { IsTrue (has_district slice.old.tables.scale payment.now.home) }
@@ -402,7 +412,8 @@ fn gather_added(paid: Paid, found: Vec<crate::Found>) -> Gathered
 // What places 0 and 1 found.
 fn rows_found(mut found: Vec<crate::Found>) -> (HomePaid, CustomerPaid)
     requires { AreRowsFound found.items }
-    ensures { found.items ≡ any_found.Payment (Found.Home result.0) ∷ any_found.Payment (Found.Customer result.1) ∷ [] }
+    ensures { found.items ≡ any_found.Payment (Found.Home result.0)
+        ∷ any_found.Payment (Found.Customer result.1) ∷ [] }
 {
     let Some(customer) = found.pop() else {
         unreachable!()
@@ -434,7 +445,8 @@ fn home_of_payment(found: Found) -> HomePaid
 }
 
 fn customer_of_found(found: crate::Found) -> CustomerPaid
-    requires { (customer : AnyCustomerPaid) × (found ≡ any_found.Payment (Found.Customer customer)) }
+    requires { (customer : AnyCustomerPaid)
+        × (found ≡ any_found.Payment (Found.Customer customer)) }
     ensures { found ≡ any_found.Payment (Found.Customer result) }
 {
     match found {

@@ -1,10 +1,6 @@
 //! How far a transaction has come, by kind, and the step after a phase.
-ghost use Rattle.std.specs.Prelude.{◌≡◌, List, IfOk};
-ghost use Rattle.partitions.specs.Parts.{SharedTables};
-ghost use Rattle.requests.specs.declared.request.Request.{Request as AnyRequest};
-ghost use Rattle.tickets.specs.Claims.{ClaimView};
-ghost use Rattle.transactions.specs.Granted.{IsAsked};
-ghost use Rattle.transactions.specs.Progresses.{FollowsFrom, HasFound, IsReached, works_of};
+ghost use Rattle.std.specs.Prelude.{◌≡◌, IfOk};
+ghost use Rattle.transactions.specs.Progresses.{FollowsFrom, HasFound, IsStartOf, works_of};
 
 use crate::work::{Found, Work};
 use crate::{delivery, new_order, order_status, payment, stock_level};
@@ -34,7 +30,7 @@ pub enum Gathered {
 impl Progress {
     /// The first phase of a request.
     pub fn begin(request: Request) -> Progress
-        ensures { (shared : SharedTables) (asked : AnyRequest) (held : List (List ClaimView)) → IsAsked shared asked request held → IsReached shared asked result held }
+        ensures { IsStartOf request result }
     {
         match request {
             Request::NewOrder(order) => { Progress::NewOrder(new_order::Progress::ReadRows(order)) }

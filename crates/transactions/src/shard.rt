@@ -146,7 +146,8 @@ impl<J: GroupNames, T: Drop> Shard<J, T> {
     /// its work or dies. Returns `None` if all waiting actions have to wait: nothing has changed then.
     pub fn turn(&mut self, alloc: Global) -> Option<Turned<J, T>>
         ensures turn { IfSome result (λ turned. OneTurn self.old turned self.new) }
-        ensures none { IfNone result (All (StillWaits self.old.slice.holdings) self.old.slice.waiters) }
+        ensures none { IfNone result
+            (All (StillWaits self.old.slice.holdings) self.old.slice.waiters) }
         ensures same { IfNone result (self.new ≡ self.old) }
     {
         match self.slice.next_grant()? {

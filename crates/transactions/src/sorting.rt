@@ -1,7 +1,7 @@
 //! Collects the results of a phase's actions, one after another.
-ghost use Rattle.std.specs.Prelude.{◌≡◌, ◌<◌, ◌≤◌, ◌+◌, ◌++◌, [], length, vec_capacity, None, IfErr, IfOk, IfSome};
+ghost use Rattle.std.specs.Prelude.{◌≡◌, ◌<◌, ◌+◌, ◌++◌, length, vec_capacity, None, IfErr, IfOk, IfSome};
 ghost use Rattle.transactions.specs.Progresses.{FollowsFrom, HasFound};
-ghost use Rattle.transactions.specs.SortedOut.{IsRefusedFor, found_by, held_by, refused_by};
+ghost use Rattle.transactions.specs.SortedOut.{IsReadyFor, IsRefusedFor, found_by, held_by, refused_by};
 
 use crate::{Found, Gathered, HeldClaims, MOST_ACTIONS, Progress, Ran};
 use requests::Refusal;
@@ -22,7 +22,7 @@ impl Sorted {
     /// NoMemory.
     pub fn start(alloc: Global, count: usize) -> Sorted
         ensures refusal { IfSome result.refusal (λ why. why ≡ Refusal.NoMemory) }
-        ensures room { result.refusal ≡ None → (result.found.items ≡ []) × (count ≤ vec_capacity result.found) }
+        ensures room { IsReadyFor count result }
     {
         match Vec::with_capacity(alloc, count) {
             Ok(found) => Sorted {
@@ -40,11 +40,14 @@ impl Sorted {
     /// transaction is refused for the first death by place, or else with NoMemory if an action reports it.
     pub fn sort_one<J: GroupNames>(&mut self, ran: Ran<J>, held: &mut HeldClaims<J>)
         requires room { length held.old < MOST_ACTIONS }
-        requires found { self.old.refusal ≡ None → length self.old.found.items < vec_capacity self.old.found }
+        requires found { self.old.refusal ≡ None
+            → length self.old.found.items < vec_capacity self.old.found }
         ensures held { held.new ≡ held.old ++ held_by ran }
         ensures refusal { self.new.refusal ≡ refused_by self.old.refusal ran }
-        ensures found { self.new.refusal ≡ None → self.new.found.items ≡ self.old.found.items ++ found_by ran }
-        ensures same { self.new.refusal ≡ None → vec_capacity self.new.found ≡ vec_capacity self.old.found }
+        ensures found { self.new.refusal ≡ None
+            → self.new.found.items ≡ self.old.found.items ++ found_by ran }
+        ensures same { self.new.refusal ≡ None
+            → vec_capacity self.new.found ≡ vec_capacity self.old.found }
     {
         match ran {
             Ran::Done(claims, one) => {

@@ -2,11 +2,11 @@
 //! lines of the district's last 20 orders, and then its warehouse's stock of their items (clause 2.8.2.2).
 ghost use Rattle.std.specs.Prelude.{◌≡◌, ◌≤◌, ℕ, [], ◌∷◌, Vec as AnyVec, length, slice_get, IfOk, OnErr};
 ghost use Rattle.partitions.specs.Parts.{shared_of};
-ghost use Rattle.requests.specs.declared.group.Group.TheVariants as group;
+ghost use Rattle.groups.specs.Groups.{group_of_district};
 ghost use Rattle.slices.specs.SliceView.{SliceKeeps};
 ghost use Rattle.transactions.specs.declared.work.Found.TheVariants as any_found;
 ghost use Rattle.transactions.specs.declared.progress.Progress.TheVariants as any;
-ghost use Rattle.transactions.specs.Granted.{AreGrantedFor, AreLeft, IsSharedOn};
+ghost use Rattle.transactions.specs.Granted.{AreGrantedFor, AreLeft, IsSharedOn, group_of_orders};
 ghost use Rattle.transactions.specs.StockLevel.{AreItemsFound, AreItemsOf, AreSharedOn, CanDo, HasDone, IsLowFound, IsLowOf, IsNextFound, IsNextOf, home_of, reply_counted, stock_of, group_wants_of, work_of, works_of};
 ghost use Rattle.transactions.specs.StockLevelLaws.{StockLevelsAreCarriedOut};
 ghost use Rattle.transactions.specs.Progresses.{FollowsFrom, HasFound};
@@ -15,14 +15,15 @@ use crate::progress::Gathered;
 use groups::GroupWant;
 use machine::{low_stock, recent_items};
 use requests::{Group, Reply, Shown, StockLevel, StockLevelReply};
+use rows::STOCK_GROUPS;
 use schema::{DistrictKey, NoMemory};
 use slices::Slice;
 use std::alloc::Global;
 use std::marker::Model;
 use tickets::{Claim, GroupNames};
 
-// The number of groups of a warehouse's stock.
-const STOCK_GROUPS: usize = 64;
+// The number of wants of the phase that counts: one for each group of a warehouse's stock.
+const STOCK_WANTS: usize = STOCK_GROUPS as usize;
 
 /// The work of an action of a Stock-Level.
 #[derive(Drop)]
@@ -105,7 +106,7 @@ impl Work {
         match self {
             Work::ReadNext(_) => 1,
             Work::ReadItems(_, _) => 1,
-            Work::CountLow(_, _) => STOCK_GROUPS,
+            Work::CountLow(_, _) => STOCK_WANTS,
         }
     }
 
@@ -122,7 +123,7 @@ impl Work {
                 let DistrictKey { w_id, d_id } = asked.home;
                 Some(GroupWant::shared(Group::Orders { w_id, d_id }))
             }
-            Work::CountLow(asked, _) if number < STOCK_GROUPS => Some(GroupWant::shared(
+            Work::CountLow(asked, _) if number < STOCK_WANTS => Some(GroupWant::shared(
                 Group::Stock {
                     w_id: asked.home.w_id,
                     residue: number as u32,
@@ -143,7 +144,8 @@ impl Work {
         requires home { home_of self ≡ slice.old.home }
         requires granted { AreGrantedFor (group_wants_of self) claims.old }
         ensures kept { SliceKeeps claims.old slice.old claims.new slice.new }
-        ensures done { IfOk result (λ found. HasDone (shared_of slice.old.tables) self found claims.new) }
+        ensures done { IfOk result (λ found.
+            HasDone (shared_of slice.old.tables) self found claims.new) }
         ensures left { AreLeft claims.old claims.new }
         ensures err { OnErr result ((slice.new ≡ slice.old) × (claims.new ≡ claims.old)) }
     {
@@ -169,7 +171,7 @@ pub fn read_next<J: GroupNames>(
     district: &mut Claim<J>,
     home: DistrictKey,
 ) -> u32
-    requires claim { IsSharedOn (group.District home.w_id home.d_id) district.old }
+    requires claim { IsSharedOn (group_of_district home) district.old }
     requires home { home.w_id ≡ slice.old.home }
     ensures read { IsNextFound home result district.new }
     ensures same { (slice.new ≡ slice.old) × (district.new ≡ district.old) }
@@ -191,7 +193,7 @@ pub fn read_items<J: GroupNames>(
     home: DistrictKey,
     next: u32,
 ) -> Result<Items, NoMemory>
-    requires claim { IsSharedOn (group.Orders home.w_id home.d_id) orders.old }
+    requires claim { IsSharedOn (group_of_orders home) orders.old }
     requires home { home.w_id ≡ slice.old.home }
     ensures read { IfOk result (λ items. AreItemsFound home next items orders.new) }
     ensures same { (slice.new ≡ slice.old) × (orders.new ≡ orders.old) }

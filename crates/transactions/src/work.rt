@@ -102,7 +102,8 @@ pub fn run<J: GroupNames>(
     requires home { home_of work ≡ slice.old.home }
     requires granted { AreGrantedFor (group_wants_of work) claims.old }
     ensures kept { SliceKeeps claims.old slice.old claims.new slice.new }
-    ensures done { IfOk result (λ found. HasDone (shared_of slice.old.tables) work found claims.new) }
+    ensures done { IfOk result (λ found.
+        HasDone (shared_of slice.old.tables) work found claims.new) }
     ensures left { AreLeft claims.old claims.new }
     ensures err { OnErr result ((slice.new ≡ slice.old) × (claims.new ≡ claims.old)) }
 {

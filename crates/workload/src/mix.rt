@@ -27,7 +27,8 @@ impl Mix {
         deliveries: u32,
         stock_levels: u32,
     ) -> Option<Mix>
-        ensures fits { IsSome result ↔ IsMix new_orders payments order_statuses deliveries stock_levels }
+        ensures fits { IsSome result
+            ↔ IsMix new_orders payments order_statuses deliveries stock_levels }
         ensures new_orders { IfSome result (λ mix. mix.new_orders ≡ new_orders) }
         ensures payments { IfSome result (λ mix. mix.payments ≡ payments) }
         ensures order_statuses { IfSome result (λ mix. mix.order_statuses ≡ order_statuses) }

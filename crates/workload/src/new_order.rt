@@ -21,7 +21,8 @@ pub(crate) fn new_order(
     terminal: &Terminal,
     moment: Moment,
 ) -> Result<NewOrder, NoMemory>
-    ensures { IfOk result (λ order. (order, draws.new) ≡ new_order_drawn terminal.now moment draws.old) }
+    ensures { IfOk result
+        (λ order. (order, draws.new) ≡ new_order_drawn terminal.now moment draws.old) }
 {
     let home = DistrictKey {
         w_id: terminal.home.w_id,
@@ -47,7 +48,8 @@ fn lines(
     count: u32,
     rolls_back: bool,
 ) -> Result<Lines<OrderedLine>, NoMemory>
-    ensures { IfOk result (λ lines. (lines, draws.new) ≡ lines_drawn terminal.now rolls_back count draws.old) }
+    ensures { IfOk result
+        (λ lines. (lines, draws.new) ≡ lines_drawn terminal.now rolls_back count draws.old) }
 {
     let mut lines = Vec::new(alloc);
     for left in (0..count).rev() {

@@ -22,7 +22,8 @@ pub(crate) fn draw_requests(
     kinds: &[Kind],
 ) -> Result<Vec<Request>, NoMemory>
     requires { length kinds.now ≤ 2 ^ 32 }
-    ensures { IfOk result (λ requests. requests.items ≡ requests_drawn terminal.now now 0 kinds.now draws.old) }
+    ensures { IfOk result
+        (λ requests. requests.items ≡ requests_drawn terminal.now now 0 kinds.now draws.old) }
 {
     let mut requests = Vec::new(alloc);
     for (number, kind) in kinds.iter().enumerate() {
@@ -49,7 +50,8 @@ fn request(
     moment: Moment,
     kind: Kind,
 ) -> Result<Request, NoMemory>
-    ensures { IfOk result (λ request. (request, draws.new) ≡ request_drawn terminal.now moment kind draws.old) }
+    ensures { IfOk result
+        (λ request. (request, draws.new) ≡ request_drawn terminal.now moment kind draws.old) }
 {
     match kind {
         Kind::NewOrder => Ok(Request::NewOrder(new_order(alloc, draws, terminal, moment)?)),

@@ -10,6 +10,7 @@ use crate::decks::draw_kinds;
 use crate::request_draws::draw_requests;
 use number_draws::NumberDraws;
 use requests::Script;
+use rows::SESSIONS;
 use schema::NoMemory;
 use std::alloc::Global;
 
@@ -23,12 +24,13 @@ const STRIDE: u64 = 4_294_967_296;
 ///
 /// Returns NoMemory if an allocation fails.
 pub fn draw_script(alloc: Global, workload: &Workload, session: u32) -> Result<Script, NoMemory>
-    requires { session < 64 }
+    requires { session < SESSIONS }
     ensures drawn { IfOk result (λ script. script ≡ script_drawn workload.now session) }
     ensures count { IfOk result (λ script. length script ≡ workload.now.requests) }
     ensures accepted { IfOk result (All (IsAccepted workload.now.scale)) }
     ensures within { IfOk result (All (IsWithin (terminal_of workload.now session))) }
-    ensures mix { IfOk result (λ script. AreDealt (cards_of workload.now.mix) (map kind_of script)) }
+    ensures mix { IfOk result
+        (λ script. AreDealt (cards_of workload.now.mix) (map kind_of script)) }
 {
     let terminal = workload.terminal(session);
     let seed = u64::from(workload.seed);

@@ -3,6 +3,7 @@ ghost use Rattle.std.specs.Option.{ForSome};
 ghost use Rattle.schema.specs.Scale.{has_warehouse};
 
 use crate::{Mix, Terminal};
+use rows::SESSIONS;
 use schema::{DistrictKey, Moment, Scale};
 
 /// The parameters from which the requests of all sessions are drawn.
@@ -29,7 +30,7 @@ impl Workload {
 
     /// Returns the terminal of a session, 0 to 63.
     pub fn terminal(&self, session: u32) -> Terminal
-        requires { session < 64 }
+        requires { session < SESSIONS }
         ensures { result ≡ terminal_of self.now session }
     {
         let warehouses = self.scale.warehouses;

@@ -14,7 +14,7 @@ use Rattle.world.specs.declared.flight.Outgoing.{Outgoing}
 use Rattle.world.specs.declared.flight.Outgoing.TheVariants as outgoing
 use Rattle.world.specs.declared.world.Parts.{Parts}
 use Rattle.world.specs.declared.world.Core.{Core}
-use Rattle.world.specs.Happening.{CanOrder, CannotSubmit, Delivers, Happens, Orders, SendsFirst, SendsOutgoing, SubmitsAt, SubmitsInto, SubmitsUnless, TakesFirst, answer_arrived, begins_at, can_admit, has_room, refusal_at}
+use Rattle.world.specs.Happening.{CanOrder, CannotSubmit, Delivers, Happens, Orders, SendsFirst, SendsOutgoing, SubmitsAt, SubmitsInto, SubmitsUnless, TakesFirst, answer_arrived, begins_at, can_admit, has_room, refusal_at, submission}
 use Rattle.world.specs.Queues.{queue_of}
 use Rattle.range_moves.specs.declared.order.MoveOrder.{MoveOrder}
 use Rattle.world.specs.Worlds.{CannotHappen}
@@ -29,23 +29,23 @@ arrived_something zero is = absurd (cc)
 arrived_something (suc more) is = absurd (cc)
 
 module _ {J : Type 0} where
-  into_nothing : (can : Bool) (session number : ℕ) (asked : Request) (desk : SessionDesk J) (old new : Parts J) (answer : EventAnswer) → SubmitsInto can session number asked desk old answer new
+  into_nothing : (room can : Bool) (session number : ℕ) (asked : Request) (desk : SessionDesk J) (old new : Parts J) (answer : EventAnswer) → SubmitsInto can (submission room session number asked) desk old answer new
       → (answer ≡ Nothing → can ≡ false) × (can ≡ false → answer ≡ Nothing)
-  into_nothing false session number asked desk old new answer said = (λ is. refl, λ is. said.0)
-  into_nothing true session number asked desk old new answer said = (
+  into_nothing room false session number asked desk old new answer said = (λ is. refl, λ is. said.0)
+  into_nothing room true session number asked desk old new answer said = (
     λ is. absurd (⊎_elim (λ refused. let e = refused.0 in cc) (λ admitted. let e = admitted.0 in cc) said),
     λ is. absurd (not_both true refl is),
   )
 
-  unless_nothing : (room : Bool) (why : Option Refusal) (session number : ℕ) (asked : Request) (desk : SessionDesk J) (old new : Parts J) (answer : EventAnswer) → SubmitsUnless room why session number asked desk old answer new
+  unless_nothing : (room : Bool) (why : Option Refusal) (session number : ℕ) (asked : Request) (desk : SessionDesk J) (old new : Parts J) (answer : EventAnswer) → SubmitsUnless why (submission room session number asked) desk old answer new
       → (answer ≡ Nothing → (why ≡ None) × (can_admit room old ≡ false)) × ((why ≡ None) × (can_admit room old ≡ false) → answer ≡ Nothing)
   unless_nothing room (Some why) session number asked desk old new answer said =
       (λ is. let e = said.0 in absurd (cc), λ h. let e = h.0 in absurd (cc))
   unless_nothing room None session number asked desk old new answer said =
-      let can = into_nothing (can_admit room old) session number asked desk old new answer said in
+      let can = into_nothing room (can_admit room old) session number asked desk old new answer said in
       (λ is. (refl, can.0 is), λ h. can.1 h.1)
 
-  submit_nothing : (room : Bool) (found : Option (SessionDesk J)) (session number : ℕ) (asked : Request) (old new : Parts J) (answer : EventAnswer) → SubmitsAt room found session number asked old answer new
+  submit_nothing : (room : Bool) (found : Option (SessionDesk J)) (session number : ℕ) (asked : Request) (old new : Parts J) (answer : EventAnswer) → SubmitsAt (submission room session number asked) found old answer new
       → (answer ≡ Nothing) ↔ CannotSubmit room found asked old
   submit_nothing room None session number asked old new answer said = (λ is. tt, λ h. said.0)
   submit_nothing room (Some desk) session number asked old new answer said = unless_nothing room (refusal_at desk asked old) session number asked desk old new answer said

@@ -6,6 +6,7 @@ use Rattle.std.proofs.lemmas.List.{length-set, length-replicate, set-set}
 use Rattle.std.proofs.lemmas.Option.{slice_get_within}
 use Rattle.std.proofs.lemmas.List.Elements.{All-nil, All-head, All-push}
 use Rattle.std.proofs.lemmas.List.Sums.{sum_by-cons, sum_by-append}
+use Rattle.rows.specs.declared.limits.TheConstants.{SESSIONS}
 use Rattle.partitions.specs.Parts.{SharedTables}
 use Rattle.schema.specs.Database.{Database}
 use Rattle.requests.specs.declared.request.Request.{Request}
@@ -172,7 +173,7 @@ module _ {J : Type 0} where
     sound_start = record {
       flow_is = record {
         asked = record {
-          session = subst (λ n. n < 64) (sym whose) (subst (λ n. place < n) h.seats (slice_get_within w.desk.sessions.items place desk is));
+          session = subst (λ n. n < SESSIONS) (sym whose) (subst (λ n. place < n) h.seats (slice_get_within w.desk.sessions.items place desk is));
           slot = rests.below;
           number = ap (λ (x : PassView). x.asks.number) a.pass_is ∙ sym a.number_is;
           request = ap (λ (x : PassView). x.asks.request) a.pass_is ∙ sym a.request;

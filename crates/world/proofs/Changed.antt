@@ -31,7 +31,7 @@ use Rattle.world.specs.declared.flight.Outgoing.TheVariants as outgoing
 use Rattle.world.specs.declared.world.Core.{Core}
 use Rattle.world.specs.declared.world.Parts.{Parts}
 use Rattle.world.specs.Changes.{ChangesOnly, HasMore, IsAbout, IsAsBefore, IsShardAsBefore, OrderChanges, OthersStay, SendChanges, SubmitChanges, TakeChanges}
-use Rattle.world.specs.Happening.{CanOrder, CannotSubmit, Delivers, FindsSlice, Happens, Opens, SendsFirst, SendsOutgoing, SubmitsAt, TakesFirst, WorksIfHere, WorksOn, begins_at, beginning_at, bringing, has_room, placements_begun, moves, ordering, posting, posts_begun}
+use Rattle.world.specs.Happening.{CanOrder, CannotSubmit, Delivers, FindsSlice, Happens, Opens, SendsFirst, SendsOutgoing, SubmitsAt, TakesFirst, WorksIfHere, WorksOn, begins_at, beginning_at, bringing, has_room, placements_begun, moves, ordering, posting, posts_begun, submission}
 use Rattle.world.specs.Envelopes.{home_of_message, is_for_slice, envelope, parked_for, outgoing_by, sent_in, sent_of, to_itself}
 use Rattle.world.specs.Queues.{put_into, queue_of}
 use Rattle.world.specs.Shards.{slices_in}
@@ -59,7 +59,7 @@ module _ {J : Type 0} where
   -- ---- a request is submitted
 
   submit_changes : (room : Bool) (found : Option (SessionDesk J)) (session number : ℕ) (asked : Request) (old : Core J) (parts : Parts J) (answer : EventAnswer) → old.parts.inbox ≡ [] → begins_at asked old < length old.inboxes
-      → SubmitsAt room found session number asked old.parts answer parts → SubmitChanges asked old (beginning_at (begins_at asked old) parts old)
+      → SubmitsAt (submission room session number asked) found old.parts answer parts → SubmitChanges asked old (beginning_at (begins_at asked old) parts old)
   submit_changes room found session number asked old parts answer none there said =
       ⊎_elim
       (λ same.
@@ -87,7 +87,7 @@ module _ {J : Type 0} where
 
   -- one that can't be submitted changes nothing
   submit_stays : (room : Bool) (found : Option (SessionDesk J)) (session number : ℕ) (asked : Request) (old new : Parts J) (answer : EventAnswer) → CannotSubmit room found asked old
-      → SubmitsAt room found session number asked old answer new → new ≡ old
+      → SubmitsAt (submission room session number asked) found old answer new → new ≡ old
   submit_stays room None session number asked old new answer cannot said = said.1
   submit_stays room (Some desk) session number asked old new answer cannot said =
       ⊎_elim (λ same. same) (λ admitted. let can = admitted.0 in let none = cannot.1 in absurd (cc)) (submit_cases room (Some desk) session number asked old new answer said)

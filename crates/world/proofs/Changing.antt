@@ -14,7 +14,7 @@ use Rattle.slices.specs.SliceView.{AreSlicesOf, SliceView, part_in}
 use Rattle.transactions.specs.declared.progress.Gathered.{Gathered}
 use Rattle.transactions.specs.declared.progress.Gathered.TheVariants.{Next, Finish}
 use Rattle.transactions.specs.declared.shard.Turned.{Turned}
-use Rattle.transactions.specs.Logged.{Logs}
+use Rattle.transactions.specs.Logged.{Logs, log_and_claims}
 use Rattle.transactions.specs.Shards.{ShardView}
 use Rattle.world.specs.declared.desk.Active.{Active}
 use Rattle.world.specs.declared.flight.Carried.{Carried}
@@ -129,7 +129,7 @@ module _ {J : Type 0} where
   commits_log : (commit : Commit J) (old new : Parts J) (answer : EventAnswer) → Commits commit old answer new → ItemChanges (item.Commit commit) old new
   commits_log commit old new answer said = record { log = by said.logs; rest = subst (λ (w : Parts J). ChangesLog old w) (sym said.over) refl }
     where
-      by : Logs (entry_of commit) commit.transaction.pass old.log commit.transaction.held said.logged said.log said.held → MayLog (item.Commit commit) old.log new.log
+      by : Logs (entry_of commit) commit.transaction.pass (log_and_claims old.log commit.transaction.held) said.logged (log_and_claims said.log said.held) → MayLog (item.Commit commit) old.log new.log
       by (inl logs) = inr (ap (λ (w : Parts J). w.log) said.over ∙ logs.3)
       by (inr refused) = inl (ap (λ (w : Parts J). w.log) said.over ∙ refused.3)
 

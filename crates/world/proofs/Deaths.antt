@@ -19,7 +19,7 @@ use Rattle.world.specs.declared.desk.SessionDesk.{SessionDesk}
 use Rattle.world.specs.declared.world.Core.{Core}
 use Rattle.world.specs.declared.world.Parts.{Parts}
 use Rattle.world.specs.Together.{IsSound}
-use Rattle.world.specs.Happening.{Happens, SubmitsAt, SubmitsInto, SubmitsUnless, begins_at, can_admit, has_room, is_full, refuses}
+use Rattle.world.specs.Happening.{Happens, SubmitsAt, SubmitsInto, SubmitsUnless, begins_at, can_admit, has_room, is_full, refuses, submission}
 use Rattle.world.specs.Queues.{queue_of}
 use Rattle.world.specs.Worlds.{RecordsOfOlder}
 use Rattle.world.proofs.WhoAsked.{ordered_of, sent_first, taken_first}
@@ -36,7 +36,7 @@ module _ {J : Type 0} (session number : ℕ) (group : Group) (holder : ℕ) wher
   -- ---- a submission
 
   submitted_unless : (room : Bool) (place of : ℕ) (asked : Request) (desk : SessionDesk J) (old new : Parts J) (answer : EventAnswer) (pass : Option PassView) (checked : Result (Unit {0}) Refusal) (full : Bool)
-      → check_of old.catalog.scale asked ≡ checked → SubmitsUnless room (refuses pass checked full) place of asked desk old answer new → IsDeath session number group holder answer → ⊥
+      → check_of old.catalog.scale asked ≡ checked → SubmitsUnless (refuses pass checked full) (submission room place of asked) desk old answer new → IsDeath session number group holder answer → ⊥
   submitted_unless room place of asked desk old new answer None checked full at said is = let e = said.0 in absurd (cc)
   submitted_unless room place of asked desk old new answer (Some pass) (Err why) full at said is =
       let e = said.0 in
@@ -45,11 +45,11 @@ module _ {J : Type 0} (session number : ℕ) (group : Group) (holder : ℕ) wher
   submitted_unless room place of asked desk old new answer (Some pass) (Ok u) true at said is = let e = said.0 in absurd (cc)
   submitted_unless room place of asked desk old new answer (Some pass) (Ok u) false at said is = into (can_admit room old) said
     where
-      into : (can : Bool) → SubmitsInto can place of asked desk old answer new → ⊥
+      into : (can : Bool) → SubmitsInto can (submission room place of asked) desk old answer new → ⊥
       into false said = let e = said.0 in absurd (cc)
       into true said = ⊎_elim (λ refused. let e = refused.0 in cc) (λ admitted. let e = admitted.0 in cc) said
 
-  submitted_at : (room : Bool) (found : Option (SessionDesk J)) (place of : ℕ) (asked : Request) (old new : Parts J) (answer : EventAnswer) → SubmitsAt room found place of asked old answer new → IsDeath session number group holder answer → ⊥
+  submitted_at : (room : Bool) (found : Option (SessionDesk J)) (place of : ℕ) (asked : Request) (old new : Parts J) (answer : EventAnswer) → SubmitsAt (submission room place of asked) found old answer new → IsDeath session number group holder answer → ⊥
   submitted_at room None place of asked old new answer said is = let e = said.0 in absurd (cc)
   submitted_at room (Some desk) place of asked old new answer said is =
       submitted_unless room place of asked desk old new answer desk.pass (check_of old.catalog.scale asked) (is_full old.desk.active) refl said is

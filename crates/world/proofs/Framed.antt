@@ -28,7 +28,7 @@ use Rattle.world.specs.Flights.{nothing, part_item}
 use Rattle.world.specs.Following.{putting, refusal_of}
 use Rattle.world.specs.Sound.{IsSoundWith, IsSoundItem}
 use Rattle.world.specs.Events.{Commits, GathersInto, MeetsAs, MeetsUnless, Pushes, Reports, ReportsInto, SendsItem, goes_on}
-use Rattle.world.specs.Happening.{Admits, SubmitsAt, SubmitsInto, SubmitsUnless, can_admit, refusal_at}
+use Rattle.world.specs.Happening.{Admits, SubmitsAt, SubmitsInto, SubmitsUnless, can_admit, refusal_at, submission}
 use Rattle.world.specs.Worlds.{Advances}
 use Rattle.world.proofs.Happened.{stays, submits_into}
 use Rattle.world.proofs.ItemsSent.{SendsOn, sends_on, sends_push}
@@ -134,25 +134,25 @@ module _ {J : Type 0} (messages : List (Message J)) (items : List (Item J)) wher
     sessions = a.sessions;
   }
 
-  into_submitted : (can : Bool) (session number : ℕ) (asked : Request) (desk : SessionDesk J) (old new : Parts J) (answer : EventAnswer)
-      → SubmitsInto can session number asked desk old answer new → SubmitsInto can session number asked desk (framed old) answer (framed new)
-  into_submitted false session number asked desk old new answer said = (said.0, ap framed said.1)
-  into_submitted true session number asked desk old new answer said =
+  into_submitted : (room can : Bool) (session number : ℕ) (asked : Request) (desk : SessionDesk J) (old new : Parts J) (answer : EventAnswer)
+      → SubmitsInto can (submission room session number asked) desk old answer new → SubmitsInto can (submission room session number asked) desk (framed old) answer (framed new)
+  into_submitted room false session number asked desk old new answer said = (said.0, ap framed said.1)
+  into_submitted room true session number asked desk old new answer said =
       ⊎_elim (λ refused. inl (refused.0, ap framed refused.1)) (λ admitted. inr (admitted.0, admits_framed session number asked desk old new admitted.1)) said
 
   unless_submitted : (room : Bool) (shared : SharedTables) (old new : Parts J) (h : IsSoundWith shared nothing (framed old)) (session number : ℕ) (asked : Request) (desk : SessionDesk J) (answer : EventAnswer)
-      → slice_get old.desk.sessions.items session ≡ Some desk → (why : Option Refusal) → refusal_at desk asked old ≡ why → SubmitsUnless room why session number asked desk old answer new
+      → slice_get old.desk.sessions.items session ≡ Some desk → (why : Option Refusal) → refusal_at desk asked old ≡ why → SubmitsUnless why (submission room session number asked) desk old answer new
       → IsSoundWith shared nothing (framed new) × Advances (framed old) (step (Submit session number asked) answer ∷ []) (framed new)
   unless_submitted room shared old new h session number asked desk answer there (Some why) is said = (
     subst (λ w. IsSoundWith shared nothing (framed w)) (sym said.1) h,
     stays (framed old) (framed new) (Submit session number asked) (Answered session number (Err why)) answer tt (said.0, ap framed said.1),
   )
   unless_submitted room shared old new h session number asked desk answer there None is said =
-      submits_into shared (framed old) (framed new) h session number asked desk answer there is (can_admit room old)
-      (into_submitted (can_admit room old) session number asked desk old new answer said)
+      submits_into room shared (framed old) (framed new) h session number asked desk answer there is (can_admit room old)
+      (into_submitted room (can_admit room old) session number asked desk old new answer said)
 
   pub submits_framed : (room : Bool) (shared : SharedTables) (old new : Parts J) (h : IsSoundWith shared nothing (framed old)) (session number : ℕ) (asked : Request) (answer : EventAnswer)
-      → (found : Option (SessionDesk J)) → slice_get old.desk.sessions.items session ≡ found → SubmitsAt room found session number asked old answer new
+      → (found : Option (SessionDesk J)) → slice_get old.desk.sessions.items session ≡ found → SubmitsAt (submission room session number asked) found old answer new
       → IsSoundWith shared nothing (framed new) × Advances (framed old) (step (Submit session number asked) answer ∷ []) (framed new)
   submits_framed room shared old new h session number asked answer None there said = (
     subst (λ w. IsSoundWith shared nothing (framed w)) (sym said.1) h,

@@ -7,6 +7,7 @@ use Rattle.std.specs.List.{slice_get}
 use Rattle.std.proofs.lemmas.List.Quantifiers.{position-Some}
 use Rattle.std.proofs.lemmas.List.Sums.{sum_by-cons}
 use Rattle.std.proofs.lemmas.Option.{slice_get-get_or}
+use Rattle.world.specs.declared.slots.TheConstants.{MOST_ACTIVE}
 use Rattle.world.specs.Slots.{count_active, first_free, is_free}
 
 module _ {X : Type 0} where
@@ -52,7 +53,7 @@ module _ {X : Type 0} where
       let at = position-Some is_free slots slot None (sym is) in
       slice_get-get_or slots slot None at.0 ∙ ap (λ (o : Option X). Some o) (free_is (get_or slots slot None) at.1)
 
-  pub found_room : (slots : List (Option X)) (r : Option ℕ) → length slots ≡ 64 → r ≡ first_free slots → IfSome r (λ slot. (slot < 64) × (count_active slots < 64))
+  pub found_room : (slots : List (Option X)) (r : Option ℕ) → length slots ≡ MOST_ACTIVE → r ≡ first_free slots → IfSome r (λ slot. (slot < MOST_ACTIVE) × (count_active slots < MOST_ACTIVE))
   found_room slots None many is = tt
   found_room slots (Some slot) many is =
       let at = position-Some is_free slots slot None (sym is) in
@@ -74,6 +75,6 @@ module _ {X : Type 0} where
       by true is none = absurd (cc)
       by false is none = ltb-false (prefix_len (λ slot. not (is_free slot)) slots) (length slots) is
 
-  pub none_found : (slots : List (Option X)) (r : Option ℕ) → length slots ≡ 64 → r ≡ first_free slots → IfNone r (count_active slots ≡ 64)
+  pub none_found : (slots : List (Option X)) (r : Option ℕ) → length slots ≡ MOST_ACTIVE → r ≡ first_free slots → IfNone r (count_active slots ≡ MOST_ACTIVE)
   none_found slots None many is = all_taken slots (sym is) ∙ many
   none_found slots (Some slot) many is = tt

@@ -16,7 +16,7 @@ use Rattle.world.specs.declared.world.Parts.{Parts}
 use Rattle.world.specs.Flights.{nothing}
 use Rattle.world.specs.Sound.{IsSoundWith, flight}
 use Rattle.world.specs.Worlds.{Fits, Advances}
-use Rattle.world.specs.Happening.{SubmitsInto, StaysAt, refusal_at, is_full}
+use Rattle.world.specs.Happening.{SubmitsInto, StaysAt, refusal_at, is_full, submission}
 use Rattle.world.proofs.Fitting.{fits_quiet}
 use Rattle.world.proofs.Asking.{not_refused, admits_sound, admits_fits}
 
@@ -28,12 +28,12 @@ module _ {J : Type 0} where
       (subst (λ a. Fits opening (history ++ step event a ∷ []) old) (sym said.0)
       (fits_quiet opening history old.log (joined_in old) old.desk.admitted (flight old) event recorded quiet f))
 
-  pub submits_into : (shared : SharedTables) (old new : Parts J) (h : IsSoundWith shared nothing old) (session number : ℕ) (asked : Request) (desk : SessionDesk J) (answer : EventAnswer)
-      → slice_get old.desk.sessions.items session ≡ Some desk → refusal_at desk asked old ≡ None → (can : Bool) → SubmitsInto can session number asked desk old answer new
+  pub submits_into : (room : Bool) (shared : SharedTables) (old new : Parts J) (h : IsSoundWith shared nothing old) (session number : ℕ) (asked : Request) (desk : SessionDesk J) (answer : EventAnswer)
+      → slice_get old.desk.sessions.items session ≡ Some desk → refusal_at desk asked old ≡ None → (can : Bool) → SubmitsInto can (submission room session number asked) desk old answer new
       → IsSoundWith shared nothing new × Advances old (step (Submit session number asked) answer ∷ []) new
-  submits_into shared old new h session number asked desk answer there free false said =
+  submits_into room shared old new h session number asked desk answer there free false said =
       (subst (λ w. IsSoundWith shared nothing w) (sym said.1) h, stays old new (Submit session number asked) Nothing answer tt said)
-  submits_into shared old new h session number asked desk answer there free true said =
+  submits_into room shared old new h session number asked desk answer there free true said =
       let clear = not_refused desk.pass (check_of old.catalog.scale asked) (is_full old.desk.active) free in
       let accepted : check_of shared.scale asked ≡ Ok tt = subst (λ (s : SharedTables). check_of s.scale asked ≡ Ok tt) h.shared_is clear in
       ⊎_elim

@@ -8,7 +8,7 @@ use Rattle.history.specs.declared.event.Event.TheVariants.{Send}
 use Rattle.history.specs.declared.event.EventAnswer.{EventAnswer}
 use Rattle.history.specs.declared.event.EventAnswer.TheVariants.{Sent, Full, Logged}
 use Rattle.history.specs.History.{Step, step}
-use Rattle.transactions.specs.Logged.{Logs}
+use Rattle.transactions.specs.Logged.{Logs, log_and_claims}
 use Rattle.transactions.specs.declared.logging.Logged.{Logged as AnyLogged}
 use Rattle.world.specs.declared.desk.Active.TheVariants as active
 use Rattle.world.specs.declared.flight.Commit.{Commit}
@@ -72,7 +72,7 @@ module _ {J : Type 0} where
       hand : InFlight
       hand = part_item (item.Commit commit)
 
-      by : Logs (entry_of commit) commit.transaction.pass w.log commit.transaction.held said.logged said.log said.held → SendsOn shared hand w answer new
+      by : Logs (entry_of commit) commit.transaction.pass (log_and_claims w.log commit.transaction.held) said.logged (log_and_claims said.log said.held) → SendsOn shared hand w answer new
       by (inl logs) =
           let both = logging_goes_on shared w commit h s in
           let next = logging commit w in

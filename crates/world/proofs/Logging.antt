@@ -4,6 +4,7 @@ use Rattle.std.specs.Prelude.{All, map}
 use Rattle.std.specs.List.{slice_get}
 use Rattle.std.proofs.lemmas.List.{length-map, map-append}
 use Rattle.std.proofs.lemmas.List.Elements.{All-cons, All-nil, All-head, All-tail, All-append}
+use Rattle.rows.specs.declared.limits.TheConstants.{SESSIONS}
 use Rattle.partitions.specs.Parts.{SharedTables}
 use Rattle.schema.specs.Database.{Database}
 use Rattle.requests.specs.declared.reply.Reply.{Reply}
@@ -24,7 +25,7 @@ use Rattle.history.specs.History.{Step, step, UnansweredTransaction}
 use Rattle.history.specs.Laws.{with_place}
 use Rattle.slices.specs.SliceView.{AreAllHeld}
 use Rattle.transactions.specs.declared.laws.TheConstants.{MOST_ACTIONS}
-use Rattle.transactions.specs.Logged.{is_settled, why_refused, Logs}
+use Rattle.transactions.specs.Logged.{is_settled, why_refused, LogAndClaims, Logs}
 use Rattle.transactions.proofs.Settling.{all_logged_given}
 use Rattle.transactions.specs.declared.logging.Logged.{Logged as AnyLogged}
 use Rattle.world.specs.declared.desk.Active.TheVariants as active
@@ -99,9 +100,9 @@ module _ {J : Type 0} where
       releasing false (release t (after_refusal why (length w.log) t.pass) (Err (why_refused why)) t.held) w
 
   -- as many actions hold claims as before
-  pub as_many_hold : (entry : Entry) (pass : PassView) (old new : List Entry) (held after : List (List ClaimView)) (logged : AnyLogged J) → Logs entry pass old held logged new after → length after ≡ length held
-  as_many_hold entry pass old new held after logged (inl logs) = ap (λ (hs : List (List ClaimView)). length hs) logs.4 ∙ length-map held (claims_logged entry.reply)
-  as_many_hold entry pass old new held after logged (inr refused) = ap (λ (hs : List (List ClaimView)). length hs) refused.4
+  pub as_many_hold : (entry : Entry) (pass : PassView) (old new : LogAndClaims) (logged : AnyLogged J) → Logs entry pass old logged new → length new.held ≡ length old.held
+  as_many_hold entry pass old new logged (inl logs) = ap (λ (hs : List (List ClaimView)). length hs) logs.4 ∙ length-map old.held (claims_logged entry.reply)
+  as_many_hold entry pass old new logged (inr refused) = ap (λ (hs : List (List ClaimView)). length hs) refused.4
 
   module _ (shared : SharedTables) (w : Parts J) (commit : Commit J) (h : IsSoundWith shared (part_item (item.Commit commit)) w) (s : IsSoundCommit shared (h.in_flight commit.transaction.slot) commit) where
     abbrev slot : ℕ
@@ -150,7 +151,7 @@ module _ {J : Type 0} where
         let pending : hand.pending ≡ unanswered_release r ∷ [] = ap (λ u. u ∷ []) (sym is) in
         record {
           sound = releases_sound shared h.in_flight w hand false r rests (active.Committing, committing)
-              (subst (λ n. n < 64) (sym same.0) s.asked.session) (ap (λ asks. asks.number) same.1 ∙ s.asked.number) (records_no_death (groups_of (footprint r.pass.asks.request)) r.age why)
+              (subst (λ n. n < SESSIONS) (sym same.0) s.asked.session) (ap (λ asks. asks.number) same.1 ∙ s.asked.number) (records_no_death (groups_of (footprint r.pass.asks.request)) r.age why)
               s.undo s.few refl held_by_lots pending served;
           fits = λ opening history f. releases_fits opening history w hand false r below refl pending (fits_by_lots opening history f);
         }

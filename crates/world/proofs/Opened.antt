@@ -11,6 +11,7 @@ use Rattle.std.proofs.lemmas.List.Elements.{All-nil, All-map, All-weaker, All-fr
 use Rattle.std.proofs.lemmas.List.Sums.{sum_by-cons}
 use Rattle.std.proofs.lemmas.Option.{slice_get-map, slice_get_within}
 use Rattle.std.proofs.lemmas.List.Sorted.{IsPermutation-refl}
+use Rattle.rows.specs.declared.limits.TheConstants.{SESSIONS}
 use Rattle.schema.specs.Database.{Database, IsWithinScale}
 use Rattle.partitions.specs.Parts.{SharedTables, parts_of, shared_of, Part}
 use Rattle.schema.specs.Consistency.{Consistent}
@@ -41,6 +42,7 @@ use Rattle.range_moves.specs.Traffic.{IsLocatedWith}
 use Rattle.range_moves.proofs.Located.{opened_located}
 use Rattle.world.specs.declared.flight.Envelope.{Envelope}
 use Rattle.world.specs.declared.flight.Outgoing.{Outgoing}
+use Rattle.world.specs.declared.slots.TheConstants.{MOST_ACTIVE}
 use Rattle.world.specs.Parted.{joined_in}
 use Rattle.world.specs.Flights.{nothing, join, parts, part_message, part_item, part_met, InFlight}
 use Rattle.world.specs.Openings.{AreNewLanes, IsNew, session_with}
@@ -137,18 +139,18 @@ module _ {J : Type 0} where
       → session ≡ session_with (new_pass number, new_seat number)
   session_is lanes number session new found =
       let inside : number < length (map (session_with {J = J}) lanes) = slice_get_within (map session_with lanes) number session found in
-      let below : number < 64 = omega (arith, inside, length-map lanes (session_with {J = J}), new.many) in
+      let below : number < SESSIONS = omega (arith, inside, length-map lanes (session_with {J = J}), new.many) in
       found_in session_with (slice_get lanes number) session (new_pass number, new_seat number) (sym (slice_get-map session_with lanes number) ∙ found) (new.each number below)
 
   -- ---- the world
 
-  nothing_flies : (w : Parts J) → w.inbox ≡ [] → w.outbox ≡ [] → w.desk.active ≡ replicate 64 None → flight w ≡ nothing
+  nothing_flies : (w : Parts J) → w.inbox ≡ [] → w.outbox ≡ [] → w.desk.active ≡ replicate MOST_ACTIVE None → flight w ≡ nothing
   nothing_flies w inbox outbox active =
       ap (λ ms. join (parts part_message ms) (join (parts part_item w.outbox) (parts part_met (reported_to_all w.desk.active)))) inbox
       ∙ ap (λ is. join nothing (join (parts part_item is) (parts part_met (reported_to_all w.desk.active)))) outbox
-      ∙ ap (λ rs. join nothing (join nothing (parts part_met rs))) (ap reported_to_all active ∙ none_met J 64)
+      ∙ ap (λ rs. join nothing (join nothing (parts part_met rs))) (ap reported_to_all active ∙ none_met J MOST_ACTIVE)
 
-  pub opened_sound : (shared : SharedTables) (lanes : List (PassView × SessionSeatView)) (w : Parts J) → AreNewLanes lanes → w.catalog ≡ shared → AreSlicesOf w.catalog (slices_in w) → ((w_id : ℕ) → (joined_in w).holdings w_id ≡ []) → w.inbox ≡ [] → w.outbox ≡ [] → w.desk.active ≡ replicate 64 None
+  pub opened_sound : (shared : SharedTables) (lanes : List (PassView × SessionSeatView)) (w : Parts J) → AreNewLanes lanes → w.catalog ≡ shared → AreSlicesOf w.catalog (slices_in w) → ((w_id : ℕ) → (joined_in w).holdings w_id ≡ []) → w.inbox ≡ [] → w.outbox ≡ [] → w.desk.active ≡ replicate MOST_ACTIVE None
       → w.desk.sessions.items ≡ map session_with lanes → IsSoundWith shared nothing w
   opened_sound shared lanes w new shared_is slices none inbox outbox active sessions =
       let found_at : (number : ℕ) (session : SessionDesk J) → slice_get w.desk.sessions.items number ≡ Some session → session ≡ session_with (new_pass number, new_seat number) =
@@ -160,15 +162,15 @@ module _ {J : Type 0} where
         in_flight = none_in_flight;
         inbox = subst (All (IsSoundMessage shared none_in_flight)) (sym inbox) (All-nil (IsSoundMessage shared none_in_flight));
         outbox = subst (All (IsSoundItem shared none_in_flight)) (sym outbox) (All-nil (IsSoundItem shared none_in_flight));
-        slots = ap (λ (l : List (Option (Active J))). length l) active ∙ length-replicate {A = Option (Active J)} 64 None;
-        active = subst (AreSoundActive shared none_in_flight 0) (sym active) (none_active J shared none_in_flight 0 64);
-        ages = subst (HaveTheirAges none_in_flight w.desk.admitted) (sym active) (no_ages none_in_flight w.desk.admitted 64);
+        slots = ap (λ (l : List (Option (Active J))). length l) active ∙ length-replicate {A = Option (Active J)} MOST_ACTIVE None;
+        active = subst (AreSoundActive shared none_in_flight 0) (sym active) (none_active J shared none_in_flight 0 MOST_ACTIVE);
+        ages = subst (HaveTheirAges none_in_flight w.desk.admitted) (sym active) (no_ages none_in_flight w.desk.admitted MOST_ACTIVE);
         seats = ap length sessions ∙ length-map lanes session_with ∙ new.many;
         sessions = λ number session found.
             let is = found_at number session found in
             (ap (λ (s : SessionDesk J). s.seat.session) is, subst (IsPassOf number) (sym (ap (λ (s : SessionDesk J). s.pass) is)) refl);
         balance = subst (λ p. IsBalanced w.desk (join nothing p)) (sym (nothing_flies w inbox outbox active)) (record {
-          tokens = λ weight. ap (λ ts. sum_by weight ts) (sym (ap (awaited_by_all 0) active ∙ none_awaited J 0 64));
+          tokens = λ weight. ap (λ ts. sum_by weight ts) (sym (ap (awaited_by_all 0) active ∙ none_awaited J 0 MOST_ACTIVE));
           alone = λ number session found. ap {B = ℕ} (λ (s : SessionDesk J). 0 + cond (is_here s) 1 0) (found_at number session found);
           many = omega (arith, here, new.many);
         });
@@ -179,7 +181,7 @@ module _ {J : Type 0} where
   pub opened_new : (t : Database) (executors : ℕ) (lanes : List (PassView × SessionSeatView)) (w : Core J) → AreNewLanes lanes → w.parts.catalog ≡ shared_of t → w.parts.shards.items ≡ map shard_of (map at_rest (parts_of t))
       → AreSlicesOf w.parts.catalog (slices_in w.parts) → waiting_in w.parts ≡ [] → joined_in w.parts ≡ all_at_rest t
       → IsOpenedBy (record { warehouses = t.scale.warehouses; executors = executors }) w.placements → w.parked ≡ [] → w.inboxes ≡ replicate executors [] → w.outboxes ≡ replicate executors []
-      → w.parts.inbox ≡ [] → w.parts.outbox ≡ [] → w.parts.log ≡ [] → w.parts.desk.admitted ≡ 0 → w.parts.desk.active ≡ replicate 64 None
+      → w.parts.inbox ≡ [] → w.parts.outbox ≡ [] → w.parts.log ≡ [] → w.parts.desk.admitted ≡ 0 → w.parts.desk.active ≡ replicate MOST_ACTIVE None
       → w.parts.desk.sessions.items ≡ map session_with lanes → IsNew t executors w
   opened_new t executors lanes w new catalog shards slices none_waits rows placements parked inboxes outboxes inbox outbox log admitted active sessions = record {
     catalog = catalog;
@@ -215,7 +217,7 @@ module _ {J : Type 0} where
   pub opened_core : (shared : SharedTables) (executors : ℕ) (lanes : List (PassView × SessionSeatView)) (w : Core J) → AreNewLanes lanes → w.parts.catalog ≡ shared → AreSlicesOf w.parts.catalog (slices_in w.parts)
       → ((w_id : ℕ) → (joined_in w.parts).holdings w_id ≡ []) → waiting_in w.parts ≡ [] → All (IsShardOf shared.scale.warehouses) w.parts.shards.items → All HaveToWait w.parts.shards.items
       → IsOpenedBy (record { warehouses = shared.scale.warehouses; executors = executors }) w.placements → w.parked ≡ [] → w.inboxes ≡ replicate executors [] → w.outboxes ≡ replicate executors []
-      → w.parts.inbox ≡ [] → w.parts.outbox ≡ [] → w.parts.desk.active ≡ replicate 64 None → w.parts.desk.sessions.items ≡ map session_with lanes → IsSound shared w
+      → w.parts.inbox ≡ [] → w.parts.outbox ≡ [] → w.parts.desk.active ≡ replicate MOST_ACTIVE None → w.parts.desk.sessions.items ≡ map session_with lanes → IsSound shared w
   opened_core shared executors lanes w new shared_is slices none none_wait shards wait placements parked inboxes outboxes inbox outbox active sessions =
       let no_envelopes : all_of w.inboxes ≡ [] = ap (λ qs. all_of qs) inboxes ∙ none_waits (Envelope J) executors in
       let no_posts : all_of w.outboxes ≡ [] = ap (λ qs. all_of qs) outboxes ∙ none_waits (Outgoing J) executors in
@@ -256,7 +258,7 @@ module _ (t : Database) (consistent : Consistent t) where
     items = refl;
   }
 
-  opened_parts : {J : Type 0} (w : Parts J) → joined_in w ≡ all_at_rest t → w.log ≡ [] → w.inbox ≡ [] → w.outbox ≡ [] → w.desk.active ≡ replicate 64 None → w.desk.admitted ≡ 0
+  opened_parts : {J : Type 0} (w : Parts J) → joined_in w ≡ all_at_rest t → w.log ≡ [] → w.inbox ≡ [] → w.outbox ≡ [] → w.desk.active ≡ replicate MOST_ACTIVE None → w.desk.admitted ≡ 0
       → Fits t [] w
   opened_parts w rest empty inbox outbox active admitted =
       subst (λ p. FitsPart t [] w.log (joined_in w) w.desk.admitted p) (sym (nothing_flies w inbox outbox active))
@@ -264,7 +266,7 @@ module _ (t : Database) (consistent : Consistent t) where
       (subst (λ l. FitsPart t [] l (joined_in w) 0 nothing) (sym empty) (subst (λ s. FitsPart t [] [] s 0 nothing) (sym rest) rest_fits)))
 
   pub opened_fits : {J : Type 0} (executors : ℕ) (w : Core J) → waiting_in w.parts ≡ [] → joined_in w.parts ≡ all_at_rest t → w.parts.log ≡ [] → w.parked ≡ [] → w.inboxes ≡ replicate executors [] → w.outboxes ≡ replicate executors []
-      → w.parts.desk.active ≡ replicate 64 None → w.parts.desk.admitted ≡ 0 → Fits t [] (together w)
+      → w.parts.desk.active ≡ replicate MOST_ACTIVE None → w.parts.desk.admitted ≡ 0 → Fits t [] (together w)
   opened_fits {J} executors w none_wait rest empty parked inboxes outboxes active admitted =
       opened_parts (together w) rest empty
       (ap (λ (q : List (Message J)). q ++ (messages_in (all_of w.inboxes) ++ w.parked)) none_wait ∙ ap (λ qs. messages_in (all_of qs) ++ w.parked) inboxes ∙ ap (λ (ls : List (Envelope J)). messages_in ls ++ w.parked) (none_waits (Envelope J) executors) ∙ parked)

@@ -8,6 +8,7 @@ use Rattle.std.proofs.lemmas.List.Elements.{All-head, All-tail, All-append}
 use Rattle.std.proofs.lemmas.List.Sorted.{IsPermutation-refl, IsPermutation-append, sum_by-IsPermutation}
 use Rattle.std.proofs.lemmas.List.Sums.{sum_by-append}
 use Rattle.std.proofs.lemmas.Option.{slice_get_within}
+use Rattle.rows.specs.declared.limits.TheConstants.{SESSIONS}
 use Rattle.partitions.specs.Parts.{SharedTables}
 use Rattle.schema.specs.Database.{Database}
 use Rattle.history.specs.History.{Step, UnansweredTransaction, is_of}
@@ -17,6 +18,7 @@ use Rattle.world.specs.declared.desk.Active.{Active}
 use Rattle.world.specs.declared.desk.Desk.{Desk}
 use Rattle.world.specs.declared.desk.SessionDesk.{SessionDesk}
 use Rattle.world.specs.declared.flight.Item.{Item}
+use Rattle.world.specs.declared.slots.TheConstants.{MOST_ACTIVE}
 use Rattle.world.specs.declared.world.Parts.{Parts}
 use Rattle.world.specs.Parted.{joined_in}
 use Rattle.world.specs.Shards.{slices_in}
@@ -62,11 +64,11 @@ module _ {J : Type 0} where
   fits_in_hand opening history old item rest is f =
       fits_same opening history old.log (joined_in old) old.desk.admitted (flight old) (join (part_item item) (flight (record old { outbox = rest }))) (item_taken old item rest is) f
 
-  -- each session has its one pass or its one transaction, and there are 64
+  -- each session has its one pass or its one transaction, and there are SESSIONS of them
   pub record AreServed (desk : Desk J) (pending : List UnansweredTransaction) : Type 0 where
     pub alone : (number : ℕ) (session : SessionDesk J) → slice_get desk.sessions.items number ≡ Some session
         → count_by (is_of number) pending + cond (is_here session) 1 0 ≡ 1
-    pub many : length pending + count_by is_here desk.sessions.items ≡ 64
+    pub many : length pending + count_by is_here desk.sessions.items ≡ SESSIONS
 
   -- ---- the world but for one slot
 
@@ -77,11 +79,11 @@ module _ {J : Type 0} where
     pub slices : AreSlicesOf w.catalog (slices_in w)
     pub inbox : All (IsSoundMessage shared at) w.inbox
     pub outbox : All (IsSoundItem shared at) w.outbox
-    pub slots : length w.desk.active ≡ 64
-    pub below : slot < 64
+    pub slots : length w.desk.active ≡ MOST_ACTIVE
+    pub below : slot < MOST_ACTIVE
     pub others : AreSoundActive shared at 0 (without slot w.desk.active)
     pub ages : HaveTheirAges at w.desk.admitted w.desk.active
-    pub seats : length w.desk.sessions.items ≡ 64
+    pub seats : length w.desk.sessions.items ≡ SESSIONS
     pub sessions : (number : ℕ) (session : SessionDesk J) → slice_get w.desk.sessions.items number ≡ Some session → IsSessionOf number session
     pub tokens : WeighAlike (lots slot w).tokens (awaited_by_all 0 (without slot w.desk.active))
 

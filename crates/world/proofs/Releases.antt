@@ -5,6 +5,7 @@ use Rattle.std.specs.List.{slice_get, sum_by}
 use Rattle.std.specs.List.Sorted.{IsPermutation}
 use Rattle.std.proofs.lemmas.List.Elements.{All-cons, All-nil, All-head, All-tail}
 use Rattle.std.proofs.lemmas.List.Sorted.{IsPermutation-refl}
+use Rattle.rows.specs.declared.limits.TheConstants.{SESSIONS}
 use Rattle.partitions.specs.Parts.{SharedTables}
 use Rattle.schema.specs.Database.{Database}
 use Rattle.groups.specs.Footprint.{footprint, groups_of}
@@ -109,7 +110,7 @@ module _ {J : Type 0} where
       f
 
   pub releases_sound : (shared : SharedTables) (at : ActiveTransactions) (w : Parts J) (hand : InFlight) (settle : Bool) (r : Release J) → Rests shared at r.slot w → (x : Active J) × (slice_get w.desk.active r.slot ≡ Some (Some x))
-      → r.pass.session < 64 → r.pass.asks.number ≡ r.number → AnswersOlder (groups_of (footprint r.pass.asks.request)) r.age r.answer
+      → r.pass.session < SESSIONS → r.pass.asks.number ≡ r.number → AnswersOlder (groups_of (footprint r.pass.asks.request)) r.age r.answer
       → All (AreGivenBy settle (at r.slot).age) r.held → length r.held ≤ MOST_ACTIONS
       → hand.claims ≡ all_claims r.held → AreAllHeld (joined_in w).holdings (hand.claims ++ (lots r.slot w).claims)
       → hand.pending ≡ unanswered_release r ∷ [] → AreServed w.desk (hand.pending ++ (lots r.slot w).pending)

@@ -31,7 +31,7 @@ use Rattle.world.specs.declared.world.Core.{Core}
 use Rattle.world.specs.declared.world.Parts.{Parts}
 use Rattle.world.specs.Events.{SendsItem}
 use Rattle.world.specs.Flights.{join, nothing, part_item}
-use Rattle.world.specs.Happening.{Admits, Delivers, SubmitsAt, SubmitsInto, SubmitsUnless, beginning_at, bringing, can_admit, posting, refusal_at}
+use Rattle.world.specs.Happening.{Admits, Delivers, SubmitsAt, SubmitsInto, SubmitsUnless, beginning_at, bringing, can_admit, posting, refusal_at, submission}
 use Rattle.world.specs.Envelopes.{IsNoPush, IsOutgoing, arrived_of, going_in, home_of_message, items_in, envelope, messages_in, messages_of, sent_in}
 use Rattle.world.specs.Queues.{all_of, put_into, queue_of}
 use Rattle.world.specs.Parted.{joined_in}
@@ -187,16 +187,16 @@ module _ {J : Type 0} where
   -- ---- a submission
 
   -- nothing is changed, or a transaction is admitted
-  into_cases : (can : Bool) (session number : ℕ) (asked : Request) (desk : SessionDesk J) (old new : Parts J) (answer : EventAnswer) → SubmitsInto can session number asked desk old answer new → (new ≡ old) ⊎ ((can ≡ true) × Admits session number asked desk old new)
-  into_cases false session number asked desk old new answer said = inl said.1
-  into_cases true session number asked desk old new answer said = ⊎_elim (λ refused. inl refused.1) (λ admitted. inr (refl, admitted.1)) said
+  into_cases : (room can : Bool) (session number : ℕ) (asked : Request) (desk : SessionDesk J) (old new : Parts J) (answer : EventAnswer) → SubmitsInto can (submission room session number asked) desk old answer new → (new ≡ old) ⊎ ((can ≡ true) × Admits session number asked desk old new)
+  into_cases room false session number asked desk old new answer said = inl said.1
+  into_cases room true session number asked desk old new answer said = ⊎_elim (λ refused. inl refused.1) (λ admitted. inr (refl, admitted.1)) said
 
-  unless_cases : (room : Bool) (why : Option Refusal) (session number : ℕ) (asked : Request) (desk : SessionDesk J) (old new : Parts J) (answer : EventAnswer) → SubmitsUnless room why session number asked desk old answer new
+  unless_cases : (room : Bool) (why : Option Refusal) (session number : ℕ) (asked : Request) (desk : SessionDesk J) (old new : Parts J) (answer : EventAnswer) → SubmitsUnless why (submission room session number asked) desk old answer new
       → (new ≡ old) ⊎ ((can_admit room old ≡ true) × Admits session number asked desk old new)
   unless_cases room (Some why) session number asked desk old new answer said = inl said.1
-  unless_cases room None session number asked desk old new answer said = into_cases (can_admit room old) session number asked desk old new answer said
+  unless_cases room None session number asked desk old new answer said = into_cases room (can_admit room old) session number asked desk old new answer said
 
-  pub submit_cases : (room : Bool) (found : Option (SessionDesk J)) (session number : ℕ) (asked : Request) (old new : Parts J) (answer : EventAnswer) → SubmitsAt room found session number asked old answer new
+  pub submit_cases : (room : Bool) (found : Option (SessionDesk J)) (session number : ℕ) (asked : Request) (old new : Parts J) (answer : EventAnswer) → SubmitsAt (submission room session number asked) found old answer new
       → (new ≡ old) ⊎ ((can_admit room old ≡ true) × ((desk : SessionDesk J) × Admits session number asked desk old new))
   submit_cases room None session number asked old new answer said = inl said.1
   submit_cases room (Some desk) session number asked old new answer said =
@@ -207,7 +207,7 @@ module _ {J : Type 0} where
   admitted_room room old can = first_of_both room (nat_lt old.desk.admitted 18446744073709551615) can
 
   -- at most one is put, and one only where there was room
-  pub one_put : (room : Bool) (found : Option (SessionDesk J)) (session number : ℕ) (asked : Request) (old new : Parts J) (answer : EventAnswer) → SubmitsAt room found session number asked old answer new
+  pub one_put : (room : Bool) (found : Option (SessionDesk J)) (session number : ℕ) (asked : Request) (old new : Parts J) (answer : EventAnswer) → SubmitsAt (submission room session number asked) found old answer new
       → old.inbox ≡ [] → (length new.inbox ≤ 1) × (1 ≤ length new.inbox → room ≡ true)
   one_put room found session number asked old new answer said none =
       ⊎_elim
@@ -237,7 +237,7 @@ module _ {J : Type 0} where
     nothing_more : together w ≡ framed messages' items' w.parts
     nothing_more = λ k. queued w.parts ((sym (append-nil messages') ∙ ap (λ (ms : List (Message J)). messages' ++ ms) (sym h.no_inbox)) k) ((sym (append-nil items') ∙ ap (λ (is : List (Item J)). items' ++ is) (sym h.no_outbox)) k)
 
-    pub submits_at : (room : Bool) (answer : EventAnswer) (parts : Parts J) (new : Core J) → SubmitsAt room (slice_get w.parts.desk.sessions.items session) session number asked w.parts answer parts → new ≡ beginning_at to parts w
+    pub submits_at : (room : Bool) (answer : EventAnswer) (parts : Parts J) (new : Core J) → SubmitsAt (submission room session number asked) (slice_get w.parts.desk.sessions.items session) w.parts answer parts → new ≡ beginning_at to parts w
         → GoesOnWith shared w (Submit session number asked) answer new
     submits_at room answer parts new said is =
         let found = slice_get w.parts.desk.sessions.items session in

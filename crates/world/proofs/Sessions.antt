@@ -5,6 +5,7 @@ use Rattle.std.specs.List.{slice_get, sum_by}
 use Rattle.std.proofs.lemmas.List.Sums.{sum_by-cons}
 use Rattle.std.proofs.lemmas.Bool.{eq-eqb}
 use Rattle.std.proofs.lemmas.Map.Views.{exact_unsigned_eq}
+use Rattle.rows.specs.declared.limits.TheConstants.{SESSIONS}
 use Rattle.history.specs.History.{UnansweredTransaction, is_of}
 use Rattle.world.specs.declared.desk.SessionDesk.{SessionDesk}
 use Rattle.world.specs.Sound.{IsSessionOf, is_here}
@@ -52,7 +53,7 @@ module _ {J : Type 0} where
       (number : ℕ) (session : SessionDesk J) → slice_get sessions number ≡ Some session → count_by (is_of number) pending + cond (is_here session) 1 0 ≡ 1
 
   abbrev pub AreMany : List (SessionDesk J) → List UnansweredTransaction → Type 0
-  AreMany sessions pending = length pending + count_by is_here sessions ≡ 64
+  AreMany sessions pending = length pending + count_by is_here sessions ≡ SESSIONS
 
   abbrev pub AreInPlace : List (SessionDesk J) → Type 0
   AreInPlace sessions = (number : ℕ) (session : SessionDesk J) → slice_get sessions number ≡ Some session → IsSessionOf number session

@@ -17,6 +17,7 @@ use Rattle.world.specs.declared.flight.Item.{Item}
 use Rattle.world.specs.declared.flight.Report.{Report}
 use Rattle.world.specs.declared.world.Parts.{Parts}
 use Rattle.transactions.specs.SortedOut.{IsRefusedFor, found_by, held_by, refused_by}
+use Rattle.world.specs.declared.slots.TheConstants.{MOST_ACTIVE}
 use Rattle.world.specs.Following.{CarriesFirst, IfCarried, found_in, held_in, holding, putting, rans_of, refusal_of, refused, releasing, with_active}
 use Rattle.world.specs.Events.{CanMeet, CanMeetFor, GathersInto, HasMet, MeetsAs, MeetsUnless, goes_on}
 use Rattle.transactions.proofs.Reached.{few_actions}
@@ -129,10 +130,10 @@ module _ {J : Type 0} where
       omega (arith, meets.room, ap (λ (x : Flow J). length x.transaction.held) is, length-append f.transaction.held (held_in reports), few_held (rans_of reports), length-map reports (λ r. r.ran))) can sorted
 
   -- the transaction is still in its slot
-  pub sorted_slot : (reports : List (Report J)) (last : Flow J) → CanMeet reports → IsSorted reports last → last.transaction.slot < 64
+  pub sorted_slot : (reports : List (Report J)) (last : Flow J) → CanMeet reports → IsSorted reports last → last.transaction.slot < MOST_ACTIVE
   sorted_slot reports last can sorted =
-      carried_both reports (CanMeetFor reports) (λ f. last ≡ record f { transaction = holding f.transaction (held_in reports) }) (last.transaction.slot < 64)
-      (λ f meets is. subst (λ n. n < 64) (sym (ap (λ (x : Flow J). x.transaction.slot) is)) meets.slot) can sorted
+      carried_both reports (CanMeetFor reports) (λ f. last ≡ record f { transaction = holding f.transaction (held_in reports) }) (last.transaction.slot < MOST_ACTIVE)
+      (λ f meets is. subst (λ n. n < MOST_ACTIVE) (sym (ap (λ (x : Flow J). x.transaction.slot) is)) meets.slot) can sorted
 
   -- where it isn't refused, its actions have done their work
   pub sorted_done : (reports : List (Report J)) (last : Flow J) (start : Option Refusal) (found : List Found) → CanMeet reports → IsSorted reports last → refusal_of start reports ≡ None → found ≡ found_in reports

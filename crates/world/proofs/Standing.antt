@@ -20,7 +20,7 @@ use Rattle.world.specs.declared.flight.Item.TheVariants as item
 use Rattle.world.specs.declared.world.Parts.{Parts}
 use Rattle.world.specs.Following.{refusal_of}
 use Rattle.world.specs.Events.{AllTurns, Commits, MeetsAs, MeetsUnless, Pushes, ReportsInto, SendsItem, TakesMessage, TurnsFollow, goes_on}
-use Rattle.world.specs.Happening.{SubmitsAt, SubmitsInto, SubmitsUnless, can_admit, refusal_at}
+use Rattle.world.specs.Happening.{SubmitsAt, SubmitsInto, SubmitsUnless, can_admit, refusal_at, submission}
 use Rattle.world.proofs.Sorting.{carried_both}
 
 module _ {J : Type 0} where
@@ -60,16 +60,16 @@ module _ {J : Type 0} where
 
   -- ---- a request is submitted
 
-  into_submitted : (can : Bool) (session number : ℕ) (asked : Request) (desk : SessionDesk J) (old new : Parts J) (answer : EventAnswer) → SubmitsInto can session number asked desk old answer new → new.shards ≡ old.shards
-  into_submitted false session number asked desk old new answer said = ap (λ (w : Parts J). w.shards) said.1
-  into_submitted true session number asked desk old new answer said =
+  into_submitted : (room can : Bool) (session number : ℕ) (asked : Request) (desk : SessionDesk J) (old new : Parts J) (answer : EventAnswer) → SubmitsInto can (submission room session number asked) desk old answer new → new.shards ≡ old.shards
+  into_submitted room false session number asked desk old new answer said = ap (λ (w : Parts J). w.shards) said.1
+  into_submitted room true session number asked desk old new answer said =
       ⊎_elim (λ refused. ap (λ (w : Parts J). w.shards) refused.1) (λ admitted. admitted.1.shards) said
 
-  unless_submitted : (room : Bool) (why : Option Refusal) (session number : ℕ) (asked : Request) (desk : SessionDesk J) (old new : Parts J) (answer : EventAnswer) → SubmitsUnless room why session number asked desk old answer new → new.shards ≡ old.shards
+  unless_submitted : (room : Bool) (why : Option Refusal) (session number : ℕ) (asked : Request) (desk : SessionDesk J) (old new : Parts J) (answer : EventAnswer) → SubmitsUnless why (submission room session number asked) desk old answer new → new.shards ≡ old.shards
   unless_submitted room (Some why) session number asked desk old new answer said = ap (λ (w : Parts J). w.shards) said.1
-  unless_submitted room None session number asked desk old new answer said = into_submitted (can_admit room old) session number asked desk old new answer said
+  unless_submitted room None session number asked desk old new answer said = into_submitted room (can_admit room old) session number asked desk old new answer said
 
-  pub submitted_shards : (room : Bool) (found : Option (SessionDesk J)) (session number : ℕ) (asked : Request) (old new : Parts J) (answer : EventAnswer) → SubmitsAt room found session number asked old answer new → new.shards ≡ old.shards
+  pub submitted_shards : (room : Bool) (found : Option (SessionDesk J)) (session number : ℕ) (asked : Request) (old new : Parts J) (answer : EventAnswer) → SubmitsAt (submission room session number asked) found old answer new → new.shards ≡ old.shards
   submitted_shards room None session number asked old new answer said = ap (λ (w : Parts J). w.shards) said.1
   submitted_shards room (Some desk) session number asked old new answer said = unless_submitted room (refusal_at desk asked old) session number asked desk old new answer said
 

@@ -10,9 +10,10 @@ use Rattle.requests.specs.declared.refusal.Refusal.{Refusal}
 use Rattle.requests.specs.declared.request.Request.{Request}
 use Rattle.schema.specs.declared.scale.Scale.{Scale}
 use Rattle.world.specs.declared.desk.SessionDesk.{SessionDesk}
+use Rattle.world.specs.declared.slots.TheConstants.{MOST_ACTIVE}
 use Rattle.world.specs.declared.world.Parts.{Parts}
 use Rattle.world.specs.Slots.{count_active}
-use Rattle.world.specs.Happening.{CanAsk, SubmitsAt, SubmitsInto, SubmitsUnless, can_admit, is_full, refusal_at, refuses}
+use Rattle.world.specs.Happening.{CanAsk, SubmitsAt, SubmitsInto, SubmitsUnless, can_admit, is_full, refusal_at, refuses, submission}
 
 -- a list has the element that was read of it
 pub found : {X : Type 0} (xs shown : List X) (place : ℕ) (x : X) → shown ≡ xs → place < length shown → x ≡ get_or shown place x → slice_get xs place ≡ Some x
@@ -46,17 +47,17 @@ module _ {J : Type 0} where
 
   -- so the desk does not refuse it
   pub unrefused : (desk : SessionDesk J) (asked : Request) (old : Parts J) (scale : Scale) (accepted : Unit {0})
-      → is_some desk.pass ≡ true → scale ≡ old.catalog.scale → Ok accepted ≡ check_of scale asked → count_active old.desk.active < 64
+      → is_some desk.pass ≡ true → scale ≡ old.catalog.scale → Ok accepted ≡ check_of scale asked → count_active old.desk.active < MOST_ACTIVE
       → refusal_at desk asked old ≡ None
   unrefused desk asked old scale accepted there same checked room =
       not_refused desk.pass (check_of old.catalog.scale asked) accepted (is_full old.desk.active) there
-      (ap (λ (s : Scale). check_of s asked) (sym same) ∙ sym checked) (lt-leb 64 (count_active old.desk.active) room)
+      (ap (λ (s : Scale). check_of s asked) (sym same) ∙ sym checked) (lt-leb MOST_ACTIVE (count_active old.desk.active) room)
 
   -- what is done with a request that is not refused
   pub submits : (has_room : Bool) (at : Option (SessionDesk J)) (desk : SessionDesk J) (session number : ℕ) (asked : Request) (old : Parts J) (answer : EventAnswer) (new : Parts J) (room : Bool)
       → at ≡ Some desk → refusal_at desk asked old ≡ None → can_admit has_room old ≡ room
-      → SubmitsInto room session number asked desk old answer new → SubmitsAt has_room at session number asked old answer new
+      → SubmitsInto room (submission has_room session number asked) desk old answer new → SubmitsAt (submission has_room session number asked) at old answer new
   submits has_room at desk session number asked old answer new room is none has into =
-      subst (λ (o : Option (SessionDesk J)). SubmitsAt has_room o session number asked old answer new) (sym is)
-      (subst (λ (r : Option Refusal). SubmitsUnless has_room r session number asked desk old answer new) (sym none)
-      (subst (λ (b : Bool). SubmitsInto b session number asked desk old answer new) (sym has) into))
+      subst (λ (o : Option (SessionDesk J)). SubmitsAt (submission has_room session number asked) o old answer new) (sym is)
+      (subst (λ (r : Option Refusal). SubmitsUnless r (submission has_room session number asked) desk old answer new) (sym none)
+      (subst (λ (b : Bool). SubmitsInto b (submission has_room session number asked) desk old answer new) (sym has) into))

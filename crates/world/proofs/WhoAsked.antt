@@ -25,7 +25,7 @@ use Rattle.world.specs.Flights.{parts, part_item, part_message, part_met, unansw
 use Rattle.world.specs.Sound.{AnswersOlder, ActiveTransactions, IsSoundItem, flight, reported_to_all}
 use Rattle.world.specs.Events.{Pushes, SendsItem, recorded_of}
 use Rattle.world.specs.Together.{IsSound, together}
-use Rattle.world.specs.Happening.{Delivers, Happens, Orders, SendsFirst, SendsOutgoing, SubmitsAt, SubmitsInto, SubmitsUnless, TakesFirst, answer_arrived, begins_at, can_admit, has_room, refusal_at}
+use Rattle.world.specs.Happening.{Delivers, Happens, Orders, SendsFirst, SendsOutgoing, SubmitsAt, SubmitsInto, SubmitsUnless, TakesFirst, answer_arrived, begins_at, can_admit, has_room, refusal_at, submission}
 use Rattle.world.specs.Envelopes.{items_of}
 use Rattle.world.specs.Queues.{all_of, queue_of}
 use Rattle.range_moves.specs.declared.order.MoveOrder.{MoveOrder}
@@ -68,17 +68,17 @@ arrived_of session number recorded (suc more) is = absurd (cc)
 module _ {J : Type 0} (session number : ℕ) (recorded : Result ℕ Refusal) where
   -- ---- a submission
 
-  submitted_into : (can : Bool) (asking mine : ℕ) (asked : Request) (desk : SessionDesk J) (old new : Parts J) (answer : EventAnswer) → SubmitsInto can asking mine asked desk old answer new → IsAnswered session number recorded answer → IsOwnRefusal session number recorded asking mine
-  submitted_into false asking mine asked desk old new answer said is = let e = said.0 in absurd (cc)
-  submitted_into true asking mine asked desk old new answer (inl refused) is = own_refusal session number recorded asking mine _ answer refused.0 is
-  submitted_into true asking mine asked desk old new answer (inr admitted) is = let e = admitted.0 in absurd (cc)
+  submitted_into : (room can : Bool) (asking mine : ℕ) (asked : Request) (desk : SessionDesk J) (old new : Parts J) (answer : EventAnswer) → SubmitsInto can (submission room asking mine asked) desk old answer new → IsAnswered session number recorded answer → IsOwnRefusal session number recorded asking mine
+  submitted_into room false asking mine asked desk old new answer said is = let e = said.0 in absurd (cc)
+  submitted_into room true asking mine asked desk old new answer (inl refused) is = own_refusal session number recorded asking mine _ answer refused.0 is
+  submitted_into room true asking mine asked desk old new answer (inr admitted) is = let e = admitted.0 in absurd (cc)
 
   submitted_unless : (room : Bool) (why : Option Refusal) (asking mine : ℕ) (asked : Request) (desk : SessionDesk J) (old new : Parts J) (answer : EventAnswer)
-      → SubmitsUnless room why asking mine asked desk old answer new → IsAnswered session number recorded answer → IsOwnRefusal session number recorded asking mine
+      → SubmitsUnless why (submission room asking mine asked) desk old answer new → IsAnswered session number recorded answer → IsOwnRefusal session number recorded asking mine
   submitted_unless room (Some why) asking mine asked desk old new answer said is = own_refusal session number recorded asking mine why answer said.0 is
-  submitted_unless room None asking mine asked desk old new answer said is = submitted_into (can_admit room old) asking mine asked desk old new answer said is
+  submitted_unless room None asking mine asked desk old new answer said is = submitted_into room (can_admit room old) asking mine asked desk old new answer said is
 
-  submitted_at : (room : Bool) (found : Option (SessionDesk J)) (asking mine : ℕ) (asked : Request) (old new : Parts J) (answer : EventAnswer) → SubmitsAt room found asking mine asked old answer new
+  submitted_at : (room : Bool) (found : Option (SessionDesk J)) (asking mine : ℕ) (asked : Request) (old new : Parts J) (answer : EventAnswer) → SubmitsAt (submission room asking mine asked) found old answer new
       → IsAnswered session number recorded answer → IsOwnRefusal session number recorded asking mine
   submitted_at room None asking mine asked old new answer said is = let e = said.0 in absurd (cc)
   submitted_at room (Some desk) asking mine asked old new answer said is = submitted_unless room (refusal_at desk asked old) asking mine asked desk old new answer said is

@@ -29,7 +29,7 @@ use Rattle.transactions.specs.declared.acting.Ran.{Ran}
 use Rattle.transactions.specs.declared.work.Found.{Found}
 use Rattle.transactions.specs.declared.progress.Progress.{Progress}
 use Rattle.transactions.specs.Acting.{CanAllBeSettled, CanAllBeUndone}
-use Rattle.transactions.specs.Logged.{Logs}
+use Rattle.transactions.specs.Logged.{Logs, log_and_claims}
 use Rattle.rendezvous.specs.Awaited.{awaited_from}
 use Rattle.world.specs.declared.desk.Active.TheVariants.{Acting, Ending}
 use Rattle.world.specs.declared.desk.SessionDesk.{SessionDesk}
@@ -44,9 +44,10 @@ use Rattle.world.specs.declared.flight.Commit.{Commit}
 use Rattle.world.specs.declared.flight.SessionAnswer.{SessionAnswer}
 use Rattle.world.specs.declared.flight.Item.{Item}
 use Rattle.world.specs.declared.flight.Item.TheVariants as item
+use Rattle.world.specs.declared.slots.TheConstants.{MOST_ACTIVE}
 use Rattle.world.specs.declared.world.Parts.{Parts}
 use Rattle.world.specs.Shards.{HaveToWait}
-use Rattle.world.specs.Following.{CarriesFirst, acts_of, committing, ending, entry_of, found_in, held_in, holding, refusal_of, refused, release, releasing, putting, with_active}
+use Rattle.world.specs.Following.{CarriesFirst, acts_of, committing, ending, entry_of, found_in, held_in, holding, refusal_of, refused, release, releasing, putting, with_active, with_items}
 
 -- The answer to a commit: `Logged` with the place of its entry, or `Sent`, as for any other item, if the log refused it.
 abbrev pub recorded_of : Result ℕ Refusal → EventAnswer
@@ -126,7 +127,7 @@ module _ {J : Type 0} where
   -- The effect of a message. A start puts the actions of the first phase, by place. An act asks, a settle or an undo gives
   -- claims back, at the shard of their warehouse; then the actions that wait there have their turns.
   abbrev pub TakesMessage : Message J → Parts J → Parts J → Type 0
-  TakesMessage (Start flow works) old new = new ≡ record old { outbox = old.outbox ++ acts_of flow works.items }
+  TakesMessage (Start flow works) old new = new ≡ with_items (acts_of flow works.items) old
   TakesMessage (Act act) old new = (mid : Parts J) × (Asks act old mid × AllTurns (home_of act.work) mid new)
   TakesMessage (Settle slot claims) old new = (mid : Parts J) × (GivesBack slot claims old mid × AllTurns (home_of_claims claims) mid new)
   TakesMessage (Undo slot claims) old new = (mid : Parts J) × (GivesBack slot claims old mid × AllTurns (home_of_claims claims) mid new)
@@ -143,7 +144,7 @@ module _ {J : Type 0} where
   -- A message is appended to the inbox, or, if the inbox has 1,024, put back at the end of the outbox.
   abbrev pub Pushes : Bool → Message J → Parts J → EventAnswer → Parts J → Type 0
   Pushes true message old answer new = (answer ≡ Sent) × (new ≡ record old { inbox = old.inbox ++ message ∷ [] })
-  Pushes false message old answer new = (answer ≡ Full) × (new ≡ record old { outbox = old.outbox ++ item.Push message ∷ [] })
+  Pushes false message old answer new = (answer ≡ Full) × (new ≡ with_items (item.Push message ∷ []) old)
 
   -- ---- a phase has met
 
@@ -170,7 +171,7 @@ module _ {J : Type 0} where
 
   -- What the reports of a phase of this transaction require.
   pub record CanMeetFor (reports : List (Report J)) (flow : Flow J) : Type 0 where
-    pub slot : flow.transaction.slot < 64
+    pub slot : flow.transaction.slot < MOST_ACTIVE
     pub room : length flow.transaction.held + length reports ≤ MOST_ACTIONS
     pub done : refusal_of None reports ≡ None → HasMet flow.progress (found_in reports)
 
@@ -200,7 +201,7 @@ module _ {J : Type 0} where
     pub logged : AnyLogged J
     pub log : List Entry
     pub held : List (List ClaimView)
-    pub logs : Logs (entry_of commit) commit.transaction.pass old.log commit.transaction.held logged log held
+    pub logs : Logs (entry_of commit) commit.transaction.pass (log_and_claims old.log commit.transaction.held) logged (log_and_claims log held)
     pub answered : answer ≡ recorded_of logged.answer
     pub over : new ≡ releasing logged.is_settled (release commit.transaction logged.pass logged.answer held) (record old { log = log })
 
@@ -211,7 +212,7 @@ module _ {J : Type 0} where
     pub asks : commit.transaction.pass.asks.request ≡ commit.transaction.request
     pub carried_out : IsCarriedOut opening commit.transaction.request (all_claims commit.transaction.held) commit.reply
     pub few : length commit.transaction.held ≤ MOST_ACTIONS
-    pub slot : commit.transaction.slot < 64
+    pub slot : commit.transaction.slot < MOST_ACTIVE
 
   -- ---- the sessions
 
@@ -238,9 +239,9 @@ module _ {J : Type 0} where
   abbrev pub CanSend : Database → Item J → Parts J → Type 0
   CanSend opening (item.Push message) w = Unit {0}
   CanSend opening (item.Report r) w =
-      (r.slot < 64) × OfPhase r.slot w (λ first slots. (first ≤ r.place) × ((slice_get slots (r.place - first) ≡ Some None)
+      (r.slot < MOST_ACTIVE) × OfPhase r.slot w (λ first slots. (first ≤ r.place) × ((slice_get slots (r.place - first) ≡ Some None)
       × ((reports : List (Report J)) → map Some reports ≡ slice_set slots (r.place - first) (Some r) → CanMeet reports × CarriesFirst reports (λ flow. flow.transaction.slot ≡ r.slot))))
-  CanSend opening (item.Ended slot) w = (slot < 64) × OfEnding slot w (λ left. 1 ≤ left)
+  CanSend opening (item.Ended slot) w = (slot < MOST_ACTIVE) × OfEnding slot w (λ left. 1 ≤ left)
   CanSend opening (item.Commit commit) w = CanCommit opening commit
   CanSend opening (item.Reply recorded) w = (desk : SessionDesk J) × (slice_get w.desk.sessions.items recorded.pass.session ≡ Some desk)
 

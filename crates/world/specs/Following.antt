@@ -34,6 +34,10 @@ module _ {J : Type 0} where
   abbrev pub acts_of : Flow J → List Work → List (Item J)
   acts_of flow works = acts_from (length flow.transaction.held) flow.transaction.age flow.transaction.slot (Some flow) works
 
+  -- These items are appended to the outbox.
+  abbrev pub with_items : List (Item J) → Parts J → Parts J
+  with_items items w = record w { outbox = w.outbox ++ items }
+
   -- ---- what they report
 
   -- The outcomes.
@@ -65,6 +69,10 @@ module _ {J : Type 0} where
   -- The transaction with these claims added.
   abbrev pub holding : Transaction J → List (List ClaimView) → Transaction J
   holding t more = record t { held = t.held ++ more }
+
+  -- The transaction with these claims added, with its progress.
+  abbrev pub holding_more : Flow J → List (List ClaimView) → Flow J
+  holding_more flow more = record flow { transaction = holding flow.transaction more }
 
   -- ---- the active transactions
 

@@ -34,6 +34,7 @@ use Rattle.world.specs.declared.flight.Message.{Message}
 use Rattle.world.specs.declared.flight.Message.TheVariants as message
 use Rattle.world.specs.declared.flight.Outgoing.{Outgoing}
 use Rattle.world.specs.declared.flight.Outgoing.TheVariants as outgoing
+use Rattle.world.specs.declared.slots.TheConstants.{MOST_ACTIVE}
 use Rattle.world.specs.declared.world.Parts.{Parts}
 use Rattle.world.specs.declared.world.Core.{Core}
 use Rattle.world.specs.Events.{SendsItem, TakesMessage}
@@ -44,17 +45,29 @@ use Rattle.world.specs.Sound.{IsSessionOf}
 
 -- ---- submissions
 
--- Why the desk refuses a request at once: its session has a transaction without an answer, its check refuses it, or 64
--- transactions are active. The first that applies is the reason.
+-- Why the desk refuses a request at once: its session has a transaction without an answer, its check refuses it, or
+-- MOST_ACTIVE transactions are active. The first that applies is the reason.
 abbrev pub refuses : Option PassView → Result (Unit {0}) Refusal → Bool → Option Refusal
 refuses None checked full = Some refusal.SessionBusy
 refuses (Some pass) (Err why) full = Some why
 refuses (Some pass) (Ok accepted) true = Some refusal.Busy
 refuses (Some pass) (Ok accepted) false = None
 
--- 64 transactions are active.
+-- A submission as the desk gets it: its session, its number, its request, and whether the inbox where the request would begin
+-- has room.
+pub record Submission : Type 0 where
+  pub session : ℕ
+  pub number : ℕ
+  pub request : Request
+  pub has_room : Bool
+
+abbrev pub submission : Bool → ℕ → ℕ → Request → Submission
+submission has_room session number request =
+    record { session = session; number = number; request = request; has_room = has_room }
+
+-- MOST_ACTIVE transactions are active.
 abbrev pub is_full : {X : Type 0} → List (Option X) → Bool
-is_full slots = nat_le 64 (count_active slots)
+is_full slots = nat_le MOST_ACTIVE (count_active slots)
 
 -- ---- moves
 
@@ -118,22 +131,26 @@ module _ {J : Type 0} where
   StaysAt recorded old answer new = (answer ≡ recorded) × (new ≡ old)
 
   -- The request can't be admitted; or it is refused for lack of memory; or it is admitted.
-  abbrev pub SubmitsInto : Bool → ℕ → ℕ → Request → SessionDesk J → Parts J → EventAnswer → Parts J → Type 0
-  SubmitsInto false session number asked desk old answer new = StaysAt Nothing old answer new
-  SubmitsInto true session number asked desk old answer new =
-      StaysAt (Answered session number (Err refusal.NoMemory)) old answer new
-      ⊎ ((answer ≡ Accepted old.desk.admitted) × Admits session number asked desk old new)
+  abbrev pub SubmitsInto : Bool → Submission → SessionDesk J → Parts J → EventAnswer → Parts J → Type 0
+  SubmitsInto false s desk old answer new = StaysAt Nothing old answer new
+  SubmitsInto true s desk old answer new =
+      StaysAt (Answered s.session s.number (Err refusal.NoMemory)) old answer new
+      ⊎ ((answer ≡ Accepted old.desk.admitted) × Admits s.session s.number s.request desk old new)
 
   -- The request is refused for this reason; without a reason it may be admitted.
-  abbrev pub SubmitsUnless : Bool → Option Refusal → ℕ → ℕ → Request → SessionDesk J → Parts J → EventAnswer → Parts J → Type 0
-  SubmitsUnless has_room (Some why) session number asked desk old answer new = StaysAt (Answered session number (Err why)) old answer new
-  SubmitsUnless has_room None session number asked desk old answer new = SubmitsInto (can_admit has_room old) session number asked desk old answer new
+  abbrev pub SubmitsUnless : Option Refusal → Submission → SessionDesk J → Parts J → EventAnswer → Parts J → Type 0
+  SubmitsUnless (Some why) s desk old answer new = StaysAt (Answered s.session s.number (Err why)) old answer new
+  SubmitsUnless None s desk old answer new = SubmitsInto (can_admit s.has_room old) s desk old answer new
 
-  -- A submission; `has_room` is whether the inbox where the request would begin has room. If there is no such session, nothing
-  -- happens.
-  abbrev pub SubmitsAt : Bool → Option (SessionDesk J) → ℕ → ℕ → Request → Parts J → EventAnswer → Parts J → Type 0
-  SubmitsAt has_room None session number asked old answer new = StaysAt Nothing old answer new
-  SubmitsAt has_room (Some desk) session number asked old answer new = SubmitsUnless has_room (refusal_at desk asked old) session number asked desk old answer new
+  -- A submission at the desk of its session. If there is no such session, nothing happens.
+  abbrev pub SubmitsAt : Submission → Option (SessionDesk J) → Parts J → EventAnswer → Parts J → Type 0
+  SubmitsAt s None old answer new = StaysAt Nothing old answer new
+  SubmitsAt s (Some desk) old answer new = SubmitsUnless (refusal_at desk s.request old) s desk old answer new
+
+  -- The request of this session, with this number, is admitted at the session's desk.
+  abbrev pub AdmitsAt : ℕ → ℕ → Request → Parts J → Parts J → Type 0
+  AdmitsAt session number asked old new =
+      (desk : SessionDesk J) × ((slice_get old.desk.sessions.items session ≡ Some desk) × Admits session number asked desk old new)
 
   -- There is no such session; or the request is not refused and can't be admitted.
   abbrev pub CannotSubmit : Bool → Option (SessionDesk J) → Request → Parts J → Type 0
@@ -175,7 +192,7 @@ module _ {J : Type 0} where
   abbrev pub Submits : ℕ → ℕ → Request → Core J → EventAnswer → Core J → Type 0
   Submits session number asked old answer new =
       let to = begins_at asked old in
-      (parts : Parts J) × (SubmitsAt (has_room to old) (slice_get old.parts.desk.sessions.items session) session number asked old.parts answer parts × (new ≡ beginning_at to parts old))
+      (parts : Parts J) × (SubmitsAt (submission (has_room to old) session number asked) (slice_get old.parts.desk.sessions.items session) old.parts answer parts × (new ≡ beginning_at to parts old))
 
   -- The move is possible, no other is outstanding, and the inbox of its destination has room.
   pub record CanOrder (order : MoveOrder) (w : Core J) : Type 0 where

@@ -12,4 +12,5 @@ pub mod InHand
 pub mod Happening
 pub mod Changes
 pub mod Worlds
+pub mod Playing
 pub mod Openings

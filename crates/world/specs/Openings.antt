@@ -1,5 +1,6 @@
 -- What opening a world requires and gives, why it fails, and the result of a simulation.
-use Rattle.std.specs.Prelude.{◌≡◌, ◌⊎◌, ◌<◌, ℕ, zero, suc, List, [], Some, None, Result, Ok, Err, map, replicate, slice_get, length, ◌≤◌}
+use Rattle.std.specs.Prelude.{◌≡◌, ◌≢◌, ◌⊎◌, ◌<◌, ℕ, zero, suc, List, [], Some, None, Result, Ok, Err, map, replicate, slice_get, length, ◌≤◌}
+use Rattle.rows.specs.declared.limits.TheConstants.{SESSIONS}
 use Rattle.schema.specs.Database.{Database}
 use Rattle.partitions.specs.Parts.{parts_of, shared_of}
 use Rattle.consistency.specs.Broken.{BreaksFirst}
@@ -11,7 +12,7 @@ use Rattle.commit_log.specs.LogTables.{table_of}
 use Rattle.commit_log.specs.PassView.{PassView, SessionSeatView, new_pass, new_seat}
 use Rattle.history.specs.History.{Step}
 use Rattle.history.specs.declared.schedule.Scheduled.{Scheduled}
-use Rattle.history.specs.Schedules.{Plays}
+use Rattle.history.specs.Schedules.{EndsQuiet, Plays}
 use Rattle.world.specs.declared.desk.SessionDesk.{SessionDesk}
 use Rattle.slices.specs.Openings.{AreOpenedFor}
 use Rattle.world.specs.declared.opening.Opening.{Opening}
@@ -19,6 +20,7 @@ use Rattle.world.specs.declared.opening.OpenFault.{OpenFault}
 use Rattle.world.specs.declared.opening.OpenFault.TheVariants.{NoMemory, BadExecutors, NotConsistent}
 use Rattle.slices.specs.SliceView.{AreSlicesOf, all_at_rest, at_rest}
 use Rattle.world.specs.declared.simulating.Simulation.{Simulation}
+use Rattle.world.specs.declared.slots.TheConstants.{MOST_ACTIVE}
 use Rattle.world.specs.declared.world.GatherFault.{GatherFault}
 use Rattle.world.specs.declared.world.GatherFault.TheVariants as gather
 use Rattle.world.specs.declared.world.Core.{Core}
@@ -35,8 +37,8 @@ pub record IsNamedFor {J : Type 0} (log : LogNames J) (groups : GroupNames J) (t
   pub warehouses : groups.warehouses ≡ tables.scale.warehouses
   pub agreements : AreNamed tables.scale.warehouses groups.committed groups.work opening.groups.items
   pub length : log.length ≡ opening.log.length
-  pub mine : (session : ℕ) → session < 64 → log.mine session ≡ table_of opening.log.mine session
-  pub asks : (session : ℕ) → session < 64 → log.asks session ≡ table_of opening.log.asks session
+  pub mine : (session : ℕ) → session < SESSIONS → log.mine session ≡ table_of opening.log.mine session
+  pub asks : (session : ℕ) → session < SESSIONS → log.asks session ≡ table_of opening.log.asks session
 
 -- NotConsistent names the least condition that these tables break.
 abbrev pub IsFaultOf : Database → OpenFault → Type 0
@@ -50,21 +52,26 @@ abbrev pub IsGathered : ℕ → Database → Result Database GatherFault → Typ
 IsGathered zero tables gathered = (gathered ≡ Ok tables) ⊎ (gathered ≡ Err gather.NoMemory)
 IsGathered (suc busy) tables gathered = gathered ≡ Err gather.NotIdle
 
--- The passes and seats of 64 sessions, by session number. They have asked, seen and logged nothing.
+-- The passes and seats of the sessions, by session number. They have asked, seen and logged nothing.
 pub record AreNewLanes (lanes : List (PassView × SessionSeatView)) : Type 0 where
-  pub many : length lanes ≡ 64
-  pub each : (session : ℕ) → session < 64 → slice_get lanes session ≡ Some (new_pass session, new_seat session)
+  pub many : length lanes ≡ SESSIONS
+  pub each : (session : ℕ) → session < SESSIONS → slice_get lanes session ≡ Some (new_pass session, new_seat session)
 
 module _ {J : Type 0} where
   -- The session at the desk, with its pass there.
   abbrev pub session_with : PassView × SessionSeatView → SessionDesk J
   session_with lane = record { seat = lane.1; pass = Some lane.0 }
 
+  -- The result of gathering the tables of this world: `IsGathered` of its tables, whatever the opening of a history that fits it.
+  abbrev pub IsGatheredFrom : Core J → Result Database GatherFault → Type 0
+  IsGatheredFrom w gathered =
+      (opening : Database) (history : List Step) → Fits opening history (together w) → IsGathered (count_busy w) (tables_now opening w.parts.log) gathered
+
   -- A world with this many executors over these tables in which nothing has happened. Its shards have the rows of the tables,
   -- those of each warehouse in a slice of its own; no claim is held, and no action waits, at a shard or in a lock table. The
   -- slices are where the opening deals them out, no move is outstanding and nothing is parked. The queues of the executors and
-  -- the log are empty, and so are the inbox and outbox of the parts. No transaction was admitted or is active, and each of 64
-  -- sessions has its pass at the desk and has asked nothing.
+  -- the log are empty, and so are the inbox and outbox of the parts. No transaction was admitted or is active, and each
+  -- session has its pass at the desk and has asked nothing.
   pub record IsNew (tables : Database) (executors : ℕ) (w : Core J) : Type 0 where
     pub catalog : w.parts.catalog ≡ shared_of tables
     pub shards : w.parts.shards.items ≡ map shard_of (map at_rest (parts_of tables))
@@ -78,9 +85,9 @@ module _ {J : Type 0} where
     pub in_hand : (w.parts.inbox ≡ []) × (w.parts.outbox ≡ [])
     pub log : w.parts.log ≡ []
     pub admitted : w.parts.desk.admitted ≡ 0
-    pub active : w.parts.desk.active ≡ replicate 64 None
-    pub many : length w.parts.desk.sessions.items ≡ 64
-    pub each : (session : ℕ) → session < 64 → slice_get w.parts.desk.sessions.items session ≡ Some (session_with (new_pass session, new_seat session))
+    pub active : w.parts.desk.active ≡ replicate MOST_ACTIVE None
+    pub many : length w.parts.desk.sessions.items ≡ SESSIONS
+    pub each : (session : ℕ) → session < SESSIONS → slice_get w.parts.desk.sessions.items session ≡ Some (session_with (new_pass session, new_seat session))
 
 -- A world can have this many executors.
 abbrev pub CanHave : ℕ → Type 0
@@ -102,3 +109,12 @@ pub record Simulates (J : Type 0) (opening : Database) (executors : ℕ) (schedu
   pub never_stuck : IsNeverStuck last
   pub log : s.log.items ≡ last.parts.log
   pub tables : IsGathered (count_busy last) (tables_now opening s.log.items) s.tables
+
+-- A schedule was simulated in this world, as over all tables and with every number of executors for which the world is new.
+abbrev pub SimulatesFrom : {J : Type 0} → Core J → List Scheduled → Simulation → Type 0
+SimulatesFrom {J} world schedule s =
+    (opening : Database) (executors : ℕ) → IsNew opening executors world → Fits opening [] (together world) → Simulates J opening executors schedule s
+
+-- If the last output is `Quiet`, the simulation has its tables unless there was no memory for them.
+abbrev pub HasTablesIfQuiet : Simulation → Type 0
+HasTablesIfQuiet s = EndsQuiet s.outputs.items → s.tables ≢ Err gather.NotIdle

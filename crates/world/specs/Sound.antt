@@ -1,6 +1,7 @@
 -- The invariant of everything in flight, and of a world.
 use Rattle.std.specs.Prelude.{◌≡◌, ℕ, ◌+◌, ◌<◌, ◌≤◌, Bool, zero, suc, List, [], ◌∷◌, ◌++◌, Option, Some, None, Result, Ok, Err, All, Contains, map, length, replicate, count_by, is_some, if◌then◌else◌}
 use Rattle.std.specs.List.{slice_get, sum_by}
+use Rattle.rows.specs.declared.limits.TheConstants.{SESSIONS}
 use Rattle.partitions.specs.Parts.{SharedTables, shared_of}
 use Rattle.schema.specs.Database.{Database}
 use Rattle.requests.specs.declared.group.Group.{Group}
@@ -37,6 +38,7 @@ use Rattle.world.specs.declared.flight.Commit.{Commit}
 use Rattle.world.specs.declared.flight.SessionAnswer.{SessionAnswer}
 use Rattle.world.specs.declared.flight.Item.{Item}
 use Rattle.world.specs.declared.flight.Item.TheVariants as item
+use Rattle.world.specs.declared.slots.TheConstants.{MOST_ACTIVE}
 use Rattle.world.specs.declared.world.Parts.{Parts}
 use Rattle.world.specs.Flights.{Token, Acting, Committing, Ending, InFlight, join, parts, part_message, part_item, part_met}
 use Rattle.world.specs.Parted.{joined_in}
@@ -83,10 +85,10 @@ IsPlaceOf u number place = place ≡ length u.held + number
 module _ {J : Type 0} where
   -- ---- transactions
 
-  -- The transaction's session is one of the 64 and asks for its request; its slot is one of the 64.
+  -- The transaction's session and slot are in their ranges, and the session asks for its request.
   pub record IsAskedBy (t : Transaction J) : Type 0 where
-    pub session : t.pass.session < 64
-    pub slot : t.slot < 64
+    pub session : t.pass.session < SESSIONS
+    pub slot : t.slot < MOST_ACTIVE
     pub number : t.pass.asks.number ≡ t.number
     pub request : t.pass.asks.request ≡ t.request
 
@@ -154,10 +156,10 @@ module _ {J : Type 0} where
     pub undo : All (AreUndoneBy u.age) commit.transaction.held
     pub few : length commit.transaction.held ≤ MOST_ACTIONS
 
-  -- An answer goes to one of 64 sessions, which asked with its number. A death names a group of the request's footprint and an
+  -- An answer goes to one of the sessions, which asked with its number. A death names a group of the request's footprint and an
   -- older transaction.
   abbrev pub IsSoundReply : SessionAnswer J → Type 0
-  IsSoundReply recorded = (recorded.pass.session < 64) × ((recorded.pass.asks.number ≡ recorded.number) × AnswersOlder (groups_of (footprint recorded.pass.asks.request)) recorded.age recorded.answer)
+  IsSoundReply recorded = (recorded.pass.session < SESSIONS) × ((recorded.pass.asks.number ≡ recorded.number) × AnswersOlder (groups_of (footprint recorded.pass.asks.request)) recorded.age recorded.answer)
 
   -- An item is sound, by its kind.
   abbrev pub IsSoundItem : SharedTables → ActiveTransactions → Item J → Type 0
@@ -242,26 +244,26 @@ module _ {J : Type 0} where
   flight w = join (parts part_message w.inbox) (join (parts part_item w.outbox) (parts part_met (reported_to_all w.desk.active)))
 
   -- The tokens in flight are exactly those awaited for the active transactions. A session's pass is at the desk exactly while
-  -- the session has no transaction without an answer. There are 64 sessions.
+  -- the session has no transaction without an answer. There are SESSIONS sessions.
   pub record IsBalanced (desk : Desk J) (in_flight : InFlight) : Type 0 where
     pub tokens : WeighAlike in_flight.tokens (awaited_by_all 0 desk.active)
     pub alone : (number : ℕ) (session : SessionDesk J) → slice_get desk.sessions.items number ≡ Some session
         → count_by (is_of number) in_flight.pending + (if is_here session then 1 else 0) ≡ 1
-    pub many : length in_flight.pending + count_by is_here desk.sessions.items ≡ 64
+    pub many : length in_flight.pending + count_by is_here desk.sessions.items ≡ SESSIONS
 
   -- The invariant of a world, with this in hand. There is a slice for each warehouse of the scale, in order, and they share the
-  -- items. Everything in flight is sound for the transaction in its slot. There are 64 slots, and the active transactions have
-  -- distinct ages. The claims held in the lock tables are those in flight.
+  -- items. Everything in flight is sound for the transaction in its slot. There are MOST_ACTIVE slots, and the active transactions
+  -- have distinct ages. The claims held in the lock tables are those in flight.
   pub record IsSoundWith (shared : SharedTables) (hand : InFlight) (w : Parts J) : Type 0 where
     pub shared_is : w.catalog ≡ shared
     pub slices : AreSlicesOf w.catalog (slices_in w)
     pub in_flight : ActiveTransactions
     pub inbox : All (IsSoundMessage shared in_flight) w.inbox
     pub outbox : All (IsSoundItem shared in_flight) w.outbox
-    pub slots : length w.desk.active ≡ 64
+    pub slots : length w.desk.active ≡ MOST_ACTIVE
     pub active : AreSoundActive shared in_flight 0 w.desk.active
     pub ages : HaveTheirAges in_flight w.desk.admitted w.desk.active
-    pub seats : length w.desk.sessions.items ≡ 64
+    pub seats : length w.desk.sessions.items ≡ SESSIONS
     pub sessions : (number : ℕ) (session : SessionDesk J) → slice_get w.desk.sessions.items number ≡ Some session → IsSessionOf number session
     pub balance : IsBalanced w.desk (join hand (flight w))
     pub held : AreAllHeld (joined_in w).holdings (join hand (flight w)).claims

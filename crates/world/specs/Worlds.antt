@@ -1,11 +1,13 @@
 -- What holds of a world and its history.
 use Rattle.std.specs.Prelude.{◌≡◌, ℕ, ◌+◌, Bool, List, [], ◌∷◌, ◌++◌, All, Contains, IsTrue, ◌<◌, ◌≤◌, ◌↔◌, Result, Err, count_by}
 use Rattle.std.specs.List.{slice_get}
+use Rattle.rows.specs.declared.limits.TheConstants.{SESSIONS}
 use Rattle.schema.specs.Database.{Database}
 use Rattle.requests.specs.declared.group.Group.{Group}
 use Rattle.requests.specs.declared.request.Request.{Request}
 use Rattle.requests.specs.declared.refusal.Refusal.{Refusal}
 use Rattle.requests.specs.declared.refusal.Refusal.TheVariants as refusal
+use Rattle.requests.specs.Check.{IsAccepted}
 use Rattle.groups.specs.Content.{content}
 use Rattle.groups.specs.Footprint.{footprint, groups_of}
 use Rattle.tickets.specs.Claims.{ClaimView}
@@ -40,7 +42,7 @@ use Rattle.world.specs.Parted.{joined_in}
 use Rattle.world.specs.Shards.{waiting_in}
 use Rattle.world.specs.Sound.{ActiveTransactions, IsActiveAt, IsSoundWith, flight}
 use Rattle.world.specs.Changes.{ChangesOnly}
-use Rattle.world.specs.Happening.{CanOrder, CannotSubmit, Happens, begins_at, has_room}
+use Rattle.world.specs.Happening.{CanOrder, CannotSubmit, Happens, begins_at, has_room, is_full}
 use Rattle.range_moves.specs.Traffic.{AreOwned}
 use Rattle.world.specs.Envelopes.{items_in, sent_in}
 use Rattle.world.specs.Queues.{all_of, queue_of}
@@ -109,6 +111,14 @@ module _ {J : Type 0} where
   -- A history that fits before these steps fits after them, with the steps appended.
   abbrev pub Advances : Parts J → List Step → Parts J → Type 0
   Advances old steps new = (opening : Database) (history : List Step) → Fits opening history old → Fits opening (history ++ steps) new
+
+  -- A history that fits before this event fits after it, with the event and its answer appended.
+  abbrev pub AdvancesBy : Event → EventAnswer → Core J → Core J → Type 0
+  AdvancesBy event answer old new = Advances (together old) (step event answer ∷ []) (together new)
+
+  -- These are the tables that the log's transactions left, whatever the opening of a history that fits the world.
+  abbrev pub AreTablesOf : Core J → Database → Type 0
+  AreTablesOf w tables = (opening : Database) (history : List Step) → Fits opening history (together w) → tables ≡ tables_now opening w.parts.log
 
   -- ---- answers
 
@@ -185,7 +195,7 @@ module _ {J : Type 0} where
 
   -- ---- what can't happen
 
-  -- A submission can't happen from a session number of 64 or above; nor, unless it is refused, if the inbox of the executor
+  -- A submission can't happen from a session number of SESSIONS or above; nor, unless it is refused, if the inbox of the executor
   -- where it would begin is full or no age is left. A move can't happen if it is impossible, if another is outstanding, or if
   -- the inbox of its destination is full. A Take or a Send can't happen if there is nothing to take or to send, or no such
   -- executor.
@@ -195,12 +205,26 @@ module _ {J : Type 0} where
   CannotHappen (Take executor) w = queue_of executor w.inboxes ≡ []
   CannotHappen (Send executor) w = queue_of executor w.outboxes ≡ []
 
-  -- A submission by one of the 64 sessions is refused with SessionBusy exactly if the session has a transaction without an
+  -- A submission by one of the sessions is refused with SessionBusy exactly if the session has a transaction without an
   -- answer.
   abbrev pub IsBusyExactly : Event → Core J → EventAnswer → Type 0
   IsBusyExactly (Submit session number asked) w answer =
-      session < 64 → (answer ≡ Answered session number (Err refusal.SessionBusy)) ↔ (1 ≤ count_by (is_of session) (flight (together w)).pending)
+      session < SESSIONS → (answer ≡ Answered session number (Err refusal.SessionBusy)) ↔ (1 ≤ count_by (is_of session) (flight (together w)).pending)
   IsBusyExactly event w answer = Unit {0}
+
+  -- The desk has no slot for a request that it would accept: the session has no transaction without an answer, the check accepts
+  -- the request, and MOST_ACTIVE transactions are active, one in each slot.
+  pub record FindsNoSlot (session : ℕ) (asked : Request) (w : Core J) : Type 0 where
+    pub none : count_by (is_of session) (flight (together w)).pending ≡ 0
+    pub accepted : IsAccepted w.parts.catalog.scale asked
+    pub full : IsTrue (is_full w.parts.desk.active)
+
+  -- A submission by a session is refused with Busy exactly if no earlier refusal applies and the desk has no slot
+  -- for it.
+  abbrev pub IsFullExactly : Event → Core J → EventAnswer → Type 0
+  IsFullExactly (Submit session number asked) w answer =
+      session < SESSIONS → (answer ≡ Answered session number (Err refusal.Busy)) ↔ FindsNoSlot session asked w
+  IsFullExactly event w answer = Unit {0}
 
   -- The action has not died: it has done its work, or there was no memory for it.
   abbrev pub HasNotDied : Ran J → Type 0
@@ -218,6 +242,11 @@ module _ {J : Type 0} where
   NoneDies (Take executor) old new =
       (posts : List (Outgoing J)) → queue_of executor new.outboxes ≡ queue_of executor old.outboxes ++ posts → All RecordsNoDeath (items_in posts)
   NoneDies event old new = Unit {0}
+
+  -- If only one transaction is active, no action dies. This holds for every world that a history fits.
+  abbrev pub NoneDiesAlone : Event → Core J → Core J → Type 0
+  NoneDiesAlone event old new =
+      (opening : Database) (history : List Step) → Fits opening history (together old) → count_active old.parts.desk.active ≡ 1 → NoneDies event old new
 
   -- ---- where slices are
 
@@ -259,7 +288,8 @@ module _ {J : Type 0} where
 
   -- One event happens, with this answer. A history that fits before fits after with this step appended (`advances`). The answer
   -- and the changes are specified (`happens`), and bounded (`changes`). An event is answered `Nothing` exactly if it can't
-  -- happen, and a session is busy exactly if it has a transaction without an answer. Every answer was asked for. A death is of
+  -- happen, a session is busy exactly if it has a transaction without an answer, and a submission finds all slots taken exactly
+  -- if they are and no earlier refusal applies. Every answer was asked for. A death is of
   -- an older transaction, in an answer and in a report, and no action dies while its transaction is the only active one. The
   -- number of executors is unchanged, each slice is at one executor or in one parcel, and the world is not stuck.
   pub record EventHappens (s : Step) (old new : Core J) : Type 0 where
@@ -268,13 +298,14 @@ module _ {J : Type 0} where
     pub changes : ChangesOnly s.event s.answer old new
     pub nothing : (s.answer ≡ Nothing) ↔ CannotHappen s.event old
     pub busy : IsBusyExactly s.event old s.answer
+    pub full : IsFullExactly s.event old s.answer
     pub asked : AnswersWhoAsked s.event old s.answer
     pub died : RecordsOfOlder old s.answer
     pub dies : AllDieOfOlder s.event old new
     pub executors : new.placements.executors ≡ old.placements.executors
     pub owned : IsOwned new
     pub never_stuck : IsNeverStuck new
-    pub alone : (opening : Database) (history : List Step) → Fits opening history (together old) → count_active old.parts.desk.active ≡ 1 → NoneDies s.event old new
+    pub alone : NoneDiesAlone s.event old new
 
   -- Events happen one after another, each with its answer.
   abbrev pub HappenInTurn : List Step → Core J → Core J → Type 0

@@ -2,12 +2,12 @@
 ghost use Rattle.std.specs.Prelude.{◌≡◌, ◌<◌, [], Err, IfOk, IfSome, OnOk, OnErr, IsTrue, is_some, None, Some, slice_get};
 ghost use Rattle.commit_log.specs.Asks.{asking};
 ghost use Rattle.commit_log.specs.PassView.{session_seat_view, with_asks};
-ghost use Rattle.world.specs.declared.desk.SessionDesk.{SessionDesk as AnyDesk};
-ghost use Rattle.world.specs.Happening.{Admits, CanAsk, CanSubmit, SubmitsAt};
+ghost use Rattle.world.specs.Happening.{AdmitsAt, CanAsk, CanSubmit, SubmitsAt, submission};
 
 use crate::beginning::Phase;
 use crate::desk::{Active, SessionDesk};
 use crate::flight::{Flow, Message, Transaction};
+use crate::slots::MOST_ACTIVE;
 use crate::world::Parts;
 use commit_log::{Names, Pass};
 use history::EventAnswer;
@@ -28,7 +28,8 @@ impl<J: Names> Parts<J> {
     ) -> EventAnswer
         requires sessions { CanSubmit self.old }
         requires hand { self.old.inbox ≡ [] }
-        ensures { SubmitsAt has_room (slice_get self.old.desk.sessions.items session) session number request.now self.old result self.new }
+        ensures { SubmitsAt (submission has_room session number request.now)
+            (slice_get self.old.desk.sessions.items session) self.old result self.new }
     {
         let Some(desk) = self.desk.sessions.get(session as usize) else {
             return EventAnswer::Nothing;
@@ -60,14 +61,14 @@ impl<J: Names> Parts<J> {
         number: u32,
         request: &Request,
     ) -> Result<u64, NoMemory>
-        requires below { slot < 64 }
+        requires below { slot < MOST_ACTIVE }
         requires free { slice_get self.old.desk.active slot ≡ Some None }
         requires hand { self.old.inbox ≡ [] }
         requires age { self.old.desk.admitted < 18446744073709551615 }
         requires sessions { CanSubmit self.old }
         requires here { CanAsk (slice_get self.old.desk.sessions.items session) }
         ensures age { IfOk result (λ age. age ≡ self.old.desk.admitted) }
-        ensures admitted { OnOk result ((desk : AnyDesk J) × ((slice_get self.old.desk.sessions.items session ≡ Some desk) × Admits session number request.now desk self.old self.new)) }
+        ensures admitted { OnOk result (AdmitsAt session number request.now self.old self.new) }
         ensures err { OnErr result (self.new ≡ self.old) }
     {
         let own = request.try_clone()?;
@@ -110,7 +111,8 @@ fn refused(session: u32, number: u32, refusal: Refusal) -> EventAnswer
 fn ask<J: Names>(desk: &mut SessionDesk<J>, number: u32, request: &Request) -> Pass<J>
     requires here { IsTrue (is_some desk.old.pass) }
     requires session { IfSome desk.old.pass (λ pass. pass.session ≡ desk.old.seat.session) }
-    ensures pass { IfSome desk.old.pass (λ pass. result ≡ with_asks pass (asking number request.now pass.seen pass.mine)) }
+    ensures pass { IfSome desk.old.pass (λ pass.
+        result ≡ with_asks pass (asking number request.now pass.seen pass.mine)) }
     ensures seat { desk.new.seat ≡ session_seat_view desk.old.seat.session result.asks }
     ensures away { desk.new.pass ≡ None }
 {

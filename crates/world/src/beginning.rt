@@ -1,7 +1,7 @@
 //! The start of a phase.
-ghost use Rattle.std.specs.Prelude.{◌≡◌, ◌≤◌, ◌+◌, ◌++◌, length, replicate, IfOk, None, Some};
+ghost use Rattle.std.specs.Prelude.{◌≡◌, ◌≤◌, ◌+◌, length, replicate, IfOk, None, Some};
 ghost use Rattle.transactions.specs.Progresses.{works_of};
-ghost use Rattle.world.specs.Following.{acts_of};
+ghost use Rattle.world.specs.Following.{acts_of, with_items};
 
 use crate::flight::{Act, Flow, Item, Message, Report};
 use crate::world::Parts;
@@ -22,7 +22,8 @@ impl<J: Names> Phase<J> {
     /// Makes the next phase of a transaction with this progress. Returns NoMemory if an allocation fails; nothing is left then.
     pub(crate) fn begin(alloc: Global, progress: &Progress) -> Result<Phase<J>, NoMemory>
         ensures works { IfOk result (λ phase. phase.works.items ≡ works_of progress.now) }
-        ensures meeting { IfOk result (λ phase. phase.meeting ≡ replicate (length phase.works.items) None) }
+        ensures meeting { IfOk result (λ phase.
+            phase.meeting ≡ replicate (length phase.works.items) None) }
     {
         phases_have_actions();
         let works = progress.works(alloc)?;
@@ -37,7 +38,7 @@ impl<J: Names> Parts<J> {
     pub(crate) fn put_acts(&mut self, flow: Flow<J>, works: Vec<Work>)
         requires room { length self.old.outbox + length works.items ≤ 4096 }
         requires held { length flow.transaction.held ≤ MOST_ACTIONS }
-        ensures { self.new ≡ record self.old { outbox = self.old.outbox ++ acts_of flow works.items } }
+        ensures { self.new ≡ with_items (acts_of flow works.items) self.old }
     {
         let age = flow.transaction.age;
         let slot = flow.transaction.slot;

@@ -100,7 +100,8 @@ impl<J: Names> Core<J> {
         requires there { executor < length self.old.outboxes }
         requires to { envelope.to < length self.old.inboxes }
         requires room { length (queue_of executor self.old.outboxes) < 4096 }
-        ensures { Delivers (has_room envelope.to self.old) executor envelope self.old result self.new }
+        ensures { Delivers (has_room envelope.to self.old) executor envelope
+            self.old result self.new }
     {
         let to = envelope.to as usize;
         if self.inboxes.waiting(to) < INBOX {
@@ -115,7 +116,8 @@ impl<J: Names> Core<J> {
 
     // Sends an item. What that puts goes to the executor's outbox.
     fn send_item(&mut self, alloc: Global, executor: u32, item: Item<J>) -> EventAnswer
-        requires sending { OutgoingInHand (shared_of J.opening) executor (Outgoing.Item item) self.old }
+        requires sending { OutgoingInHand (shared_of J.opening) executor
+            (Outgoing.Item item) self.old }
         ensures { SendsOutgoing executor (Outgoing.Item item) self.old result self.new }
     {
         let answer = self.parts.send_item(alloc, item);
@@ -129,7 +131,8 @@ impl<J: Names> Core<J> {
     fn post_all(&mut self, executor: u32)
         requires there { executor < length self.old.outboxes }
         requires homes { All HasHomeIn self.old.parts.outbox }
-        requires room { length (queue_of executor self.old.outboxes) + length self.old.parts.outbox ≤ 4096 }
+        requires room { length (queue_of executor self.old.outboxes)
+            + length self.old.parts.outbox ≤ 4096 }
         ensures { self.new ≡ bringing executor self.old.parts self.old }
     {
         while let Some(item) = self.parts.outbox.take() {
@@ -161,7 +164,8 @@ impl<J: Names> Core<J> {
     pub(crate) fn hand_out(&mut self, to: u32)
         requires there { to < length self.old.inboxes }
         requires one { length self.old.parts.inbox ≤ 1 }
-        requires room { 1 ≤ length self.old.parts.inbox → length (queue_of to self.old.inboxes) < INBOX }
+        requires room { 1 ≤ length self.old.parts.inbox
+            → length (queue_of to self.old.inboxes) < INBOX }
         ensures { self.new ≡ beginning_at to self.old.parts self.old }
     {
         if let Some(message) = self.parts.inbox.take() {

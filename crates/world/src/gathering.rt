@@ -1,14 +1,16 @@
 //! The end of a phase: all its actions have reported.
-ghost use Rattle.std.specs.Prelude.{◌≡◌, ◌⊎◌, false, ◌≤◌, ◌<◌, ◌+◌, [], length, vec_capacity, None};
+ghost use Rattle.std.specs.Prelude.{◌≡◌, ◌⊎◌, false, ◌≤◌, ◌<◌, ◌+◌, length, None};
 ghost use Rattle.world.specs.Following as spec;
-ghost use Rattle.world.specs.Following.{CarriesFirst, found_in, held_in, holding, refusal_of, refused, releasing};
+ghost use Rattle.world.specs.Following.{CarriesFirst, found_in, held_in, holding_more, refusal_of, refused, releasing};
 ghost use Rattle.transactions.specs.Progresses.{works_of};
+ghost use Rattle.transactions.specs.SortedOut.{IsReadyFor};
 ghost use Rattle.world.specs.Events.{CanMeet, MeetsAs, goes_on};
 
 use crate::beginning::Phase;
 use crate::desk::Active;
 use crate::flight::{Commit, Flow, Item, Report, Transaction};
 use crate::sending::Release;
+use crate::slots::MOST_ACTIVE;
 use crate::world::Parts;
 use commit_log::Names;
 use rendezvous::Results;
@@ -48,7 +50,7 @@ impl<J: Names> Parts<J> {
     fn begin_next_phase(&mut self, alloc: Global, flow: Flow<J>)
         requires room { length self.old.outbox + (MOST_ACTIONS + 1) ≤ 4096 }
         requires held { length flow.transaction.held ≤ MOST_ACTIONS }
-        requires slot { flow.transaction.slot < 64 }
+        requires slot { flow.transaction.slot < MOST_ACTIVE }
         requires few { length (works_of flow.progress) ≤ MOST_ACTIONS }
         ensures { (self.new ≡ releasing false (refused flow.transaction Refusal.NoMemory) self.old)
             ⊎ (self.new ≡ goes_on flow.transaction (Gathered.Next flow.progress) self.old) }
@@ -67,7 +69,7 @@ impl<J: Names> Parts<J> {
     // The transaction was carried out and is to be logged.
     fn put_commit(&mut self, transaction: Transaction<J>, reply: Reply)
         requires room { length self.old.outbox + 1 ≤ 4096 }
-        requires slot { transaction.slot < 64 }
+        requires slot { transaction.slot < MOST_ACTIVE }
         ensures { self.new ≡ spec.committing transaction reply self.old }
     {
         self.desk
@@ -81,8 +83,8 @@ impl<J: Names> Parts<J> {
 // unless the transaction is refused.
 fn sort_out<J: Names>(mut results: Results<Report<J>>, mut sorted: Sorted) -> (Flow<J>, Sorted)
     requires can { CanMeet results }
-    requires found { sorted.refusal ≡ None → (sorted.found.items ≡ []) × (length results ≤ vec_capacity sorted.found) }
-    ensures flow { CarriesFirst results (λ flow. result.0 ≡ record flow { transaction = holding flow.transaction (held_in results) }) }
+    requires found { IsReadyFor (length results) sorted }
+    ensures flow { CarriesFirst results (λ flow. result.0 ≡ holding_more flow (held_in results)) }
     ensures refusal { result.1.refusal ≡ refusal_of sorted.refusal results }
     ensures found { result.1.refusal ≡ None → result.1.found.items ≡ found_in results }
 {

@@ -1,10 +1,9 @@
 //! One event at a time.
-ghost use Rattle.std.specs.Prelude.{◌≡◌, [], ◌∷◌};
+ghost use Rattle.std.specs.Prelude.{◌≡◌};
 ghost use Rattle.partitions.specs.Parts.{shared_of};
-ghost use Rattle.history.specs.History.{step as one_step};
 ghost use Rattle.world.specs.Happening.{Happens};
-ghost use Rattle.world.specs.Together.{IsSound, together};
-ghost use Rattle.world.specs.Worlds.{Advances};
+ghost use Rattle.world.specs.Together.{IsSound};
+ghost use Rattle.world.specs.Worlds.{AdvancesBy};
 
 use crate::world::Core;
 use commit_log::Names;
@@ -20,7 +19,7 @@ impl<J: Names> Core<J> {
         requires warehouses { J.warehouses ≡ J.opening.scale.warehouses }
         requires sound { IsSound (shared_of J.opening) self.old }
         ensures sound { IsSound (shared_of J.opening) self.new }
-        ensures advances { Advances (together self.old) (one_step event.now result ∷ []) (together self.new) }
+        ensures advances { AdvancesBy event.now result self.old self.new }
         ensures happens { Happens event.now self.old result self.new }
     {
         match event {
@@ -40,8 +39,10 @@ impl<J: Names> Core<J> {
     fn submit(&mut self, alloc: Global, session: u32, number: u32, request: &Request) -> EventAnswer
         requires sound { IsSound (shared_of J.opening) self.old }
         ensures sound { IsSound (shared_of J.opening) self.new }
-        ensures advances { Advances (together self.old) (one_step (Event.Submit session number request.now) result ∷ []) (together self.new) }
-        ensures happens { Happens (Event.Submit session number request.now) self.old result self.new }
+        ensures advances { AdvancesBy (Event.Submit session number request.now) result
+            self.old self.new }
+        ensures happens { Happens (Event.Submit session number request.now)
+            self.old result self.new }
     {
         let to = self.placements.route(home_of_request(request));
         let has_room = self.inboxes.waiting(to as usize) < INBOX;
@@ -55,7 +56,7 @@ impl<J: Names> Core<J> {
         requires warehouses { J.warehouses ≡ J.opening.scale.warehouses }
         requires sound { IsSound (shared_of J.opening) self.old }
         ensures sound { IsSound (shared_of J.opening) self.new }
-        ensures advances { Advances (together self.old) (one_step (Event.Take executor) result ∷ []) (together self.new) }
+        ensures advances { AdvancesBy (Event.Take executor) result self.old self.new }
         ensures happens { Happens (Event.Take executor) self.old result self.new }
     {
         self.placements.are_kept();
@@ -72,7 +73,7 @@ impl<J: Names> Core<J> {
     fn send(&mut self, alloc: Global, executor: u32) -> EventAnswer
         requires sound { IsSound (shared_of J.opening) self.old }
         ensures sound { IsSound (shared_of J.opening) self.new }
-        ensures advances { Advances (together self.old) (one_step (Event.Send executor) result ∷ []) (together self.new) }
+        ensures advances { AdvancesBy (Event.Send executor) result self.old self.new }
         ensures happens { Happens (Event.Send executor) self.old result self.new }
     {
         self.placements.are_kept();

@@ -2,15 +2,13 @@
 ghost use Rattle.std.specs.Prelude.{◌≡◌, ℕ};
 ghost use Rattle.partitions.specs.Parts.{shared_of};
 ghost use Rattle.history.specs.declared.event.Event.TheVariants as event;
-ghost use Rattle.history.specs.History.{step as one_step};
-ghost use Rattle.std.specs.Prelude.{[], ◌∷◌};
 ghost use Rattle.range_moves.specs.declared.order.Moving.TheVariants as moving;
 ghost use Rattle.world.specs.declared.flight.Load.TheVariants.{Move};
 ghost use Rattle.world.specs.declared.flight.Outgoing.TheVariants as outgoing;
 ghost use Rattle.world.specs.Happening.{Happens, SendsOutgoing, moves};
 ghost use Rattle.world.specs.InHand.{EnvelopeInHand, OutgoingInHand};
-ghost use Rattle.world.specs.Together.{IsSound, together};
-ghost use Rattle.world.specs.Worlds.{Advances};
+ghost use Rattle.world.specs.Together.{IsSound};
+ghost use Rattle.world.specs.Worlds.{AdvancesBy};
 
 use crate::flight::{Envelope, Load, Outgoing};
 use crate::homes::home_of_message;
@@ -25,7 +23,7 @@ impl<J: Names> Core<J> {
     pub(crate) fn order(&mut self, order: &MoveOrder) -> EventAnswer
         requires sound { IsSound (shared_of J.opening) self.old }
         ensures sound { IsSound (shared_of J.opening) self.new }
-        ensures advances { Advances (together self.old) (one_step (event.Order order.now) result ∷ []) (together self.new) }
+        ensures advances { AdvancesBy (event.Order order.now) result self.old self.new }
         ensures happens { Happens (event.Order order.now) self.old result self.new }
     {
         let to = order.to;
@@ -44,7 +42,8 @@ impl<J: Names> Core<J> {
     // Begins a move at its destination: fetches each slice of the range from the executor that has it, unless it is here
     // already.
     pub(crate) fn begin_move(&mut self, executor: u32, order: &MoveOrder)
-        requires { EnvelopeInHand (shared_of J.opening) executor (Move (moving.Order order.now)) self.old }
+        requires { EnvelopeInHand (shared_of J.opening) executor
+            (Move (moving.Order order.now)) self.old }
         ensures { self.new ≡ moves executor (moving.Order order.now) self.old }
     {
         let to = order.to;
@@ -64,7 +63,8 @@ impl<J: Names> Core<J> {
     // Takes out the slice of a warehouse, with all actions that wait there, sends it to an executor as a parcel, and records
     // where it went.
     pub(crate) fn take_out(&mut self, executor: u32, w_id: u32, to: u32)
-        requires { EnvelopeInHand (shared_of J.opening) executor (Move (moving.Fetch w_id to)) self.old }
+        requires { EnvelopeInHand (shared_of J.opening) executor
+            (Move (moving.Fetch w_id to)) self.old }
         ensures { self.new ≡ moves executor (moving.Fetch w_id to) self.old }
     {
         self.placements.take_out(w_id, executor, to);
@@ -79,7 +79,8 @@ impl<J: Names> Core<J> {
     // Installs the slice of a warehouse and reports its arrival. Each message that was parked for it is sent to this executor,
     // in the order of parking.
     pub(crate) fn install(&mut self, executor: u32, w_id: u32)
-        requires { EnvelopeInHand (shared_of J.opening) executor (Move (moving.Parcel w_id)) self.old }
+        requires { EnvelopeInHand (shared_of J.opening) executor
+            (Move (moving.Parcel w_id)) self.old }
         ensures { self.new ≡ moves executor (moving.Parcel w_id) self.old }
     {
         self.placements.install(w_id, executor);
@@ -104,8 +105,10 @@ impl<J: Names> Core<J> {
 
     // Records that the slice of a warehouse has arrived. The last arrival of the range ends the move.
     pub(crate) fn arrive(&mut self) -> EventAnswer
-        requires { (executor : ℕ) × OutgoingInHand (shared_of J.opening) executor outgoing.Arrived self.old }
-        ensures { (executor : ℕ) → SendsOutgoing executor outgoing.Arrived self.old result self.new }
+        requires { (executor : ℕ)
+            × OutgoingInHand (shared_of J.opening) executor outgoing.Arrived self.old }
+        ensures { (executor : ℕ)
+            → SendsOutgoing executor outgoing.Arrived self.old result self.new }
     {
         if self.placements.report() {
             EventAnswer::Moved

@@ -19,6 +19,7 @@ use routing::{MOST_EXECUTORS, Routing};
 use schema::{NoMemory, Tables};
 use slices::{cut, open_groups};
 use std::alloc::{AllocError, Global};
+use thiserror::Error;
 use tickets::{GroupSeats, named_all};
 
 /// The agreements of a world's groups and of its log, before they are named. The names of a world are picked from them.
@@ -42,14 +43,16 @@ impl Opening {
 }
 
 /// Why no world was opened.
-#[derive(Clone, Copy, Debug, PartialEq, Eq)]
+#[derive(Clone, Copy, Debug, Drop, Error, PartialEq, Eq)]
 pub enum OpenFault {
     /// There was no memory to check the tables or to build the world.
+    #[error("no memory")]
     NoMemory,
-    /// The number of executors is not 1 to 16.
+    #[error("the number of executors is not 1 to {most}", most = MOST_EXECUTORS)]
     BadExecutors,
     /// The tables break the consistency condition of this number, and none of a lower one: 1 to 10, or 12 (TPC-C 5.11, clause
     /// 3.3.2).
+    #[error("the tables break consistency condition {0}")]
     NotConsistent(u8),
 }
 
@@ -80,7 +83,8 @@ impl<J: Names> World<J> {
         ensures fits { IfOk result (λ world. Fits tables [] (together world)) }
         ensures new { IfOk result (λ world. IsNew tables executors world) }
         ensures consistent { OnOk result (Consistent tables) }
-        ensures bad_executors { IsErrAnd result (λ fault. fault ≡ OpenFault.BadExecutors) ↔ ¬ CanHave executors }
+        ensures bad_executors { IsErrAnd result (λ fault. fault ≡ OpenFault.BadExecutors)
+            ↔ ¬ CanHave executors }
         ensures fault { IfErr result (λ fault. IsFaultOf tables fault) }
     {
         if !(1..=MOST_EXECUTORS).contains(&executors) {

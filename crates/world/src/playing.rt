@@ -1,10 +1,9 @@
 //! Schedules.
-ghost use Rattle.std.specs.Prelude.{◌≡◌, ◌↔◌, ◌≤◌, ◌<◌, ◌+◌, ◌*◌, ◌++◌, [], ◌∷◌, List, IfOk, IsTrue, OnErr, OnOk, length, vec_capacity};
-ghost use Rattle.history.specs.History.{Step};
-ghost use Rattle.history.specs.Schedules.{Begins, EndsQuiet, Follows, IsRoundOf, Plays, Round, outputs_in_round, outputs_of_round, steps_of_round};
+ghost use Rattle.std.specs.Prelude.{◌≡◌, ◌↔◌, ◌≤◌, ◌<◌, ◌+◌, ◌*◌, ◌++◌, [], ◌∷◌, IfOk, IsTrue, OnErr, OnOk, length, vec_capacity};
+ghost use Rattle.history.specs.Schedules.{EndsQuiet, outputs_in_round};
 ghost use Rattle.history.specs.declared.schedule.Scheduled.TheVariants.{Rounds};
-ghost use Rattle.history.specs.declared.schedule.Output.{Output};
-ghost use Rattle.world.specs.Worlds.{ComeAbout, IsAtRest, IsIdleExactly};
+ghost use Rattle.world.specs.Playing.{PlaysAll, PlaysFirst, PlaysItem, PlaysRound};
+ghost use Rattle.world.specs.Worlds.{IsAtRest};
 
 use crate::world::World;
 use commit_log::Names;
@@ -18,9 +17,10 @@ impl<J: Names> World<J> {
     /// If the last output is `Quiet`, no message can be taken and no item can be sent. Returns NoMemory if an allocation for
     /// the outputs fails: then the first of the schedule's events have happened, and nothing else.
     pub fn play(&mut self, alloc: Global, schedule: &[Scheduled]) -> Result<Vec<Output>, NoMemory>
-        ensures plays { IfOk result (λ outputs. (steps : List Step) × (Plays self.old.placements.executors schedule.now outputs.items steps × ComeAbout steps self.old self.new)) }
+        ensures plays { IfOk result (λ outputs.
+            PlaysAll schedule.now outputs.items self.old self.new) }
         ensures rest { IfOk result (λ outputs. EndsQuiet outputs.items → IsAtRest self.new) }
-        ensures err { OnErr result ((steps : List Step) × (Begins self.old.placements.executors schedule.now steps × ComeAbout steps self.old self.new)) }
+        ensures err { OnErr result (PlaysFirst schedule.now self.old self.new) }
     {
         let mut outputs = Vec::with_capacity(alloc, schedule.len())?;
         for item in schedule {
@@ -36,10 +36,10 @@ impl<J: Names> World<J> {
         item: &Scheduled,
         outputs: &mut Vec<Output>,
     ) -> Result<(), NoMemory>
-        ensures follows { OnOk result ((more : List Output) × ((steps : List Step)
-            × ((outputs.new.items ≡ outputs.old.items ++ more) × (Follows self.old.placements.executors item.now more steps × ComeAbout steps self.old self.new)))) }
+        ensures follows { OnOk result
+            (PlaysItem item.now outputs.old.items outputs.new.items self.old self.new) }
         ensures rest { OnOk result (EndsQuiet outputs.new.items → IsAtRest self.new) }
-        ensures err { OnErr result ((steps : List Step) × (Begins self.old.placements.executors (item.now ∷ []) steps × ComeAbout steps self.old self.new)) }
+        ensures err { OnErr result (PlaysFirst (item.now ∷ []) self.old self.new) }
         ensures same { self.new.placements.executors ≡ self.old.placements.executors }
     {
         match item {
@@ -55,10 +55,10 @@ impl<J: Names> World<J> {
     // Plays rounds until one in which nothing can happen, or `MOST_ROUNDS` of them. A round is a Take and a Send of each
     // executor in turn.
     fn run_rounds(&mut self, alloc: Global, outputs: &mut Vec<Output>) -> Result<(), NoMemory>
-        ensures follows { OnOk result ((more : List Output) × ((steps : List Step)
-            × ((outputs.new.items ≡ outputs.old.items ++ more) × (Follows self.old.placements.executors Rounds more steps × ComeAbout steps self.old self.new)))) }
+        ensures follows { OnOk result
+            (PlaysItem Rounds outputs.old.items outputs.new.items self.old self.new) }
         ensures rest { OnOk result (EndsQuiet outputs.new.items → IsAtRest self.new) }
-        ensures err { OnErr result ((steps : List Step) × (Begins self.old.placements.executors (Rounds ∷ []) steps × ComeAbout steps self.old self.new)) }
+        ensures err { OnErr result (PlaysFirst (Rounds ∷ []) self.old self.new) }
         ensures same { self.new.placements.executors ≡ self.old.placements.executors }
     {
         let executors = self.core.placements.executors();
@@ -75,9 +75,9 @@ impl<J: Names> World<J> {
 
     // Plays one round. Returns whether nothing could happen in it. There must be room for its outputs.
     fn run_round(&mut self, alloc: Global, outputs: &mut Vec<Output>) -> bool
-        requires room { length outputs.old.items + 2 * self.old.placements.executors ≤ vec_capacity outputs.old }
-        ensures round { (r : Round) × (IsRoundOf self.old.placements.executors r
-            × ((outputs.new.items ≡ outputs.old.items ++ outputs_of_round r) × (ComeAbout (steps_of_round r) self.old self.new × IsIdleExactly result r))) }
+        requires room { length outputs.old.items + 2 * self.old.placements.executors
+            ≤ vec_capacity outputs.old }
+        ensures round { PlaysRound result outputs.old.items outputs.new.items self.old self.new }
         ensures rest { IsTrue result → IsAtRest self.new }
         ensures same { self.new.placements.executors ≡ self.old.placements.executors }
     {
@@ -96,7 +96,8 @@ impl<J: Names> World<J> {
 
 // Whether nothing could happen so far, nor in this turn.
 fn stays_idle(is_idle: bool, took: &EventAnswer, sent: &EventAnswer) -> bool
-    ensures { IsTrue result ↔ (IsTrue is_idle × ((took.now ≡ EventAnswer.Nothing) × (sent.now ≡ EventAnswer.Nothing))) }
+    ensures { IsTrue result ↔ (IsTrue is_idle
+        × ((took.now ≡ EventAnswer.Nothing) × (sent.now ≡ EventAnswer.Nothing))) }
 {
     is_idle && is_nothing(took) && is_nothing(sent)
 }

@@ -1,6 +1,6 @@
 //! A queue for each executor.
-ghost use Rattle.std.specs.Prelude.{◌≡◌, ◌↔◌, ◌<◌, [], ◌∷◌, ◌++◌, length, replicate, slice_set, slice_index_or, IfOk, IfSome, IfNone, IsTrue};
-ghost use Rattle.world.specs.Queues.{TakesFrom, all_of};
+ghost use Rattle.std.specs.Prelude.{◌≡◌, ◌↔◌, ◌<◌, [], ◌∷◌, length, replicate, IfOk, IfSome, IfNone, IsTrue};
+ghost use Rattle.world.specs.Queues.{TakesFrom, all_of, put_into, queue_of};
 
 use crate::queue::Queue;
 use schema::NoMemory;
@@ -37,7 +37,7 @@ impl<T: Drop, const N: usize> Queues<T, N> {
 
     /// The number of items in an executor's queue; 0 if there is no such executor.
     pub fn waiting(&self, executor: usize) -> usize
-        ensures { result ≡ length (slice_index_or self.now executor []) }
+        ensures { result ≡ length (queue_of executor self.now) }
     {
         match self.queues.get(executor) {
             Some(queue) => queue.len(),
@@ -48,8 +48,8 @@ impl<T: Drop, const N: usize> Queues<T, N> {
     /// Appends an item to an executor's queue.
     pub fn put(&mut self, executor: usize, item: T)
         requires there { executor < length self.old }
-        requires room { length (slice_index_or self.old executor []) < N }
-        ensures { self.new ≡ slice_set self.old executor (slice_index_or self.old executor [] ++ item ∷ []) }
+        requires room { length (queue_of executor self.old) < N }
+        ensures { self.new ≡ put_into executor (item ∷ []) self.old }
     {
         self.queues[executor].put(item);
     }
@@ -57,7 +57,7 @@ impl<T: Drop, const N: usize> Queues<T, N> {
     /// Takes the first item of an executor's queue. Returns `None` if the queue is empty or there is no such executor.
     pub fn take(&mut self, executor: usize) -> Option<T>
         ensures first { IfSome result (λ item. TakesFrom executor item self.old self.new) }
-        ensures none { IfNone result ((slice_index_or self.old executor [] ≡ []) × (self.new ≡ self.old)) }
+        ensures none { IfNone result ((queue_of executor self.old ≡ []) × (self.new ≡ self.old)) }
     {
         self.queues.get_mut(executor)?.take()
     }

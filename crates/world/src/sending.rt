@@ -7,6 +7,7 @@ ghost use Rattle.world.specs.Envelopes.{IsNoPush};
 
 use crate::desk::Active;
 use crate::flight::{Item, Message, Report, SessionAnswer, Transaction};
+use crate::slots::MOST_ACTIVE;
 use crate::world::Parts;
 use commit_log::{Names, Pass};
 use history::EventAnswer;
@@ -99,7 +100,7 @@ impl<J: Names> Parts<J> {
     // Ends a transaction: puts its answer, and for each action that holds claims a message that settles or undoes them.
     pub(crate) fn release(&mut self, over: Release<J>, settle: bool)
         requires room { length self.old.outbox + (length over.held + 1) ≤ 4096 }
-        requires slot { over.slot < 64 }
+        requires slot { over.slot < MOST_ACTIVE }
         ensures { self.new ≡ releasing settle over self.old }
     {
         let Release {

@@ -49,7 +49,8 @@ pub(crate) fn copy_whole<J: Names>(
     shards: &[Shard<J, Carried<J>>],
 ) -> Result<Tables, NoMemory>
     requires { AreSlicesOf catalog.now (map slice_of shards.now) }
-    ensures { IfOk result (λ tables. tables ≡ (joined catalog.now (map slice_of shards.now)).tables) }
+    ensures { IfOk result (λ tables.
+        tables ≡ (joined catalog.now (map slice_of shards.now)).tables) }
 {
     let mut parts = Vec::with_capacity(alloc, shards.len())?;
     for shard in shards {

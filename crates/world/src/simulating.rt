@@ -1,11 +1,7 @@
 //! Simulation of a schedule, event by event.
-ghost use Rattle.std.specs.Prelude.{◌≡◌, ◌≢◌, ◌↔◌, ℕ, [], IfOk, IfErr, IsErrAnd};
-ghost use Rattle.schema.specs.Database.{Database};
-ghost use Rattle.history.specs.Schedules.{EndsQuiet};
+ghost use Rattle.std.specs.Prelude.{◌≡◌, ◌↔◌, IfOk, IfErr, IsErrAnd};
 ghost use Rattle.std.specs.declared.marker.Brand.{Brand};
-ghost use Rattle.world.specs.Openings.{CanHave, IsFaultOf, IsNamedFor, IsNew, Simulates};
-ghost use Rattle.world.specs.Together.{together};
-ghost use Rattle.world.specs.Worlds.{Fits};
+ghost use Rattle.world.specs.Openings.{CanHave, HasTablesIfQuiet, IsFaultOf, IsNamedFor, Simulates, SimulatesFrom};
 
 use crate::opening::{OpenFault, Opening};
 use crate::world::{GatherFault, World};
@@ -42,8 +38,9 @@ pub fn simulate(
     schedule: &[Scheduled],
 ) -> Result<Simulation, OpenFault>
     ensures simulates { IfOk result (Simulates Brand tables executors schedule.now) }
-    ensures quiet { IfOk result (λ s. EndsQuiet s.outputs.items → s.tables ≢ Err GatherFault.NotIdle) }
-    ensures bad_executors { IsErrAnd result (λ fault. fault ≡ OpenFault.BadExecutors) ↔ ¬ CanHave executors }
+    ensures quiet { IfOk result HasTablesIfQuiet }
+    ensures bad_executors { IsErrAnd result (λ fault. fault ≡ OpenFault.BadExecutors)
+        ↔ ¬ CanHave executors }
     ensures fault { IfErr result (λ fault. IsFaultOf tables fault) }
 {
     if !(1..=MOST_EXECUTORS).contains(&executors) {
@@ -63,8 +60,9 @@ fn simulate_from<J: Names>(
 ) -> Result<Simulation, OpenFault>
     requires named { IsNamedFor J.LogNames J.GroupNames tables opening }
     ensures simulates { IfOk result (Simulates J tables executors schedule.now) }
-    ensures quiet { IfOk result (λ s. EndsQuiet s.outputs.items → s.tables ≢ Err GatherFault.NotIdle) }
-    ensures bad_executors { IsErrAnd result (λ fault. fault ≡ OpenFault.BadExecutors) ↔ ¬ CanHave executors }
+    ensures quiet { IfOk result HasTablesIfQuiet }
+    ensures bad_executors { IsErrAnd result (λ fault. fault ≡ OpenFault.BadExecutors)
+        ↔ ¬ CanHave executors }
     ensures fault { IfErr result (λ fault. IsFaultOf tables fault) }
 {
     let world = World::<J>::open(alloc, tables, executors, opening)?;
@@ -78,8 +76,8 @@ fn simulate_in<J: Names>(
     mut world: World<J>,
     schedule: &[Scheduled],
 ) -> Result<Simulation, NoMemory>
-    ensures simulates { IfOk result (λ s. (opening : Database) (executors : ℕ) → IsNew opening executors world → Fits opening [] (together world) → Simulates J opening executors schedule.now s) }
-    ensures quiet { IfOk result (λ s. EndsQuiet s.outputs.items → s.tables ≢ Err GatherFault.NotIdle) }
+    ensures simulates { IfOk result (SimulatesFrom world schedule.now) }
+    ensures quiet { IfOk result HasTablesIfQuiet }
 {
     let outputs = world.play(alloc, schedule)?;
     let (log, tables) = world.close();

@@ -10,9 +10,9 @@ use std::marker::Model;
 /// The greatest number of transactions that can be active at a time.
 pub const MOST_ACTIVE: usize = 64;
 
-/// 64 slots, 0 to 63. Only `open` allocates.
+/// `MOST_ACTIVE` slots, numbered from 0. Only `open` allocates.
 ///
-/// Contracts see a list of 64: the content of each slot, `None` if it is free.
+/// Contracts see a list: the content of each slot, `None` if it is free.
 #[derive(Drop)]
 pub struct Slots<T: Drop> {
     slots: Vec<Option<T>>,
@@ -20,18 +20,19 @@ pub struct Slots<T: Drop> {
 
 impl<T: Drop> Model for Slots<T> {
     ghost use Rattle.std.specs.Prelude.{◌≡◌, List, Option, length};
+    ghost use Rattle.world.specs.declared.slots.TheConstants.{MOST_ACTIVE};
 
     ghost Value = { List (Option T) };
 
     ghost view = { λ s. s.slots.items };
 
-    ghost invariant = { λ s. length s.slots.items ≡ 64 };
+    ghost invariant = { λ s. length s.slots.items ≡ MOST_ACTIVE };
 }
 
 impl<T: Drop> Slots<T> {
-    /// 64 free slots.
+    /// `MOST_ACTIVE` free slots.
     pub fn open(alloc: Global) -> Result<Slots<T>, NoMemory>
-        ensures { IfOk result (λ slots. slots ≡ replicate 64 None) }
+        ensures { IfOk result (λ slots. slots ≡ replicate MOST_ACTIVE None) }
     {
         let mut slots = Vec::with_capacity(alloc, MOST_ACTIVE)?;
         for _ in 0..MOST_ACTIVE {
@@ -40,12 +41,13 @@ impl<T: Drop> Slots<T> {
         Ok(Slots { slots })
     }
 
-    /// The first free slot. Returns `None` exactly if all 64 are taken.
+    /// The first free slot. Returns `None` exactly if all are taken.
     pub fn first_free(&self) -> Option<usize>
         ensures first { result ≡ spec.first_free self.now }
         ensures free { IfSome result (λ slot. slice_get self.now slot ≡ Some None) }
-        ensures room { IfSome result (λ slot. (slot < 64) × (count_active self.now < 64)) }
-        ensures none { IfNone result (count_active self.now ≡ 64) }
+        ensures room { IfSome result
+            (λ slot. (slot < MOST_ACTIVE) × (count_active self.now < MOST_ACTIVE)) }
+        ensures none { IfNone result (count_active self.now ≡ MOST_ACTIVE) }
     {
         first_free_of(&self.slots)
     }
@@ -59,7 +61,7 @@ impl<T: Drop> Slots<T> {
 
     /// Takes the content of a slot and frees the slot.
     pub fn take(&mut self, slot: usize) -> Option<T>
-        requires { slot < 64 }
+        requires { slot < MOST_ACTIVE }
         ensures out { slice_get self.old slot ≡ Some result }
         ensures free { self.new ≡ slice_set self.old slot None }
     {
@@ -68,7 +70,7 @@ impl<T: Drop> Slots<T> {
 
     /// Replaces the content of a slot; `None` frees it.
     pub fn put(&mut self, slot: usize, now: Option<T>)
-        requires { slot < 64 }
+        requires { slot < MOST_ACTIVE }
         ensures { self.new ≡ slice_set self.old slot now }
     {
         self.slots[slot] = now;

@@ -1,8 +1,9 @@
 //! Processing a message.
-ghost use Rattle.std.specs.Prelude.{◌≡◌, ◌≤◌, ◌<◌, ◌+◌, ◌++◌, [], ◌∷◌, All, length};
+ghost use Rattle.std.specs.Prelude.{◌≡◌, ◌≤◌, ◌<◌, ◌+◌, [], ◌∷◌, All, length};
 ghost use Rattle.slices.specs.SliceView.{AreSlicesOf};
 ghost use Rattle.transactions.specs.Works.{CanDo};
 ghost use Rattle.world.specs.Events.{AllTurns, Asks, CanWork, TakesMessage, report_of};
+ghost use Rattle.world.specs.Following.{with_items};
 ghost use Rattle.world.specs.Shards.{HasRoomFor, IsShardOf, slices_in, waiting_in};
 
 use crate::flight::{Act, Carried, Item, Message, Report};
@@ -19,7 +20,8 @@ impl<J: Names> Parts<J> {
         requires warehouses { J.warehouses ≡ self.old.catalog.scale.warehouses }
         requires slices { AreSlicesOf self.old.catalog (slices_in self.old) }
         requires shards { All (IsShardOf J.warehouses) self.old.shards.items }
-        requires room { length self.old.outbox + MOST_ACTIONS + length (waiting_in self.old) < 4096 }
+        requires room { length self.old.outbox + MOST_ACTIONS + length (waiting_in self.old)
+            < 4096 }
         requires can { CanWork self.old.catalog message }
         ensures takes { TakesMessage message self.old self.new }
         ensures shards { All (IsShardOf J.warehouses) self.new.shards.items }
@@ -96,7 +98,7 @@ impl<J: Names> Parts<J> {
     // Puts the report of an action that has run.
     fn put_report(&mut self, place: usize, carried: Carried<J>, ran: Ran<J>)
         requires room { length self.old.outbox < 4096 }
-        ensures { self.new ≡ record self.old { outbox = self.old.outbox ++ report_of place carried ran ∷ [] } }
+        ensures { self.new ≡ with_items (report_of place carried ran ∷ []) self.old }
     {
         let Carried { slot, flow } = carried;
         self.outbox.put(Item::Report(Report {

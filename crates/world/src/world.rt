@@ -1,13 +1,9 @@
-ghost use Rattle.std.specs.Prelude.{◌≡◌, ◌↔◌, ◌≤◌, [], ◌∷◌, length, IfOk, IsErrAnd, IsTrue, OnErr, OnOk};
-ghost use Rattle.schema.specs.Database.{Database};
-ghost use Rattle.std.specs.Prelude.{List};
-ghost use Rattle.history.specs.History.{Step, step as one_step};
+ghost use Rattle.std.specs.Prelude.{◌≡◌, ◌↔◌, ◌≤◌, length, IfOk, IsErrAnd, IsTrue, OnErr, OnOk};
 ghost use Rattle.world.specs.Changes.{ChangesOnly};
-ghost use Rattle.world.specs.Openings.{IsGathered};
+ghost use Rattle.world.specs.Openings.{IsGatheredFrom};
 ghost use Rattle.world.specs.Happening.{Happens};
-ghost use Rattle.world.specs.Slots.{count_active};
 ghost use Rattle.world.specs.Together.{together};
-ghost use Rattle.world.specs.Worlds.{Advances, AllDieOfOlder, AnswersWhoAsked, CannotHappen, Fits, HappenInTurn, IsAtRest, IsBusyExactly, IsNeverStuck, IsOwned, NoneDies, RecordsOfOlder, count_busy, steps_of, tables_now};
+ghost use Rattle.world.specs.Worlds.{Advances, AdvancesBy, AllDieOfOlder, AnswersWhoAsked, AreTablesOf, CannotHappen, HappenInTurn, IsAtRest, IsBusyExactly, IsFullExactly, IsNeverStuck, IsOwned, NoneDiesAlone, RecordsOfOlder, count_busy, steps_of};
 
 use crate::desk::Desk;
 use crate::flight::{Carried, Envelope, Item, Message, Outgoing};
@@ -23,6 +19,7 @@ use schema::{NoMemory, Tables};
 use slices::whole;
 use std::alloc::Global;
 use std::marker::Model;
+use thiserror::Error;
 use transactions::{Shard, claims_are_of_the_footprint};
 
 /// The state that an event works on.
@@ -109,11 +106,11 @@ impl<J: Names> Core<J> {
 }
 
 /// Why no tables can be gathered.
-#[derive(Clone, Copy, Debug, PartialEq, Eq)]
+#[derive(Clone, Copy, Debug, Drop, Error, PartialEq, Eq)]
 pub enum GatherFault {
-    /// A transaction is active, or a move is outstanding.
+    #[error("a transaction is active, or a move is outstanding")]
     NotIdle,
-    /// An allocation failed.
+    #[error("no memory")]
     NoMemory,
 }
 
@@ -133,26 +130,27 @@ impl<J: Names> World<J> {
     /// to a session whose transaction has no answer yet, with that transaction's number and the place of its entry in the log
     /// or the reason of its refusal.
     ///
-    /// Limits: up to 64 transactions are active at a time. A submission is refused as `Busy` exactly if 64 are active and no
-    /// earlier refusal applies.
+    /// Limits: up to `MOST_ACTIVE` transactions are active at a time. A submission is refused as `Busy` exactly if as many are
+    /// active and no earlier refusal applies.
     ///
     /// Waiting: an action in conflict waits if every conflicting holder is younger; otherwise it dies. So there is no deadlock:
     /// while a transaction is active, something can be taken or sent. If only one transaction is active, none of its actions
     /// dies. An action dies of an older active transaction that has a claim on the group named; the group is in both
     /// footprints. A session whose request died gets a group of that request's footprint and the age of an older transaction.
     pub fn step(&mut self, alloc: Global, event: &Event) -> EventAnswer
-        ensures advances { Advances (together self.old) (one_step event.now result ∷ []) (together self.new) }
+        ensures advances { AdvancesBy event.now result self.old self.new }
         ensures happens { Happens event.now self.old result self.new }
         ensures changes { ChangesOnly event.now result self.old self.new }
         ensures nothing { (result ≡ EventAnswer.Nothing) ↔ CannotHappen event.now self.old }
         ensures busy { IsBusyExactly event.now self.old result }
+        ensures full { IsFullExactly event.now self.old result }
         ensures asked { AnswersWhoAsked event.now self.old result }
         ensures died { RecordsOfOlder self.old result }
         ensures dies { AllDieOfOlder event.now self.old self.new }
         ensures executors { self.new.placements.executors ≡ self.old.placements.executors }
         ensures owned { IsOwned self.new }
         ensures never_stuck { IsNeverStuck self.new }
-        ensures alone { (opening : Database) (history : List Step) → Fits opening history (together self.old) → count_active self.old.parts.desk.active ≡ 1 → NoneDies event.now self.old self.new }
+        ensures alone { NoneDiesAlone event.now self.old self.new }
     {
         claims_are_of_the_footprint();
         self.core.placements.are_kept();
@@ -162,8 +160,10 @@ impl<J: Names> World<J> {
     /// Plays events in order and returns their answers. The room for the answers is allocated first: after NoMemory nothing has
     /// happened.
     pub fn run(&mut self, alloc: Global, events: &[Event]) -> Result<Vec<EventAnswer>, NoMemory>
-        ensures advances { IfOk result (λ answers. Advances (together self.old) (steps_of events.now answers.items) (together self.new)) }
-        ensures happen { IfOk result (λ answers. HappenInTurn (steps_of events.now answers.items) self.old self.new) }
+        ensures advances { IfOk result (λ answers. Advances
+            (together self.old) (steps_of events.now answers.items) (together self.new)) }
+        ensures happen { IfOk result (λ answers.
+            HappenInTurn (steps_of events.now answers.items) self.old self.new) }
         ensures count { IfOk result (λ answers. length answers.items ≡ length events.now) }
         ensures never_stuck { OnOk result (IsNeverStuck self.new) }
         ensures err { OnErr result (self.new ≡ self.old) }
@@ -182,8 +182,9 @@ impl<J: Names> World<J> {
     /// is outstanding, which can't be if no message can be taken and no item can be sent. Returns NoMemory if an allocation
     /// fails.
     pub fn gather(&self, alloc: Global) -> Result<Tables, GatherFault>
-        ensures tables { IfOk result (λ tables. (opening : Database) (history : List Step) → Fits opening history (together self.now) → tables ≡ tables_now opening self.now.parts.log) }
-        ensures idle { IsErrAnd result (λ fault. fault ≡ GatherFault.NotIdle) ↔ (1 ≤ count_busy self.now) }
+        ensures tables { IfOk result (AreTablesOf self.now) }
+        ensures idle { IsErrAnd result (λ fault. fault ≡ GatherFault.NotIdle)
+            ↔ (1 ≤ count_busy self.now) }
         ensures at_rest { IsAtRest self.now → count_busy self.now ≡ 0 }
     {
         if !self.core.is_idle() {
@@ -201,8 +202,9 @@ impl<J: Names> World<J> {
     /// NoMemory if an allocation fails. The log is returned in each case.
     pub fn close(self) -> (Vec<Entry>, Result<Tables, GatherFault>)
         ensures log { result.0.items ≡ self.parts.log }
-        ensures tables { (opening : Database) (history : List Step) → Fits opening history (together self) → IsGathered (count_busy self) (tables_now opening self.parts.log) result.1 }
-        ensures idle { IsErrAnd result.1 (λ fault. fault ≡ GatherFault.NotIdle) ↔ (1 ≤ count_busy self) }
+        ensures tables { IsGatheredFrom self result.1 }
+        ensures idle { IsErrAnd result.1 (λ fault. fault ≡ GatherFault.NotIdle)
+            ↔ (1 ≤ count_busy self) }
         ensures at_rest { IsAtRest self → count_busy self ≡ 0 }
         ensures never_stuck { IsNeverStuck self }
     {

@@ -1,5 +1,5 @@
 //! Options and arguments that several commands have.
-ghost use Rattle.std.specs.Prelude.{◌≡◌, ◌≤◌, ◌↔◌, [], codes, option_map, IfOk, IfErr, IsTrue, None, Ok};
+ghost use Rattle.std.specs.Prelude.{◌≡◌, ◌≤◌, ◌↔◌, [], codes, option_copied, IfOk, IfErr, IsTrue, None, Ok};
 ghost use Rattle.clap.specs.Words.{found_of};
 ghost use Rattle.command_line.specs.CommandLine.{alone, argument, arguments, command, flag, option, IsArgument, IsCommand};
 ghost use Rattle.command_line.specs.Mistakes.{AreOnePath, IsMomentFault, IsNumberFault, IsNumberWord};
@@ -128,7 +128,7 @@ pub fn executors<'a>(alloc: Global) -> Arg<'a>
 
 /// Whether both paths are there and are one path.
 pub fn same(one: Option<&str>, other: Option<&str>) -> bool
-    ensures { IsTrue result ↔ AreOnePath (option_map (λ path. path.now) one.entry) (option_map (λ path. path.now) other.entry) }
+    ensures { IsTrue result ↔ AreOnePath (option_copied one.entry) (option_copied other.entry) }
 {
     match (one, other) {
         (Some(one), Some(other)) => are_one(one, other),
@@ -158,9 +158,10 @@ pub fn number(
     requires { (low ≤ default) × (default ≤ high) }
     ensures limits { IfOk result (λ number. (low ≤ number) × (number ≤ high)) }
     ensures absent { words.entry ≡ None → result ≡ Ok default }
-    ensures value { IfOk result (IsNumber (option_map (λ word. word.now) words.entry) default) }
-    ensures fits { IfOk result (λ number. IsNumberWord low high (option_map (λ word. word.now) words.entry)) }
-    ensures mistake { IfErr result (IsNumberFault option.entry.now low high (option_map (λ word. word.now) words.entry)) }
+    ensures value { IfOk result (IsNumber (option_copied words.entry) default) }
+    ensures fits { IfOk result (λ number. IsNumberWord low high (option_copied words.entry)) }
+    ensures mistake { IfErr result
+        (IsNumberFault option.entry.now low high (option_copied words.entry)) }
 {
     let Some(words) = words else {
         return Ok(default);
@@ -174,8 +175,8 @@ pub fn number(
 /// The moment of an option, or the beginning of 2024 if the option is absent. Returns `UsageFault::Moment` if its word is
 /// not a moment of the years 1970 to 9999.
 pub fn moment(words: Option<&str>) -> Result<Moment, UsageFault>
-    ensures value { IfOk result (IsMoment (option_map (λ word. word.now) words.entry)) }
-    ensures mistake { IfErr result (IsMomentFault (option_map (λ word. word.now) words.entry)) }
+    ensures value { IfOk result (IsMoment (option_copied words.entry)) }
+    ensures mistake { IfErr result (IsMomentFault (option_copied words.entry)) }
 {
     match words {
         None => Ok(Moment::new(1_704_067_200)),

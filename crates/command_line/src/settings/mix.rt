@@ -1,4 +1,4 @@
-ghost use Rattle.std.specs.Prelude.{◌≡◌, ◌≢◌, ◌<◌, ◌≤◌, ◌∷◌, [], ℕ, codes, option_map, slice_index, IfOk, IfErr, IfSome, None, OnOk};
+ghost use Rattle.std.specs.Prelude.{◌≡◌, ◌≢◌, ◌<◌, ◌≤◌, ◌∷◌, [], ℕ, codes, option_copied, slice_index, IfOk, IfErr, IfSome, None, OnOk};
 ghost use Rattle.std.specs.List.{Contains};
 ghost use Rattle.command_line.specs.Mistakes.{IsMixFault, IsMixWord};
 ghost use Rattle.command_line.specs.MixText.{cards_text, IsMixText};
@@ -14,9 +14,10 @@ const MOST_CARDS: u64 = 1_000;
 /// The mix of an option, or that of the benchmark if the option is absent. Returns `UsageFault::Mix` if its word is the
 /// text of no mix.
 pub fn mix(words: Option<&str>) -> Result<Mix, UsageFault>
-    ensures value { IfOk result (IsMixOf (option_map (λ word. word.now) words.entry)) }
-    ensures fits { OnOk result (IsMixWord (option_map (λ word. word.now) words.entry)) }
-    ensures mistake { IfErr result (λ fault. (fault ≡ UsageFault.Mix) × IsMixFault (option_map (λ word. word.now) words.entry)) }
+    ensures value { IfOk result (IsMixOf (option_copied words.entry)) }
+    ensures fits { OnOk result (IsMixWord (option_copied words.entry)) }
+    ensures mistake { IfErr result
+        (λ fault. (fault ≡ UsageFault.Mix) × IsMixFault (option_copied words.entry)) }
 {
     match words {
         None => Mix::checked_new(45, 43, 4, 4, 4).ok_or(UsageFault::Mix),
@@ -52,8 +53,11 @@ fn parsed(words: &str) -> Option<Mix>
 
 // The kind's place, from 0, and how many cards it has.
 fn cards(word: &str) -> Option<(usize, u32)>
-    ensures some { IfSome result (λ one. (one.0 < 5) × (one.1 ≤ 1000) × (word.now ≡ cards_text (slice_index (codes "NPODL") one.0, one.1))) }
-    ensures none { result ≡ None → (letter count : ℕ) → Contains (codes "NPODL") letter → count ≤ 1000 → word.now ≢ cards_text (letter, count) }
+    ensures some { IfSome result (λ one. (one.0 < 5) × (one.1 ≤ 1000)
+        × (word.now ≡ cards_text (slice_index (codes "NPODL") one.0, one.1))) }
+    ensures none { result ≡ None
+        → (letter count : ℕ) → Contains (codes "NPODL") letter → count ≤ 1000
+        → word.now ≢ cards_text (letter, count) }
 {
     let (letter, count) = word.split_once('=')?;
     let place = place_of(letter)?;
@@ -65,8 +69,10 @@ fn cards(word: &str) -> Option<(usize, u32)>
 
 // The place, from 0, of the kind with that letter of requests.
 fn place_of(letter: &str) -> Option<usize>
-    ensures some { IfSome result (λ place. (place < 5) × (letter.now ≡ slice_index (codes "NPODL") place ∷ [])) }
-    ensures none { result ≡ None → (known : ℕ) → Contains (codes "NPODL") known → letter.now ≢ known ∷ [] }
+    ensures some { IfSome result
+        (λ place. (place < 5) × (letter.now ≡ slice_index (codes "NPODL") place ∷ [])) }
+    ensures none { result ≡ None
+        → (known : ℕ) → Contains (codes "NPODL") known → letter.now ≢ known ∷ [] }
 {
     match letter {
         "N" => Some(0),

@@ -5,13 +5,13 @@ ghost use Rattle.command_line.specs.Mistakes.{IsRunFault};
 ghost use Rattle.command_line.specs.Settings.{IsRunnable};
 ghost use Rattle.command_line.specs.Words.{AsksToRun};
 
-use crate::settings::MOST_SCRIPTS;
 use crate::settings::arguments::{
     arguments, counted, data, executors, log, named, number, option, quiet, same, summary, word,
 };
 use crate::usage::UsageFault;
 use clap::{ArgMatches, Command};
 use routing::MOST_EXECUTORS;
+use rows::SESSIONS;
 use std::alloc::{AllocError, Global};
 
 // The most times that a request is tried that died or ran out of memory.
@@ -45,7 +45,7 @@ pub fn read<'a>(alloc: Global, matches: &ArgMatches<'a>) -> Result<RunSettings<'
     ensures mistake { IfErr result (IsRunFault (found_of matches.now)) }
 {
     let scripts = matches.get_strs("SCRIPT").unwrap_or(&[]);
-    if !(1..=MOST_SCRIPTS).contains(&scripts.len()) {
+    if !(1..=SESSIONS).contains(&scripts.len()) {
         return Err(UsageFault::ScriptCount);
     }
     let log = matches.get_str("log");

@@ -1,4 +1,4 @@
-ghost use Rattle.std.specs.Prelude.{◌≡◌, codes, false, map, option_map, IfOk, IfErr, IsTrue, OnOk};
+ghost use Rattle.std.specs.Prelude.{◌≡◌, codes, false, map, option_copied, IfOk, IfErr, IsTrue, OnOk};
 ghost use Rattle.clap.specs.Words.{found_of};
 ghost use Rattle.command_line.specs.CommandLine.{alone, script_command, IsCommand};
 ghost use Rattle.command_line.specs.Mistakes.{AreFiles, HasPathTwice, IsFilesFault, IsNumberFault, IsNumberWord, IsOptionFault, IsRemoteFault, IsRemoteWord, IsScriptFault};
@@ -6,14 +6,13 @@ ghost use Rattle.command_line.specs.Settings.{HasFiles};
 ghost use Rattle.command_line.specs.Words.{all_words, AsksForScripts, IsHome, IsRemote};
 
 use crate::paths::are_one;
-use crate::settings::MOST_SCRIPTS;
 use crate::settings::arguments::{
     arguments, counted, data, moment, named, number, option, quiet, word,
 };
 use crate::settings::mix::mix;
 use crate::usage::UsageFault;
 use clap::{ArgMatches, Command};
-use rows::{MOST_ENTRIES, MOST_WAREHOUSES};
+use rows::{MOST_ENTRIES, MOST_WAREHOUSES, SESSIONS};
 use schema::Moment;
 use std::alloc::{AllocError, Global};
 use workload::Mix;
@@ -58,7 +57,7 @@ fn check_files(files: &[&str]) -> Result<(), UsageFault>
     ensures fit { OnOk result (AreFiles (map (λ file. file.now) files.now)) }
     ensures mistake { IfErr result (IsFilesFault (map (λ file. file.now) files.now)) }
 {
-    if !(1..=MOST_SCRIPTS).contains(&files.len()) {
+    if !(1..=SESSIONS).contains(&files.len()) {
         return Err(UsageFault::FileCount);
     }
     if has_twice(files) {
@@ -73,7 +72,8 @@ fn with_files<'a>(
     matches: &ArgMatches<'a>,
     files: Vec<&'a str>,
 ) -> Result<ScriptSettings<'a>, UsageFault>
-    requires { map (λ path. path.now) files.items ≡ all_words (found_of matches.now) (codes "FILE") }
+    requires { map (λ path. path.now) files.items
+        ≡ all_words (found_of matches.now) (codes "FILE") }
     ensures same { IfOk result (λ settings. settings.files.items ≡ files.entry.items) }
     ensures asked { IfOk result (AsksForScripts (found_of matches.now)) }
     ensures mistake { IfErr result (IsOptionFault (found_of matches.now)) }
@@ -114,9 +114,10 @@ fn has_twice(files: &[&str]) -> bool
 
 // The home warehouse of an option.
 fn home(words: Option<&str>) -> Result<Option<u32>, UsageFault>
-    ensures value { IfOk result (IsHome (option_map (λ word. word.now) words.entry)) }
-    ensures fits { OnOk result (IsNumberWord 1 MOST_WAREHOUSES (option_map (λ word. word.now) words.entry)) }
-    ensures mistake { IfErr result (IsNumberFault (codes "--home") 1 MOST_WAREHOUSES (option_map (λ word. word.now) words.entry)) }
+    ensures value { IfOk result (IsHome (option_copied words.entry)) }
+    ensures fits { OnOk result (IsNumberWord 1 MOST_WAREHOUSES (option_copied words.entry)) }
+    ensures mistake { IfErr result
+        (IsNumberFault (codes "--home") 1 MOST_WAREHOUSES (option_copied words.entry)) }
 {
     match words {
         None => Ok(None),
@@ -126,9 +127,10 @@ fn home(words: Option<&str>) -> Result<Option<u32>, UsageFault>
 
 // Whether other warehouses take part. They do if the option is absent.
 fn remote(words: Option<&str>) -> Result<bool, UsageFault>
-    ensures value { IfOk result (IsRemote (option_map (λ word. word.now) words.entry)) }
-    ensures fits { OnOk result (IsRemoteWord (option_map (λ word. word.now) words.entry)) }
-    ensures mistake { IfErr result (λ fault. (fault ≡ UsageFault.Remote) × IsRemoteFault (option_map (λ word. word.now) words.entry)) }
+    ensures value { IfOk result (IsRemote (option_copied words.entry)) }
+    ensures fits { OnOk result (IsRemoteWord (option_copied words.entry)) }
+    ensures mistake { IfErr result
+        (λ fault. (fault ≡ UsageFault.Remote) × IsRemoteFault (option_copied words.entry)) }
 {
     match words {
         None | Some("on") => Ok(true),

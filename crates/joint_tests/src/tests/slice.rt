@@ -56,7 +56,8 @@ fn claimed<J: GroupNames>(
 ) -> Result<Claim<J>, Refused>
     requires known { IsGroupOf J.warehouses group }
     requires home { warehouse_of group ≡ slice.old.home }
-    ensures claim { IfOk result (λ claim. claim ≡ fresh by group Exclusive (content slice.old.tables group)) }
+    ensures claim { IfOk result
+        (λ claim. claim ≡ fresh by group Exclusive (content slice.old.tables group)) }
     ensures tables { slice.new.tables ≡ slice.old.tables }
     ensures home { slice.new.home ≡ slice.old.home }
 {

@@ -117,7 +117,8 @@ fn read_after_undo<J: GroupNames>(
 ) -> Result<Vec<Claim<J>>, NoMemory>
     requires known { J.warehouses ≡ 1 }
     requires here { table.old.w_id ≡ 1 }
-    ensures { IfOk result (λ read. All (Records (left_in table.old.stands (History 1 10))) read.items) }
+    ensures { IfOk result (λ read.
+        All (Records (left_in table.old.stands (History 1 10))) read.items) }
 {
     let want = one(PAYMENTS, Mode::Exclusive);
     let Asked::Granted(mut claims) = table.ask(alloc.clone()?, WRITER, &[want])? else {

@@ -1,4 +1,5 @@
 ghost use Rattle.std.specs.Prelude.{◌≡◌, ◌++◌, ◌↔◌, ◌<◌, ◌≤◌, ◌+◌, [], length, map, slice_get, IfOk, IfNone, IfSome, IsSome, None, Some, option_to_list};
+ghost use Rattle.rendezvous.specs.Picks.{topic_of};
 ghost use Rattle.rendezvous.specs.Stages.{gave, took};
 ghost use Rattle.rendezvous.specs.Meetings.{convener_view, place_view, places_view, receipt_of, results_view, round_id, stage_of, without_next, AllSuit, AreOfAll, GotAll, IsPlaceOf, ArePlacesOf};
 ghost use Rattle.rendezvous.specs.Rule.{takers};
@@ -6,10 +7,10 @@ ghost use Rattle.rendezvous.specs.SharedReports.{IfLast, OnNotLast};
 
 use crate::shared::place::{Place, Receipt};
 use crate::shared::results::{Reported, Results};
-use crate::shared::rule::{First, Topic};
+use crate::shared::rule::{First, Picked, Topic};
 use crate::shared::steps::{self, Board, Chair};
 use std::alloc::{AllocError, Global};
-use std::marker::{Brand, Model};
+use std::marker::Model;
 
 /// A meeting that several threads share. In each of its rounds several places report, each once; the last one to report gets all
 /// reports. No lock is taken: a report is one atomic step on a count. Only `open` allocates, and no call waits.
@@ -87,15 +88,15 @@ impl<R: Drop, T: Topic<R>> Meeting<R, T> {
         Ok((Meeting { board }, Convener { seat }))
     }
 
-    /// Convenes a round of this many places about this. Returns its places.
-    pub fn convene(&self, convener: Convener<R, T>, places: usize, topic: &T) -> Places<R, T>
+    /// Convenes a round of this many places. Returns its places. What the round is about is picked by the caller's proof, as P.
+    pub fn convene<P: Picked<T>>(&self, convener: Convener<R, T>, places: usize) -> Places<R, T>
         requires here { convener.meeting ≡ self.now }
         requires some { 1 ≤ places }
         requires room { places ≤ self.now.slots }
-        ensures { result ≡ places_view (round_id self.now (convener.round + 1) places (Some topic.now)) 0 places }
+        ensures { result ≡ places_view (round_id self.now (convener.round + 1) places (topic_of P.topic)) 0 places }
     {
         let Convener { mut seat } = convener;
-        steps::convene::<R, T, Brand>(&self.board, &mut seat, places, topic);
+        steps::convene::<R, T, P>(&self.board, &mut seat, places);
         Places {
             seat,
             places,

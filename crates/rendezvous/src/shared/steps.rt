@@ -36,7 +36,6 @@ pub fn convene<R: Drop, T: Topic<R>, J: Picked<T>>(
     board: &Board<R, T>,
     seat: &mut Chair<R, T>,
     places: usize,
-    _topic: &T,
 )
     requires seat { IsAt board.now.shared.table_id seat.old }
     requires convenes { seat.old.me.0.convenes ≡ true }

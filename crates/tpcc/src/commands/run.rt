@@ -82,7 +82,8 @@ impl<'a, R: Files + AllocGlobal> RunFiles<'a, R> {
         opener: &Opener<'a, R>,
         settings: &'a RunSettings<'a>,
     ) -> Result<RunFiles<'a, R>, CommandFault<'a>>
-        ensures scripts { IfOk result (λ files. length files.scripts.items ≡ length settings.now.scripts.items) }
+        ensures scripts { IfOk result
+            (λ files. length files.scripts.items ≡ length settings.now.scripts.items) }
         ensures moves { IfOk result (λ files. is_some files.moves ≡ is_some settings.now.moves) }
         ensures log { IfOk result (λ files. is_some files.log ≡ is_some settings.now.log) }
         ensures tables { IfOk result (λ files. is_some files.tables ≡ is_some settings.now.tables) }

@@ -55,7 +55,8 @@ impl<'a, R: Files + AllocGlobal> ScriptFiles<'a, R> {
         opener: &Opener<'a, R>,
         settings: &'a ScriptSettings<'a>,
     ) -> Result<ScriptFiles<'a, R>, CommandFault<'a>>
-        ensures { IfOk result (λ files. length files.scripts.items ≡ length settings.now.files.items) }
+        ensures { IfOk result
+            (λ files. length files.scripts.items ≡ length settings.now.files.items) }
     {
         let data = opener.open(settings.data)?;
         let mut scripts = Vec::new(opener.rt.alloc());

@@ -78,7 +78,8 @@ impl<'a, R: Files + AllocGlobal> SimFiles<'a, R> {
         settings: &SimSettings<'a>,
     ) -> Result<SimFiles<'a, R>, CommandFault<'a>>
         ensures log { IfOk result (λ files. is_some files.log ≡ is_some settings.now.log) }
-        ensures picture { IfOk result (λ files. is_some files.picture ≡ is_some settings.now.picture) }
+        ensures picture { IfOk result
+            (λ files. is_some files.picture ≡ is_some settings.now.picture) }
         ensures tables { IfOk result (λ files. is_some files.tables ≡ is_some settings.now.tables) }
     {
         let data = opener.open(settings.data)?;

@@ -1,15 +1,11 @@
 //! The customers of a Delivery: they are credited with the amounts of the delivered orders (clause 2.7.4.2).
-ghost use Rattle.std.specs.Prelude.{◌≡◌, ◌≢◌, ◌≤◌, ◌+◌, ◌+ℤ◌, [], ◌∷◌, length, map, pos, IfOk, OnErr};
-ghost use Rattle.std.specs.List.{range_with_len};
-ghost use Rattle.requests.specs.declared.group.Group.{Group as AnyGroup};
-ghost use Rattle.requests.specs.declared.group.Group.TheVariants as group;
+ghost use Rattle.std.specs.Prelude.{◌≡◌, ◌≤◌, ◌+◌, ◌+ℤ◌, [], ◌∷◌, length, pos, IfOk, OnErr};
 ghost use Rattle.groups.specs.Content.{content};
-ghost use Rattle.groups.specs.Footprint.{exclusively};
 ghost use Rattle.tickets.specs.Claims.{leaving};
 ghost use Rattle.slices.specs.SliceView.{SliceKeeps};
 ghost use Rattle.machine.specs.Delivery.{customer_delivered};
-ghost use Rattle.transactions.specs.Granted.{AreGrantedFor, AreLeft, IsExclusiveOn, IsFresh};
-ghost use Rattle.transactions.specs.Delivery.{AreCustomersCredited, FindsCredited, FindsCustomer, ten};
+ghost use Rattle.transactions.specs.Granted.{AreGrantedFor, AreLeft, IsExclusiveOn, IsFresh, group_of_customers};
+ghost use Rattle.transactions.specs.Delivery.{AreCustomersCredited, FindsCredited, FindsCustomer, SameElsewhere, districts_from, ten, wants_of_customers};
 
 use super::{CustomersCredited, OrderDelivered};
 use amounts::Cents;
@@ -25,10 +21,11 @@ pub fn credit_customers<J: GroupNames>(
     w_id: u32,
     delivered: &[Option<OrderDelivered>; 10],
 ) -> Result<CustomersCredited, NoMemory>
-    requires granted { AreGrantedFor (map (λ k. exclusively (group.Customers w_id k)) ten) customers.old }
+    requires granted { AreGrantedFor (wants_of_customers w_id ten) customers.old }
     requires home { w_id ≡ slice.old.home }
     ensures kept { SliceKeeps customers.old slice.old customers.new slice.new }
-    ensures credited { IfOk result (λ found. AreCustomersCredited w_id ten delivered.now found customers.new) }
+    ensures credited { IfOk result (λ found.
+        AreCustomersCredited w_id ten delivered.now found customers.new) }
     ensures left { AreLeft customers.old customers.new }
     ensures err { OnErr result ((slice.new ≡ slice.old) × (customers.new ≡ customers.old)) }
 {
@@ -43,11 +40,13 @@ fn credit_from<J: GroupNames>(
     d_id: u32,
     delivered: &[Option<OrderDelivered>],
 ) -> Result<CustomersCredited, NoMemory>
-    requires granted { AreGrantedFor (map (λ k. exclusively (group.Customers w_id k)) (range_with_len d_id (length delivered.now))) customers.old }
+    requires granted { AreGrantedFor
+        (wants_of_customers w_id (districts_from d_id delivered.now)) customers.old }
     requires home { w_id ≡ slice.old.home }
     requires last { d_id + length delivered.now ≤ 11 }
     ensures kept { SliceKeeps customers.old slice.old customers.new slice.new }
-    ensures credited { IfOk result (λ found. FindsCredited w_id (range_with_len d_id (length delivered.now)) delivered.now found customers.new) }
+    ensures credited { IfOk result (λ found. FindsCredited w_id (districts_from d_id delivered.now)
+        delivered.now found customers.new) }
     ensures left { AreLeft customers.old customers.new }
     ensures err { OnErr result ((slice.new ≡ slice.old) × (customers.new ≡ customers.old)) }
 {
@@ -77,7 +76,7 @@ fn credit<J: GroupNames>(
     home: DistrictKey,
     one: Option<OrderDelivered>,
 ) -> Result<CustomersCredited, NoMemory>
-    requires claim { IsExclusiveOn (group.Customers home.w_id home.d_id) customers.old }
+    requires claim { IsExclusiveOn (group_of_customers home) customers.old }
     requires fresh { IsFresh customers.old }
     requires home { home.w_id ≡ slice.old.home }
     ensures kept { SliceKeeps (customers.old ∷ []) slice.old (customers.new ∷ []) slice.new }
@@ -85,7 +84,7 @@ fn credit<J: GroupNames>(
     ensures customers { customers.new ≡ leaving customers.old customers.new.left }
     ensures was { content slice.old.tables customers.old.group ≡ customers.old.left }
     ensures rows { slice.new ≡ record slice.old { tables = slice.new.tables } }
-    ensures elsewhere { (other : AnyGroup) → other ≢ customers.old.group → content slice.new.tables other ≡ content slice.old.tables other }
+    ensures elsewhere { SameElsewhere customers.old.group slice.old.tables slice.new.tables }
     ensures err { OnErr result ((slice.new ≡ slice.old) × (customers.new ≡ customers.old)) }
 {
     slice.look(customers);

@@ -1,17 +1,13 @@
 //! The orders of a Delivery: each district's oldest new order is delivered (clause 2.7.4.2).
-ghost use Rattle.std.specs.Prelude.{◌≡◌, ◌≢◌, ◌≤◌, ◌+◌, [], ◌∷◌, Some, length, map, OnErr, OnOk, IfOk};
-ghost use Rattle.std.specs.List.{range_with_len};
+ghost use Rattle.std.specs.Prelude.{◌≡◌, ◌≤◌, ◌+◌, [], ◌∷◌, Some, length, OnErr, OnOk, IfOk};
 ghost use Rattle.partitions.specs.Parts.{IsPart};
 ghost use Rattle.schema.specs.OrderRows.{oldest_new_order};
-ghost use Rattle.requests.specs.declared.group.Group.{Group as AnyGroup};
-ghost use Rattle.requests.specs.declared.group.Group.TheVariants as group;
 ghost use Rattle.groups.specs.Content.{content};
-ghost use Rattle.groups.specs.Footprint.{exclusively};
 ghost use Rattle.tickets.specs.Claims.{leaving};
 ghost use Rattle.slices.specs.SliceView.{SliceKeeps};
 ghost use Rattle.machine.specs.Delivery.{HasCarrier, amount_of};
-ghost use Rattle.transactions.specs.Granted.{AreGrantedFor, AreLeft, IsExclusiveOn, IsFresh};
-ghost use Rattle.transactions.specs.Delivery.{AreOrdersDelivered, IsOldestOrder, IsOrderDelivered, ten};
+ghost use Rattle.transactions.specs.Granted.{AreGrantedFor, AreLeft, IsExclusiveOn, IsFresh, group_of_orders};
+ghost use Rattle.transactions.specs.Delivery.{AreOrdersDelivered, IsOldestOrder, IsOrderDelivered, SameElsewhere, districts_from, ten, wants_of_orders};
 
 use super::{Delivered, OrderDelivered};
 use partitions::Partition;
@@ -27,11 +23,12 @@ pub fn deliver_orders<J: GroupNames>(
     orders: &mut [Claim<J>],
     delivery: &Delivery,
 ) -> Result<Delivered, NoMemory>
-    requires granted { AreGrantedFor (map (λ k. exclusively (group.Orders delivery.now.w_id k)) ten) orders.old }
+    requires granted { AreGrantedFor (wants_of_orders delivery.now.w_id ten) orders.old }
     requires home { delivery.now.w_id ≡ slice.old.home }
     requires carrier { HasCarrier delivery.now }
     ensures kept { SliceKeeps orders.old slice.old orders.new slice.new }
-    ensures delivered { IfOk result (λ found. AreOrdersDelivered delivery.now ten found orders.new) }
+    ensures delivered { IfOk result (λ found.
+        AreOrdersDelivered delivery.now ten found orders.new) }
     ensures left { AreLeft orders.old orders.new }
     ensures err { OnErr result ((slice.new ≡ slice.old) × (orders.new ≡ orders.old)) }
 {
@@ -48,12 +45,15 @@ fn deliver_from<J: GroupNames>(
     d_id: u32,
     delivered: &mut [Option<OrderDelivered>],
 ) -> Result<(), NoMemory>
-    requires granted { AreGrantedFor (map (λ k. exclusively (group.Orders delivery.now.w_id k)) (range_with_len d_id (length delivered.old))) orders.old }
+    requires granted { AreGrantedFor
+        (wants_of_orders delivery.now.w_id (districts_from d_id delivered.old)) orders.old }
     requires home { delivery.now.w_id ≡ slice.old.home }
     requires carrier { HasCarrier delivery.now }
     requires last { d_id + length delivered.old ≤ 11 }
     ensures kept { SliceKeeps orders.old slice.old orders.new slice.new }
-    ensures delivered { OnOk result (AreOrdersDelivered delivery.now (range_with_len d_id (length delivered.old)) delivered.new orders.new) }
+    ensures delivered { OnOk result
+        (AreOrdersDelivered delivery.now (districts_from d_id delivered.old) delivered.new
+        orders.new) }
     ensures left { AreLeft orders.old orders.new }
     ensures err { OnErr result ((slice.new ≡ slice.old) × (orders.new ≡ orders.old)) }
 {
@@ -84,16 +84,17 @@ fn deliver_oldest<J: GroupNames>(
     home: DistrictKey,
     delivery: &Delivery,
 ) -> Result<Option<OrderDelivered>, NoMemory>
-    requires claim { IsExclusiveOn (group.Orders home.w_id home.d_id) orders.old }
+    requires claim { IsExclusiveOn (group_of_orders home) orders.old }
     requires fresh { IsFresh orders.old }
     requires home { home.w_id ≡ slice.old.home }
     requires carrier { HasCarrier delivery.now }
     ensures kept { SliceKeeps (orders.old ∷ []) slice.old (orders.new ∷ []) slice.new }
-    ensures delivered { IfOk result (λ one. IsOrderDelivered delivery.now.carrier_id delivery.now.moment home one orders.new) }
+    ensures delivered { IfOk result (λ one.
+        IsOrderDelivered delivery.now.carrier_id delivery.now.moment home one orders.new) }
     ensures orders { orders.new ≡ leaving orders.old orders.new.left }
     ensures was { content slice.old.tables orders.old.group ≡ orders.old.left }
     ensures rows { slice.new ≡ record slice.old { tables = slice.new.tables } }
-    ensures elsewhere { (other : AnyGroup) → other ≢ orders.old.group → content slice.new.tables other ≡ content slice.old.tables other }
+    ensures elsewhere { SameElsewhere orders.old.group slice.old.tables slice.new.tables }
     ensures err { OnErr result ((slice.new ≡ slice.old) × (orders.new ≡ orders.old)) }
 {
     slice.look(orders);

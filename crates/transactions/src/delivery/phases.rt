@@ -79,7 +79,8 @@ fn gather_orders(delivery: Delivery, found: Vec<crate::Found>) -> Gathered
 // The step after the second phase: the Delivery is carried out, or rolled back.
 fn gather_customers(delivery: Delivery, delivered: Delivered, found: Vec<crate::Found>) -> Gathered
     requires { HasFound (any.Delivery (Progress.CreditCustomers delivery delivered)) found.items }
-    ensures { FollowsFrom (any.Delivery (Progress.CreditCustomers delivery delivered)) found.items result }
+    ensures { FollowsFrom (any.Delivery (Progress.CreditCustomers delivery delivered)) found.items
+        result }
 {
     match customers_found(found) {
         CustomersCredited::Credited => {

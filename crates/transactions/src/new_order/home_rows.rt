@@ -1,9 +1,10 @@
 //! The rows of a New-Order at its home: its number, its customer, and the order itself.
 ghost use Rattle.std.specs.Prelude.{◌≡◌, [], ◌∷◌, IfOk, OnOk, OnErr};
 ghost use Rattle.requests.specs.declared.group.Group.TheVariants as group;
+ghost use Rattle.groups.specs.Groups.{group_of_district, group_of_order};
 ghost use Rattle.tickets.specs.Claims.{leaving};
 ghost use Rattle.slices.specs.SliceView.{SliceKeeps};
-ghost use Rattle.transactions.specs.Granted.{IsExclusiveOn, IsFresh, IsSharedOn};
+ghost use Rattle.transactions.specs.Granted.{IsExclusiveOn, IsFresh, IsSharedOn, group_of_customers};
 ghost use Rattle.transactions.specs.NewOrder.{IsHomeOrdered, IsNumberKnown, IsOrderAdded, IsOrderKnown, IsOrdererKnown, IsOrdererShown};
 
 use super::{HomeFound, HomeShown, OrderRows, Orderer, OrdererFound};
@@ -22,11 +23,13 @@ pub fn take_number<J: GroupNames>(
     order: &NewOrder,
 ) -> Result<HomeFound, NoMemory>
     requires warehouse_claim { IsSharedOn (group.Warehouse order.now.home.w_id) warehouse.old }
-    requires district_claim { IsExclusiveOn (group.District order.now.home.w_id order.now.home.d_id) district.old }
+    requires district_claim { IsExclusiveOn (group_of_district order.now.home) district.old }
     requires fresh { IsFresh district.old }
     requires home { order.now.home.w_id ≡ slice.old.home }
-    ensures kept { SliceKeeps (warehouse.old ∷ district.old ∷ []) slice.old (warehouse.new ∷ district.new ∷ []) slice.new }
-    ensures ordered { IfOk result (λ found. IsHomeOrdered order.now found warehouse.new district.new) }
+    ensures kept { SliceKeeps (warehouse.old ∷ district.old ∷ []) slice.old
+        (warehouse.new ∷ district.new ∷ []) slice.new }
+    ensures ordered { IfOk result (λ found.
+        IsHomeOrdered order.now found warehouse.new district.new) }
     ensures known { IfOk result IsNumberKnown }
     ensures warehouse { warehouse.new ≡ warehouse.old }
     ensures district { district.new ≡ leaving district.old district.new.left }
@@ -60,7 +63,7 @@ pub fn show_orderer<J: GroupNames>(
     customers: &mut Claim<J>,
     order: &NewOrder,
 ) -> OrdererFound
-    requires claim { IsSharedOn (group.Customers order.now.home.w_id order.now.home.d_id) customers.old }
+    requires claim { IsSharedOn (group_of_customers order.now.home) customers.old }
     requires home { order.now.home.w_id ≡ slice.old.home }
     ensures shown { IsOrdererShown order.now result customers.new }
     ensures known { IsOrdererKnown slice.old.tables.scale order.now result }
@@ -89,7 +92,7 @@ pub fn add_order<J: GroupNames>(
     orders: &mut Claim<J>,
     rows: OrderRows,
 ) -> Result<(), NoMemory>
-    requires claim { IsExclusiveOn (group.Orders rows.key.w_id rows.key.d_id) orders.old }
+    requires claim { IsExclusiveOn (group_of_order rows.key) orders.old }
     requires fresh { IsFresh orders.old }
     requires home { rows.key.w_id ≡ slice.old.home }
     requires known { IsOrderKnown slice.old.tables.scale rows }

@@ -98,7 +98,8 @@ fn gather_rows(
     found: Vec<crate::Found>,
 ) -> Result<Gathered, NoMemory>
     requires { HasFound (any.NewOrder (Progress.ReadRows order)) found.items }
-    ensures { IfOk result (λ gathered. FollowsFrom (any.NewOrder (Progress.ReadRows order)) found.items gathered) }
+    ensures { IfOk result (λ gathered.
+        FollowsFrom (any.NewOrder (Progress.ReadRows order)) found.items gathered) }
 {
     let mut groups = supplies(alloc, order.lines.as_slice())?;
     let first = groups.remove(0);
@@ -152,7 +153,8 @@ fn gather_stock(
     found: Vec<crate::Found>,
 ) -> Result<Gathered, NoMemory>
     requires { HasFound (any.NewOrder (Progress.TakeLines given)) found.items }
-    ensures { IfOk result (λ gathered. FollowsFrom (any.NewOrder (Progress.TakeLines given)) found.items gathered) }
+    ensures { IfOk result (λ gathered.
+        FollowsFrom (any.NewOrder (Progress.TakeLines given)) found.items gathered) }
 {
     let stocks = stocks_found(alloc, found)?;
     match decide(alloc, given, stocks)? {
@@ -172,7 +174,8 @@ fn gather_added(placed: OrderPlaced, found: Vec<crate::Found>) -> Gathered
 // What places 0 and 1 found.
 fn rows_found(mut found: Vec<crate::Found>) -> (HomeFound, OrdererFound)
     requires { AreRowsFound found.items }
-    ensures { found.items ≡ any_found.NewOrder (Found.Home result.0) ∷ any_found.NewOrder (Found.Orderer result.1) ∷ [] }
+    ensures { found.items ≡ any_found.NewOrder (Found.Home result.0)
+        ∷ any_found.NewOrder (Found.Orderer result.1) ∷ [] }
 {
     let Some(orderer) = found.pop() else {
         unreachable!()

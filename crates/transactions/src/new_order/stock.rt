@@ -1,5 +1,5 @@
 //! The stock of a New-Order: what one group of it does for the lines that it supplies (clause 2.4.2.2).
-ghost use Rattle.std.specs.Prelude.{◌≡◌, [], ◌∷◌, map, IsTrue, IfOk, OnOk, OnErr, MatchOption, None};
+ghost use Rattle.std.specs.Prelude.{◌≡◌, [], ◌∷◌, IsTrue, IfOk, OnOk, OnErr, MatchOption, None};
 ghost use Rattle.std.specs.List.{list_all};
 ghost use Rattle.rows.specs.Ranged.{is_between};
 ghost use Rattle.partitions.specs.Parts.{shared_of};
@@ -10,12 +10,12 @@ ghost use Rattle.groups.specs.Groups.{is_same, warehouse_of};
 ghost use Rattle.groups.specs.NewOrder.{group_of_supply};
 ghost use Rattle.groups.specs.declared.group_wants.Mode.TheVariants.{Exclusive};
 ghost use Rattle.tickets.specs.Claims.{leaving};
-ghost use Rattle.machine.specs.NewOrder.{all_there, stock_key_of};
+ghost use Rattle.machine.specs.NewOrder.{stock_key_of};
 ghost use Rattle.machine.specs.NewOrderLines.{IsOrderWithin};
 ghost use Rattle.slices.specs.SliceView.{IsClaimAt, SliceKeeps};
 ghost use Rattle.transactions.specs.Granted.{IsExclusiveOn, IsFresh};
-ghost use Rattle.transactions.specs.NewOrder.{AreSoldKnown, IsStockTaken, has_item_of, is_supply_of, line_sold, lines_in};
-ghost use Rattle.transactions.specs.NewOrderStock.{AreOfGroup, IsSaleOf, puts_done};
+ghost use Rattle.transactions.specs.NewOrder.{AreSoldKnown, IsStockTaken, has_item_of, is_supply_of, lines_in, lines_sold};
+ghost use Rattle.transactions.specs.NewOrderStock.{AreOfGroup, IsSaleOf, with_stocks_put};
 
 use super::{LineSold, StockTaken};
 use crate::listed::Listed;
@@ -58,7 +58,8 @@ pub fn take_stock<J: GroupNames>(
     requires accepted { IsAccepted slice.old.tables.scale (request.NewOrder order.now) }
     requires supplies { IsTrue (is_supply_of order.now group) }
     ensures kept { SliceKeeps (stock.old ∷ []) slice.old (stock.new ∷ []) slice.new }
-    ensures taken { IfOk result (λ found. IsStockTaken (shared_of slice.old.tables) order.now group found stock.new) }
+    ensures taken { IfOk result (λ found.
+        IsStockTaken (shared_of slice.old.tables) order.now group found stock.new) }
     ensures known { IfOk result (AreSoldKnown slice.old.tables.scale order.now group) }
     ensures stock { stock.new ≡ leaving stock.old stock.new.left }
     ensures err { OnErr result ((slice.new ≡ slice.old) × (stock.new ≡ stock.old)) }
@@ -97,7 +98,7 @@ fn sell(
     requires within { IsOrderWithin order.now }
     requires district { IsTrue (is_between 1 10 order.now.home.d_id) }
     ensures { IfOk result (λ r. MatchOption r
-        (all_there (map (line_sold rows.now.tables order.now) (lines_in group order.now.lines)) ≡ None)
+        (lines_sold rows.now.tables order.now (lines_in group order.now.lines) ≡ None)
         (IsSaleOf rows.now.tables order.now (lines_in group order.now.lines))) }
 {
     // (mostly a group supplies one line)
@@ -135,8 +136,9 @@ fn put_stocks<J: GroupNames>(
     requires left { stock.old.left ≡ content slice.old.tables stock.old.group }
     requires puts { AreOfGroup stock.old slice.old.tables.stocks puts.items }
     ensures kept { SliceKeeps (stock.old ∷ []) slice.old (stock.new ∷ []) slice.new }
-    ensures claim { OnOk result (stock.new ≡ leaving stock.old (content slice.new.tables stock.old.group)) }
-    ensures rows { OnOk result (slice.new ≡ record slice.old { tables = record slice.old.tables { stocks = puts_done puts.items slice.old.tables.stocks } }) }
+    ensures claim { OnOk result (stock.new
+        ≡ leaving stock.old (content slice.new.tables stock.old.group)) }
+    ensures rows { OnOk result (slice.new ≡ with_stocks_put puts.items slice.old) }
     ensures err { OnErr result ((slice.new ≡ slice.old) × (stock.new ≡ stock.old)) }
 {
     while let Some(put) = puts.pop() {

@@ -108,7 +108,8 @@ impl Work {
         requires home { home_of self ≡ slice.old.home }
         requires granted { AreGrantedFor (group_wants_of self) claims.old }
         ensures kept { SliceKeeps claims.old slice.old claims.new slice.new }
-        ensures done { IfOk result (λ found. HasDone (shared_of slice.old.tables) self found claims.new) }
+        ensures done { IfOk result (λ found.
+            HasDone (shared_of slice.old.tables) self found claims.new) }
         ensures left { AreLeft claims.old claims.new }
         ensures err { OnErr result ((slice.new ≡ slice.old) × (claims.new ≡ claims.old)) }
     {

@@ -48,17 +48,17 @@ returns-clause-first g c = λ text rows known csv few.
 pub returns-in_err-scale-clause-fault : goal.returns-in_err-scale-clause-fault
 returns-in_err-scale-clause-fault g c =
     let p = err_from_is_err_and c.from_residual.result c.from_residual.ensures.1 in
-    rw (p.1, p.2) (λ fault text known rows csv few.
+    rw (p.1, p.2) (λ fault text rows known csv few.
     no_fault_reported _ rows few (reports_first _ rows (first_fault rows) refl (first_of_header _ rows (c.in_err-scale.ensures.first rows c.new-records.ensures.number (c.new-records.ensures.all_left text rows known csv)))) fault)
 
 pub returns-in_err-read_rows-clause-fault : goal.returns-in_err-read_rows-clause-fault
 returns-in_err-read_rows-clause-fault g c =
     let p = err_from_is_err_and c.from_residual-in_err-read_rows.result c.from_residual-in_err-read_rows.ensures.1 in
-    rw (p.1, p.2) (λ fault text known rows csv few.
+    rw (p.1, p.2) (λ fault text rows known csv few.
     no_fault_reported _ rows few ((rw (p.1, p.2) at (returns-in_err-read_rows-clause-first g c)) text rows known csv few) fault)
 
 pub returns-clause-fault : goal.returns-clause-fault
 returns-clause-fault g c =
-    IfErr-weaker c.finish.result _ _ (λ error reported fault text known rows csv few. no_fault_reported error rows few (reported (text, rows) (known, csv, few)) fault)
+    IfErr-weaker c.finish.result _ _ (λ error reported fault text rows known csv few. no_fault_reported error rows few (reported (text, rows) (known, csv, few)) fault)
     (error_reported c.finish.result (λ (p : List ℕ × List (List (List ℕ))) tables. first_fault p.1 ≡ None) (λ (p : List ℕ × List (List (List ℕ))) error. Reports p.1 error)
     (λ (p : List ℕ × List (List (List ℕ))). (g.R.Input.remaining c.args.source ≡ Some p.0) × IsCsv p.0 p.1 × (length p.1 < 2 ^ 64 - 1)) (λ p h. returns-clause-first g c p.0 p.1 h.0 h.1 h.2))

@@ -2,6 +2,7 @@
 use Rattle.std.proofs.Common.{◌≡◌, ◌+◌, vec_len}
 use Rattle.std.specs.Prelude.{All}
 use Rattle.std.specs.Vec.Iter.{into_iter_items, into_iter_len}
+use Rattle.rows.specs.declared.limits.TheConstants.{SESSIONS}
 use Rattle.engine.specs.Interactive.{HasAskedNothing}
 use Rattle.engine.specs.Opening.{AreAgreedPhasesFrom}
 use Rattle.engine.specs.Sessions.{AreNewFrom}
@@ -9,7 +10,7 @@ use Rattle.engine.proofs.opening.open_places.Given as goal
 
 abbrev pub invariant-loop-slot : goal.invariant-loop-slot
 invariant-loop-slot g l = record {
-  sessions : into_iter_len l.lanes + l.slot ≡ 64;
+  sessions : into_iter_len l.lanes + l.slot ≡ SESSIONS;
   new : AreNewFrom l.slot (into_iter_items l.lanes);
   more : into_iter_len l.agreed_phases + l.slot ≡ vec_len l.fn.agreed_phases;
   named : AreAgreedPhasesFrom g.J.PhaseNames.agreed_phase l.slot (into_iter_items l.agreed_phases);

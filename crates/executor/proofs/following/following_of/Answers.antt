@@ -10,6 +10,7 @@ use Rattle.transactions.specs.declared.progress.Gathered.TheVariants.{Finish}
 use Rattle.transactions.specs.Progresses.{FollowsFrom, HasFound}
 use Rattle.executor.specs.declared.following.Following.TheVariants as following
 use Rattle.executor.specs.Commits.{CommitView, commit_view}
+use Rattle.executor.specs.Flows.{flow_view}
 use Rattle.executor.specs.Followed.{FollowsUnless}
 use Rattle.executor.specs.Transactions.{TransactionView, transaction_view}
 use Rattle.executor.proofs.Onward.{finished, has_found, next_reached}
@@ -42,7 +43,7 @@ returns-in-Ok-Finish g c =
     let recorded = ap (λ (k : CommitView). k.shown) c.new.ensures in
     let follows = subst (λ (p : Progress). FollowsFrom p c.args.sorted.found.items (Finish c.in-Ok-Finish.reply)) c.take_progress-progress.ensures.progress
     (subst (λ (one : Gathered). FollowsFrom c.take_progress-progress.result c.args.sorted.found.items one) c.in-Ok-Finish.field-0-is c.in-Ok-Finish.ensures.gathered) in
-    subst (λ (o : Option Refusal). FollowsUnless o c.args.phase_owner (transaction_view t) c.args.held t.body.value.progress c.args.sorted.found.items (following.Commit c.new.result))
+    subst (λ (o : Option Refusal). FollowsUnless o c.args.phase_owner (flow_view t c.args.held) c.args.sorted.found.items (following.Commit c.new.result))
     (sym c.in-Ok-Finish.ensures.none) (
       subst (λ (s : Reply). FollowsFrom t.body.value.progress c.args.sorted.found.items (Finish s)) (sym (recorded ∙ c.put_reply.ensures.reply)) follows,
       c.new.ensures ∙ ap (λ (u : TransactionView). commit_view c.args.phase_owner u c.args.held shown) (c.put_reply.ensures.same ∙ c.take_progress-progress.ensures.same)

@@ -7,7 +7,7 @@ use Rattle.tickets.specs.Claims.{ClaimView}
 use Rattle.transactions.specs.declared.work.Found.{Found}
 use Rattle.transactions.specs.declared.work.Work.{Work}
 use Rattle.transactions.specs.Works.{CanDo}
-use Rattle.executor.specs.AtOnce.{HaveDoneBut}
+use Rattle.executor.specs.AtOnce.{HaveDoneBut, phase_to_run}
 use Rattle.executor.proofs.AtOnce.{can_be_undone, more_held, next_done, none_done}
 use Rattle.executor.proofs.paused.do_all.Goals as goal
 
@@ -21,7 +21,7 @@ loop-work-init g c =
       can_next = tt;
       finite = tt;
       can = subst (λ (l : List Work). All (CanDo shared) l) gives c.requires.can;
-      done = subst (λ (l : List Work). HaveDoneBut shared c.args.age l works c.args.held c.args.held c.args.found.items) gives (none_done shared c.args.age works c.args.held c.args.held c.args.found.items refl c.requires.empty);
+      done = subst (λ (l : List Work). HaveDoneBut shared l (phase_to_run c.args.age works c.args.held) c.args.held c.args.found.items) gives (none_done shared c.args.age works c.args.held c.args.held c.args.found.items refl c.requires.empty);
       few = omega (arith, c.requires.few, all);
       room = omega (arith, c.requires.room, all, ap (λ (l : List Found). length l) c.requires.empty);
     }

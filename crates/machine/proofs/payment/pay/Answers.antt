@@ -8,7 +8,7 @@ use Rattle.machine.proofs.Payments.{payment-posted}
 use Rattle.requests.specs.declared.reply.Reply.TheVariants.{Done}
 use Rattle.requests.specs.declared.reply.Shown.TheVariants.{Payment as PaymentShown}
 use Rattle.machine.specs.Outcome.{Outcome}
-use Rattle.machine.specs.Payment.{payment, posted}
+use Rattle.machine.specs.Payment.{payment, posted, posting}
 use Rattle.machine.proofs.payment.pay.Goals as goal
 use Rattle.machine.proofs.payment.pay.Goals.{In_ok-reply}
 
@@ -20,7 +20,7 @@ post-requires-clause-customer_is_there c =
     ap is_some (chosen_there t.customers p.customer_home p.customer found (sym c.in-Some-chosen.ensures)).0
 
 -- what is replied and changed, where all rows are found
-whole : (c : In_ok-reply) → payment c.args.tables.now c.args.payment.now ≡ posted c.args.tables.now c.args.payment.now c.in-Some-chosen.key c.payment_row-row.result
+whole : (c : In_ok-reply) → payment c.args.tables.now c.args.payment.now ≡ posted c.args.tables.now (posting c.args.payment.now c.in-Some-chosen.key c.payment_row-row.result)
     (Some c.in-Some-warehouse_paid.warehouse) (Some c.in-Some-district_paid.district) (Some c.in-Some-customer_paid.customer)
 whole c =
     let t = c.args.tables.now in

@@ -8,7 +8,7 @@ loop-place-init c = dated_back_none c.args.order c.args.moments (line_table c.ar
 
 pub loop-place-preserved : goal.loop-place-preserved
 loop-place-preserved c =
-    let long : c.loop-place.place < length c.args.moments = omega (arith, c.requires.fifteen, c.loop-place-test.true) in
+    let long : c.loop-place.place < length c.args.moments = omega (arith, c.requires.most_lines, c.loop-place-test.true) in
     dated_back_more c.args.order c.args.moments c.loop-place.place (slice_index_or c.args.moments c.loop-place.place c.index-moments-place.result) c.line_key.result (line_table c.args.lines.now) (line_table c.loop-place.lines) (line_table c.set_delivery.new.self)
     (index_any c.args.moments c.loop-place.place c.index-moments-place.result None long) c.line_key.ensures c.loop-place.invariant c.set_delivery.ensures
 

@@ -16,22 +16,28 @@ use Rattle.picture.proofs.drawing.write_picture.Goals as goal
 
 -- it fails before anything is drawn
 pub returns-in_err-rows-clause-begun : goal.returns-in_err-rows-clause-begun
-returns-in_err-rows-clause-begun g c = nothing-drawn _ _ _ _ _
+returns-in_err-rows-clause-begun g c =
+    nothing-drawn _ (g.W.Write.contents c.args.sink.now) (sessions_from [] c.args.schedule.now) c.args.executors (rows_of c.args.log.now 1 c.args.schedule.now c.args.outputs.now)
 
 pub returns-in_err-lanes-clause-begun : goal.returns-in_err-lanes-clause-begun
-returns-in_err-lanes-clause-begun g c = nothing-drawn _ _ _ _ _
+returns-in_err-lanes-clause-begun g c =
+    nothing-drawn _ (g.W.Write.contents c.args.sink.now) (sessions_from [] c.args.schedule.now) c.args.executors (rows_of c.args.log.now 1 c.args.schedule.now c.args.outputs.now)
 
 pub returns-in_err-heads-clause-begun : goal.returns-in_err-heads-clause-begun
-returns-in_err-heads-clause-begun g c = nothing-drawn _ _ _ _ _
+returns-in_err-heads-clause-begun g c =
+    nothing-drawn _ (g.W.Write.contents c.args.sink.now) (sessions_from [] c.args.schedule.now) c.args.executors (rows_of c.args.log.now 1 c.args.schedule.now c.args.outputs.now)
 
 pub returns-in_err-slices-clause-begun : goal.returns-in_err-slices-clause-begun
-returns-in_err-slices-clause-begun g c = nothing-drawn _ _ _ _ _
+returns-in_err-slices-clause-begun g c =
+    nothing-drawn _ (g.W.Write.contents c.args.sink.now) (sessions_from [] c.args.schedule.now) c.args.executors (rows_of c.args.log.now 1 c.args.schedule.now c.args.outputs.now)
 
 pub returns-in_err-asides-in-Some-clause-begun : goal.returns-in_err-asides-in-Some-clause-begun
-returns-in_err-asides-in-Some-clause-begun g c = nothing-drawn _ _ _ _ _
+returns-in_err-asides-in-Some-clause-begun g c =
+    nothing-drawn _ (g.W.Write.contents c.args.sink.now) (sessions_from [] c.args.schedule.now) c.args.executors (rows_of c.args.log.now 1 c.args.schedule.now c.args.outputs.now)
 
 pub returns-in_err-marks-clause-begun : goal.returns-in_err-marks-clause-begun
-returns-in_err-marks-clause-begun g c = nothing-drawn _ _ _ _ _
+returns-in_err-marks-clause-begun g c =
+    nothing-drawn _ (g.W.Write.contents c.args.sink.now) (sessions_from [] c.args.schedule.now) c.args.executors (rows_of c.args.log.now 1 c.args.schedule.now c.args.outputs.now)
 
 -- a part is not drawn
 pub returns-in_err-draw-clause-begun : goal.returns-in_err-draw-clause-begun

@@ -5,6 +5,7 @@ use Rattle.files.specs.Columns.{Column, Moment, take_columns}
 use Rattle.files.specs.FieldRead.{FieldsView, fields_view}
 use Rattle.files.specs.Taken.{fields_left}
 use Rattle.files.proofs.ColumnsRead.{and_then, moment, several, take-append, whole}
+use Rattle.terminals.specs.declared.new_order.TheConstants.{MOST_RECORD_LINES}
 use Rattle.terminals.specs.RequestColumns.{line_columns, lines_in, number, repeated}
 use Rattle.terminals.proofs.ColumnsTaken.{columns_long}
 use Rattle.terminals.proofs.new_order.take.Goals as goal
@@ -33,7 +34,7 @@ returns-clause-lines c =
     let left : length (fields_left c.moment.new.self) ≡ length (fields_left c.args.fields.now) - 4 =
     ap (λ (t : FieldsView). length t.left) start ∙ columns_long four (fields_view c.args.fields.now) in
     let most : c.saturating_sub.result ≡ c.args.count - 5 = search rules in
-    c.in_ok-take_lines.ensures.many ∙ (λ i. min (min (most i / 3) (left i / 3)) 64)
+    c.in_ok-take_lines.ensures.many ∙ (λ i. min (min (most i / 3) (left i / 3)) MOST_RECORD_LINES)
 
 pub returns-clause-columns : goal.returns-clause-columns
 returns-clause-columns c =
@@ -44,7 +45,7 @@ returns-clause-columns c =
     ap (λ (t : FieldsView). length t.left) start ∙ columns_long four (fields_view c.args.fields.now) in
     let most : c.saturating_sub.result ≡ c.args.count - 5 = search rules in
     let lines : length c.in_ok-take_lines.field-0 ≡ lines_in c.args.count (length (fields_left c.args.fields.now) - 4) =
-    c.in_ok-take_lines.ensures.many ∙ (λ i. min (min (most i / 3) (left i / 3)) 64) in
+    c.in_ok-take_lines.ensures.many ∙ (λ i. min (min (most i / 3) (left i / 3)) MOST_RECORD_LINES) in
     c.in_ok-take_lines.ensures.columns
     ∙ ap (λ n. take_columns (repeated n line_columns) (fields_view c.moment.new.self)) lines
     ∙ ap (take_columns (repeated (lines_in c.args.count (length (fields_left c.args.fields.now) - 4)) line_columns)) start

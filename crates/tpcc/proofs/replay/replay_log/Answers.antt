@@ -1,11 +1,11 @@
-use Rattle.std.proofs.Common.{inl, inr, List, [], ◌∷◌, refl, sym, subst, ◌∙◌}
+use Rattle.std.proofs.Common.{inl, inr, List, refl, sym, subst, ◌∙◌}
 use Rattle.std.proofs.lemmas.Result.{err_from_is_err_and}
 use Rattle.commit_log.specs.declared.entry.Entry.{Entry}
 use Rattle.commit_log.specs.Replay.{IsReplayOf}
 use Rattle.files.specs.Sending.{Begins}
 use Rattle.files.proofs.Sent.{on_any_err}
-use Rattle.tpcc.specs.Edges.{lines_text}
-use Rattle.tpcc.specs.Replay.{IsReplayed, ReplaysSome, ReportsReplay, found_of, found_text}
+use Rattle.tpcc.specs.Effects.{change, output_of, source_of}
+use Rattle.tpcc.specs.Replay.{IsReplayed, ReplaysSome, ReportsReplay, found_line, found_of, replay_streams}
 use Rattle.tpcc.proofs.ReplayTellings.{replay_ends}
 use Rattle.tpcc.proofs.replay.replay_log.Goals as goal
 
@@ -20,14 +20,11 @@ returns-clause-ends g c =
     let opening = c.in_ok-opening.opening in
     let came_to = c.in_ok-came_to.came_to in
     let status = c.in_ok-status.status in
-    let before = g.A.Write.contents c.args.found.now in
-    let after = g.A.Write.contents c.print.new.found in
-    let named = g.N.OutputFiles.named c.args.output_files.now in
-    let named' = g.N.OutputFiles.named c.print.new.output_files in
+    let streams = replay_streams (source_of g.D.Input.remaining g.D.Input.lasts c.args.data) (source_of g.L.Input.remaining g.L.Input.lasts c.args.log) c.args.tables in
+    let output = output_of g.A.Write.contents c.args.found.now c.print.new.found g.N.OutputFiles.named c.args.output_files.now c.print.new.output_files in
     let Of : List Entry → Type 0 = λ entries. IsReplayOf opening entries came_to in
-    let Reports : List Entry → Type 0 = λ entries. ReportsReplay g.T.Write.contents c.args.tables before after named named' entries came_to status in
-    replay_ends g.T.Write.contents c.args.tables c.args.settings.now (g.D.Input.remaining c.args.data) (g.D.Input.lasts c.args.data) (g.L.Input.remaining c.args.log) (g.L.Input.lasts c.args.log) before after named named'
-    (g.E.Report.reported c.args.errors.now) (g.E.Report.reported c.sum_up.new.errors)
+    let Reports : List Entry → Type 0 = λ entries. ReportsReplay g.T.Write.contents c.args.tables output entries came_to status in
+    replay_ends g.T.Write.contents c.args.settings.now streams output (change g.E.Report.reported c.args.errors.now c.sum_up.new.errors)
     opening c.in_ok-entries.entries.items came_to status c.in_ok-opening.ensures.tables c.in_ok-entries.ensures.entries
     (subst Of c.as_slice.ensures.value c.in_ok-came_to.ensures)
     (subst Reports c.as_slice-3.ensures.value c.in_ok-status.ensures.reports)
@@ -35,20 +32,17 @@ returns-clause-ends g c =
 
 pub returns-in_err-opening-clause-some : goal.returns-in_err-opening-clause-some
 returns-in_err-opening-clause-some g c =
-    let found = g.A.Write.contents c.args.found.now in
-    let none : ReplaysSome (g.D.Input.remaining c.args.data) (g.L.Input.remaining c.args.log) found found = inl refl in
+    let none : ReplaysSome (g.D.Input.remaining c.args.data) (g.L.Input.remaining c.args.log) (change g.A.Write.contents c.args.found.now c.args.found.now) = inl refl in
     on_any_err c.from_residual.result none
 
 pub returns-in_err-entries-clause-some : goal.returns-in_err-entries-clause-some
 returns-in_err-entries-clause-some g c =
-    let found = g.A.Write.contents c.args.found.now in
-    let none : ReplaysSome (g.D.Input.remaining c.args.data) (g.L.Input.remaining c.args.log) found found = inl refl in
+    let none : ReplaysSome (g.D.Input.remaining c.args.data) (g.L.Input.remaining c.args.log) (change g.A.Write.contents c.args.found.now c.args.found.now) = inl refl in
     on_any_err c.from_residual-in_err-entries.result none
 
 pub returns-in_err-came_to-clause-some : goal.returns-in_err-came_to-clause-some
 returns-in_err-came_to-clause-some g c =
-    let found = g.A.Write.contents c.args.found.now in
-    let none : ReplaysSome (g.D.Input.remaining c.args.data) (g.L.Input.remaining c.args.log) found found = inl refl in
+    let none : ReplaysSome (g.D.Input.remaining c.args.data) (g.L.Input.remaining c.args.log) (change g.A.Write.contents c.args.found.now c.args.found.now) = inl refl in
     on_any_err c.from_residual-in_err-came_to.result none
 
 pub returns-in_err-status-clause-some : goal.returns-in_err-status-clause-some
@@ -61,14 +55,14 @@ returns-in_err-status-clause-some g c =
     let came_to = c.in_ok-came_to.came_to in
     let entries = c.in_ok-entries.entries.items in
     let Of : List Entry → Type 0 = λ l. IsReplayOf opening l came_to in
-    let Reported : List Entry → Type 0 = λ l. Begins before after (lines_text (found_text (found_of l came_to) ∷ [])) in
+    let Reported : List Entry → Type 0 = λ l. Begins before after (found_line (found_of l came_to)) in
     let is : IsReplayed «data» log entries came_to = record {
       opening = opening;
       is_dataset = c.in_ok-opening.ensures.tables;
       is_log = c.in_ok-entries.ensures.entries;
       is_replay = subst Of c.as_slice.ensures.value c.in_ok-came_to.ensures;
     } in
-    let some : ReplaysSome «data» log before after = inr (entries, came_to, is, subst Reported c.as_slice-3.ensures.value c.in_err-status.ensures.begun) in
+    let some : ReplaysSome «data» log (change g.A.Write.contents c.args.found.now c.print.new.found) = inr (entries, came_to, is, subst Reported c.as_slice-3.ensures.value c.in_err-status.ensures.begun) in
     on_any_err c.from_residual-in_err-status.result some
 
 pub returns-in_err-opening-clause-fault : goal.returns-in_err-opening-clause-fault

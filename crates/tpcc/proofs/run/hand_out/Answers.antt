@@ -6,7 +6,8 @@ use Rattle.files.specs.Sending.{BeginsToWrite, Writes}
 use Rattle.files.proofs.Sent.{on_any_err}
 use Rattle.terminals.specs.LogRecord.{IsLog}
 use Rattle.tpcc.specs.Edges.{HasWritten, NamesFile}
-use Rattle.tpcc.specs.Run.{AreAllAnswers, BeginAllAnswers, HandsOutSome}
+use Rattle.tpcc.specs.Effects.{output_of}
+use Rattle.tpcc.specs.Run.{AreAllAnswers, BeginAllAnswers, HandsOutSome, run_outputs}
 use Rattle.tpcc.proofs.AnswerRecords.{all-begun, begins-none}
 use Rattle.tpcc.proofs.SomePrinted.{all_or_some}
 use Rattle.tpcc.proofs.FaultsOfSources.{both_on_err, log_or_output, of_printing}
@@ -18,8 +19,8 @@ pub returns-in_err-log-clause-some : goal.returns-in_err-log-clause-some
 returns-in_err-log-clause-some g c =
     let before = g.A.Write.contents c.args.answers.now in
     let answers = c.args.outcome.now.answers.items in
-    let names = g.N.OutputFiles.named in
-    let some : HandsOutSome g.F.Write.contents c.args.log c.args.tables before before (names c.args.output_files.now) (names c.write_entries.new.output_files) c.args.outcome.now.log.items answers =
+    let output = output_of g.A.Write.contents c.args.answers.now c.args.answers.now g.N.OutputFiles.named c.args.output_files.now c.write_entries.new.output_files in
+    let some : HandsOutSome g.F.Write.contents (run_outputs c.args.log c.args.tables) output c.args.outcome.now.log.items answers =
     inl (begins-none c.args.outcome.now.log.items before answers, c.in_err-log.ensures.same) in
     on_any_err c.from_residual.result some
 
@@ -28,11 +29,11 @@ pub returns-in_err-name_printed-clause-some : goal.returns-in_err-name_printed-c
 returns-in_err-name_printed-clause-some g c =
     let before = g.A.Write.contents c.args.answers.now in
     let after = g.A.Write.contents c.print_answers-printed.new.sink in
-    let names = g.N.OutputFiles.named in
+    let output = output_of g.A.Write.contents c.args.answers.now c.print_answers-printed.new.sink g.N.OutputFiles.named c.args.output_files.now c.name_printed.new.output_files in
     let Prints : List Entry → List (List (Result ℕ Refusal)) → Type 0 = λ log l. BeginsToWrite before after (BeginAllAnswers log 0 l) in
     let printed = all_or_some c.print_answers-printed.result before after _ _ (all-begun c.as_slice-entries.result.now 0 c.as_slice.result.now) c.print_answers-printed.ensures.printed c.print_answers-printed.ensures.begun in
     let reported = subst (Prints c.as_slice-entries.result.now) c.as_slice.ensures.value printed in
-    let some : HandsOutSome g.F.Write.contents c.args.log c.args.tables before after (names c.args.output_files.now) (names c.name_printed.new.output_files) c.args.outcome.now.log.items c.args.outcome.now.answers.items =
+    let some : HandsOutSome g.F.Write.contents (run_outputs c.args.log c.args.tables) output c.args.outcome.now.log.items c.args.outcome.now.answers.items =
     inl (subst (λ log. Prints log c.args.outcome.now.answers.items) c.as_slice-entries.ensures.value reported, c.in_err-name_printed.ensures.err ∙ c.in_ok-log.ensures.same) in
     on_any_err c.from_residual-in_err-name_printed.result some
 

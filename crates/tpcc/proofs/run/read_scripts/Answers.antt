@@ -8,7 +8,7 @@ use Rattle.terminals.specs.FirstFault.{script_fault}
 use Rattle.terminals.specs.Script.{IsScript}
 use Rattle.tpcc.specs.Faults.{IsFirst, IsOfReading}
 use Rattle.tpcc.proofs.FaultsOfSources.{of_records}
-use Rattle.tpcc.specs.Edges.{Gives}
+use Rattle.files.specs.Place.{Gives}
 use Rattle.tpcc.proofs.SourceLists.{next_source, read_more}
 use Rattle.tpcc.proofs.run.read_scripts.Goals as goal
 

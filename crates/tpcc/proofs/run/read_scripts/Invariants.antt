@@ -2,7 +2,7 @@
 use Rattle.std.proofs.Common.{◌≡◌, length, map, take, drop}
 use Rattle.std.specs.List.{AllZip}
 use Rattle.terminals.specs.Script.{IsScript}
-use Rattle.tpcc.specs.Edges.{Gives}
+use Rattle.files.specs.Place.{Gives}
 use Rattle.tpcc.proofs.run.read_scripts.Given as goal
 
 abbrev pub invariant-loop-session : goal.invariant-loop-session

@@ -2,6 +2,7 @@ use Rattle.std.proofs.Common.{◌≡◌, ◌≤◌, ℕ, List, inl, inr, length,
 use Rattle.std.specs.Borrow.{Bor}
 use Rattle.std.specs.Option.{option_map}
 use Rattle.std.proofs.lemmas.Result.{err_from_is_err_and}
+use Rattle.rows.specs.declared.limits.TheConstants.{SESSIONS}
 use Rattle.requests.specs.declared.request.Request.{Request}
 use Rattle.range_moves.specs.declared.order.MoveOrder.{MoveOrder}
 use Rattle.engine.specs.Faults.{AreWithin, IsFaultOf}
@@ -9,7 +10,8 @@ use Rattle.engine.specs.Outcome.{IsOutcome}
 use Rattle.files.proofs.Sent.{on_any_err}
 use Rattle.tpcc.specs.declared.command_fault.CommandFault.{CommandFault}
 use Rattle.tpcc.specs.EarlyEnds.{IsOfScripts, IsOfServing}
-use Rattle.tpcc.specs.Run.{AreServed, ServesSome}
+use Rattle.tpcc.specs.Effects.{output_of}
+use Rattle.tpcc.specs.Run.{AreServed, ServesSome, run_outputs, texts_of}
 use Rattle.tpcc.proofs.AnswerRecords.{outcome_in_log, same_count}
 use Rattle.tpcc.proofs.ServeFaults.{of_tables}
 use Rattle.tpcc.proofs.run.run.Goals as goal
@@ -32,7 +34,7 @@ hand_out-requires-clause-few g c =
     let asked : length answers ≡ length c.as_slice-2.result.now = same_count answers c.as_slice-2.result.now c.in-Ok.ensures.outcome.answered in
     let scripts : length c.as_slice-2.result.now ≡ length c.in_ok-scripts.scripts.items = ap length c.as_slice-2.ensures.value in
     let paths : length c.in_ok-scripts.scripts.items ≡ length c.args.settings.now.scripts.items = c.in_ok-scripts.ensures.count ∙ ap length c.deref.ensures.value in
-    let few : length c.args.settings.now.scripts.items ≤ 64 = c.requires.limits.0.1 in
+    let few : length c.args.settings.now.scripts.items ≤ SESSIONS = c.requires.limits.0.1 in
     omega arith
 
 pub hand_out-requires-clause-placed : goal.hand_out-requires-clause-placed
@@ -48,7 +50,8 @@ returns-in_err-hand_out-clause-some g c =
     let answers = c.in-Ok.outcome.answers.items in
     let Serves : List (List Request) → Type 0 = λ l. IsOutcome opening l log last answers in
     let Within : List MoveOrder → Type 0 = AreWithin opening c.args.settings.now.executors in
-    let are : AreServed (g.D.Input.remaining c.args.data) (map g.S.Input.remaining c.args.scripts.now) c.args.settings.now.executors (option_map g.S.Input.remaining c.args.moves) log last answers = record {
+    let texts = texts_of (g.D.Input.remaining c.args.data) (map g.S.Input.remaining c.args.scripts.now) (option_map g.S.Input.remaining c.args.moves) in
+    let are : AreServed c.args.settings.now.executors texts log last answers = record {
       opening = opening;
       is_dataset = c.in_ok-opening.ensures.tables;
       consistent = c.in-Ok.ensures.consistent;
@@ -59,10 +62,8 @@ returns-in_err-hand_out-clause-some g c =
       are_scripts = c.in_ok-scripts.ensures.scripts;
       outcome = subst Serves c.as_slice-2.ensures.value c.in-Ok.ensures.outcome;
     } in
-    let before = g.A.Write.contents c.args.answers.now in
-    let after = g.A.Write.contents c.hand_out.new.answers in
-    let some : ServesSome g.F.Write.contents (g.D.Input.remaining c.args.data) (map g.S.Input.remaining c.args.scripts.now) c.args.settings.now.executors (option_map g.S.Input.remaining c.args.moves)
-    c.args.log c.args.tables before after (g.N.OutputFiles.named c.args.output_files.now) (g.N.OutputFiles.named c.hand_out.new.output_files) = inr (log, last, answers, are, c.in_err-hand_out.ensures.some) in
+    let output = output_of g.A.Write.contents c.args.answers.now c.hand_out.new.answers g.N.OutputFiles.named c.args.output_files.now c.hand_out.new.output_files in
+    let some : ServesSome g.F.Write.contents c.args.settings.now.executors texts (run_outputs c.args.log c.args.tables) output = inr (log, last, answers, are, c.in_err-hand_out.ensures.some) in
     on_any_err c.from_residual-in_err-hand_out.result some
 
 pub returns-clause-serves : goal.returns-clause-serves
@@ -73,7 +74,8 @@ returns-clause-serves g c =
     let answers = c.in-Ok.outcome.answers.items in
     let Serves : List (List Request) → Type 0 = λ l. IsOutcome opening l log last answers in
     let Within : List MoveOrder → Type 0 = AreWithin opening c.args.settings.now.executors in
-    let are : AreServed (g.D.Input.remaining c.args.data) (map g.S.Input.remaining c.args.scripts.now) c.args.settings.now.executors (option_map g.S.Input.remaining c.args.moves) log last answers = record {
+    let texts = texts_of (g.D.Input.remaining c.args.data) (map g.S.Input.remaining c.args.scripts.now) (option_map g.S.Input.remaining c.args.moves) in
+    let are : AreServed c.args.settings.now.executors texts log last answers = record {
       opening = opening;
       is_dataset = c.in_ok-opening.ensures.tables;
       consistent = c.in-Ok.ensures.consistent;

@@ -1,5 +1,6 @@
 use Rattle.std.proofs.Common.{inl, inr}
 use Rattle.std.proofs.lemmas.Result.{IfErr-weaker, err_from_is_err_and, on_err_weaker, on_ok_weaker}
+use Rattle.tpcc.specs.Effects.{source_of}
 use Rattle.tpcc.proofs.ScriptFiles.{of_making}
 use Rattle.tpcc.proofs.script.make.Goals as goal
 
@@ -23,4 +24,4 @@ returns-in_err-scale-clause-fault g c =
 pub returns-clause-fault : goal.returns-clause-fault
 returns-clause-fault g c =
     IfErr-weaker c.write_scripts.result _ _
-    (λ f h. of_making c.args.settings.now (g.D.Input.remaining c.args.data) (g.D.Input.lasts c.args.data) c.deref.result.now f c.deref.ensures.value h) c.write_scripts.ensures.fault
+    (λ f h. of_making c.args.settings.now (source_of g.D.Input.remaining g.D.Input.lasts c.args.data) c.deref.result.now f c.deref.ensures.value h) c.write_scripts.ensures.fault

@@ -10,7 +10,8 @@ use Rattle.tpcc.specs.declared.command_fault.CommandFault.{CommandFault}
 use Rattle.tpcc.specs.EarlyEnds.{IsOfGathering, IsOfShowing}
 use Rattle.tpcc.specs.Edges.{HasWritten, NamesFile}
 use Rattle.tpcc.specs.Faults.{IsOfWritingSome}
-use Rattle.tpcc.specs.Sim.{NamesPicture, ShowsSome}
+use Rattle.tpcc.specs.Effects.{output_of}
+use Rattle.tpcc.specs.Sim.{NamesPicture, ShowsSome, played_schedule, sim_outputs}
 use Rattle.tpcc.proofs.FaultsOfSources.{log_or_output, of_printing}
 use Rattle.tpcc.proofs.FileNames.{names_written, printed_well}
 use Rattle.tpcc.proofs.SimulationEnds.{all-first, no_output}
@@ -26,9 +27,8 @@ print_outputs-printed-requires g c =
 pub returns-in_err-log-clause-some : goal.returns-in_err-log-clause-some
 returns-in_err-log-clause-some g c =
     let before = g.A.Write.contents c.args.reported.now in
-    let names = g.N.OutputFiles.named in
-    let some : ShowsSome g.F.Write.contents c.args.settings.now.executors c.args.schedule.now c.args.simulation.now c.args.log c.args.picture c.args.tables before before
-    (names c.args.output_files.now) (names c.write_entries.new.output_files) = inl (no_output before c.args.simulation.now.log.items c.args.simulation.now.outputs.items, c.in_err-log.ensures.same) in
+    let output = output_of g.A.Write.contents c.args.reported.now c.args.reported.now g.N.OutputFiles.named c.args.output_files.now c.write_entries.new.output_files in
+    let some : ShowsSome g.F.Write.contents c.args.settings.now.executors c.args.schedule.now c.args.simulation.now (sim_outputs c.args.log c.args.picture c.args.tables) output = inl (no_output before c.args.simulation.now.log.items c.args.simulation.now.outputs.items, c.in_err-log.ensures.same) in
     on_any_err c.from_residual.result some
 
 -- not all was printed, or the log has not got its name
@@ -36,12 +36,11 @@ pub returns-in_err-name_printed-clause-some : goal.returns-in_err-name_printed-c
 returns-in_err-name_printed-clause-some g c =
     let before = g.A.Write.contents c.args.reported.now in
     let after = g.A.Write.contents c.print_outputs-printed.new.sink in
-    let names = g.N.OutputFiles.named in
+    let output = output_of g.A.Write.contents c.args.reported.now c.print_outputs-printed.new.sink g.N.OutputFiles.named c.args.output_files.now c.name_printed.new.output_files in
     let printed : BeginsToWrite before after (OfFirst (AreOutputs c.args.simulation.now.log.items) c.args.simulation.now.outputs.items) =
     subst (λ (reported : List Entry × List Output). BeginsToWrite before after (OfFirst (AreOutputs reported.0) reported.1)) (λ i. (c.as_slice-entries.ensures.value i, c.as_slice-outputs.ensures.value i))
     (all_or_some c.print_outputs-printed.result before after _ _ (all-first c.as_slice-entries.result.now c.as_slice-outputs.result.now) c.print_outputs-printed.ensures.printed c.print_outputs-printed.ensures.begun) in
-    let some : ShowsSome g.F.Write.contents c.args.settings.now.executors c.args.schedule.now c.args.simulation.now c.args.log c.args.picture c.args.tables before after
-    (names c.args.output_files.now) (names c.name_printed.new.output_files) = inl (printed, c.in_err-name_printed.ensures.err ∙ c.in_ok-log.ensures.same) in
+    let some : ShowsSome g.F.Write.contents c.args.settings.now.executors c.args.schedule.now c.args.simulation.now (sim_outputs c.args.log c.args.picture c.args.tables) output = inl (printed, c.in_err-name_printed.ensures.err ∙ c.in_ok-log.ensures.same) in
     on_any_err c.from_residual-in_err-name_printed.result some
 
 -- the picture was not drawn
@@ -58,8 +57,8 @@ returns-in_err-draw-clause-some g c =
     let logged : NamesFile g.F.Write.contents c.args.log (names c.args.output_files.now) with_log (IsLog log) =
     names_written g.F.Write.contents c.args.log (IsLog log) c.in_ok-log.log (names c.args.output_files.now) (names c.write_entries.new.output_files) with_log
     c.in_ok-log.ensures.same (subst Logs c.as_slice-entries.ensures.value c.in_ok-log.ensures.written) c.in_ok-name_printed.ensures.named in
-    let some : ShowsSome g.F.Write.contents c.args.settings.now.executors c.args.schedule.now c.args.simulation.now c.args.log c.args.picture c.args.tables before after
-    (names c.args.output_files.now) (names c.draw.new.output_files) = inr (printed, with_log, logged, inl c.in_err-draw.ensures.err) in
+    let output = output_of g.A.Write.contents c.args.reported.now c.print_outputs-printed.new.sink g.N.OutputFiles.named c.args.output_files.now c.draw.new.output_files in
+    let some : ShowsSome g.F.Write.contents c.args.settings.now.executors c.args.schedule.now c.args.simulation.now (sim_outputs c.args.log c.args.picture c.args.tables) output = inr (printed, with_log, logged, inl c.in_err-draw.ensures.err) in
     on_any_err c.from_residual-in_err-draw.result some
 
 -- the tables were not written
@@ -76,9 +75,9 @@ returns-clause-some g c =
     let logged : NamesFile g.F.Write.contents c.args.log (names c.args.output_files.now) with_log (IsLog log) =
     names_written g.F.Write.contents c.args.log (IsLog log) c.in_ok-log.log (names c.args.output_files.now) (names c.write_entries.new.output_files) with_log
     c.in_ok-log.ensures.same (subst Logs c.as_slice-entries.ensures.value c.in_ok-log.ensures.written) c.in_ok-name_printed.ensures.named in
-    let Draws : List Entry × List Output → Type 0 = λ (reported : List Entry × List Output). NamesPicture g.F.Write.contents c.args.picture with_log (names c.draw.new.output_files) c.args.settings.now.executors c.args.schedule.now reported.1 reported.0 in
+    let Draws : List Entry × List Output → Type 0 = λ (reported : List Entry × List Output). NamesPicture g.F.Write.contents c.args.picture with_log (names c.draw.new.output_files) (played_schedule c.args.settings.now.executors c.args.schedule.now reported.1 reported.0) in
     let drawn = subst Draws (λ i. (c.as_slice-entries.ensures.value i, c.as_slice-outputs.ensures.value i)) c.in_ok-draw.ensures.named in
-    let Named : Option (List (Option (List ℕ))) → Type 0 = λ named. NamesPicture g.F.Write.contents c.args.picture with_log named c.args.settings.now.executors c.args.schedule.now c.args.simulation.now.outputs.items c.args.simulation.now.log.items in
+    let Named : Option (List (Option (List ℕ))) → Type 0 = λ named. NamesPicture g.F.Write.contents c.args.picture with_log named (played_schedule c.args.settings.now.executors c.args.schedule.now c.args.simulation.now.outputs.items c.args.simulation.now.log.items) in
     on_err_weaker c.name_gathered.result (λ still. inr (printed, with_log, logged, inr (subst Named (sym still) drawn))) c.name_gathered.ensures.err
 
 pub returns-clause-all : goal.returns-clause-all
@@ -90,7 +89,7 @@ returns-clause-all g c =
     let Prints : List Entry × List Output → Type 0 = λ (reported : List Entry × List Output). Writes before after (AreOutputs reported.0 reported.1) in
     let Logs : List Entry → Type 0 = λ l. HasWritten g.F.Write.contents c.args.log (IsLog l) c.in_ok-log.log in
     let with_log = names c.name_printed.new.output_files in
-    let Draws : List Entry × List Output → Type 0 = λ (reported : List Entry × List Output). NamesPicture g.F.Write.contents c.args.picture with_log (names c.draw.new.output_files) c.args.settings.now.executors c.args.schedule.now reported.1 reported.0 in
+    let Draws : List Entry × List Output → Type 0 = λ (reported : List Entry × List Output). NamesPicture g.F.Write.contents c.args.picture with_log (names c.draw.new.output_files) (played_schedule c.args.settings.now.executors c.args.schedule.now reported.1 reported.0) in
     on_ok_weaker c.name_gathered.result (λ gathered. record {
       printed = subst Prints (λ i. (c.as_slice-entries.ensures.value i, c.as_slice-outputs.ensures.value i)) (printed_well c.print_outputs-printed.result tt c.in_ok-name_printed.ensures.printed c.print_outputs-printed.ensures.printed);
       with_log = with_log;

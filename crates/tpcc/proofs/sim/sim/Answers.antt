@@ -6,7 +6,8 @@ use Rattle.history.specs.declared.schedule.Scheduled.{Scheduled}
 use Rattle.world.specs.Openings.{IsFaultOf, Simulates}
 use Rattle.tpcc.specs.declared.command_fault.CommandFault.{CommandFault}
 use Rattle.tpcc.specs.EarlyEnds.{IsOfGathering, IsOfShowing, IsOfSimulating}
-use Rattle.tpcc.specs.Sim.{IsSimulation, Shows, ShowsSome}
+use Rattle.tpcc.specs.Effects.{output_of, source_of}
+use Rattle.tpcc.specs.Sim.{IsSimulation, Shows, ShowsSome, sim_inputs, sim_outputs}
 use Rattle.tpcc.proofs.OutputsNamed.{outputs_named}
 use Rattle.tpcc.proofs.SimulationEnds.{of_gathering}
 use Rattle.tpcc.proofs.sim.sim.Goals as goal
@@ -35,8 +36,8 @@ returns-clause-some g c =
       is_schedule = c.in_ok-schedule.ensures.items;
       simulates = subst Plays c.as_slice.ensures.value c.in-Ok.ensures.simulates;
     } in
-    let Some : List Scheduled → Type 0 = λ items. ShowsSome g.F.Write.contents executors items simulation c.args.log c.args.picture c.args.tables
-    (g.A.Write.contents c.args.reported.now) (g.A.Write.contents c.show.new.reported) (g.N.OutputFiles.named c.args.output_files.now) (g.N.OutputFiles.named c.show.new.output_files) in
+    let output = output_of g.A.Write.contents c.args.reported.now c.show.new.reported g.N.OutputFiles.named c.args.output_files.now c.show.new.output_files in
+    let Some : List Scheduled → Type 0 = λ items. ShowsSome g.F.Write.contents executors items simulation (sim_outputs c.args.log c.args.picture c.args.tables) output in
     on_err_weaker c.show.result (λ some. inr (schedule, simulation, is, subst Some c.as_slice-2.ensures.value some)) c.show.ensures.some
 
 pub returns-clause-simulates : goal.returns-clause-simulates
@@ -53,8 +54,8 @@ returns-clause-simulates g c =
       is_schedule = c.in_ok-schedule.ensures.items;
       simulates = subst Plays c.as_slice.ensures.value c.in-Ok.ensures.simulates;
     } in
-    let All : List Scheduled → Type 0 = λ items. Shows g.F.Write.contents executors items simulation c.args.log c.args.picture c.args.tables
-    (g.A.Write.contents c.args.reported.now) (g.A.Write.contents c.show.new.reported) (g.N.OutputFiles.named c.args.output_files.now) (g.N.OutputFiles.named c.show.new.output_files) in
+    let output = output_of g.A.Write.contents c.args.reported.now c.show.new.reported g.N.OutputFiles.named c.args.output_files.now c.show.new.output_files in
+    let All : List Scheduled → Type 0 = λ items. Shows g.F.Write.contents executors items simulation (sim_outputs c.args.log c.args.picture c.args.tables) output in
     on_ok_weaker c.show.result (λ all. record {
       schedule = schedule;
       simulation = simulation;
@@ -78,8 +79,9 @@ returns-clause-fault g c =
       simulates = subst Plays c.as_slice.ensures.value c.in-Ok.ensures.simulates;
     } in
     let asked = is_some c.args.settings.now.tables in
+    let inputs = sim_inputs (source_of g.D.Input.remaining g.D.Input.lasts c.args.data) (source_of g.S.Input.remaining g.S.Input.lasts c.args.schedule) in
     let by : (of : CommandFault) → IsOfGathering asked simulation.tables of ⊎ IsOfShowing c.args.settings.now of
-    → IsOfSimulating c.args.settings.now «data» (g.D.Input.lasts c.args.data) source (g.S.Input.lasts c.args.schedule) of = λ of said. elim said [
+    → IsOfSimulating c.args.settings.now inputs of = λ of said. elim said [
       | inl gathering ↦ inr (inr (inl (of_gathering «data» source executors asked schedule simulation is of gathering)))
       | inr showing ↦ inr (inr (inr showing))
     ] in

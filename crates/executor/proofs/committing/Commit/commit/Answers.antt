@@ -1,7 +1,7 @@
 use Rattle.std.proofs.Common.{◌≡◌, subst}
 use Rattle.commit_log.specs.declared.entry.Entry.{Entry}
 use Rattle.commit_log.specs.Items.{entry_of}
-use Rattle.transactions.specs.Logged.{Logs}
+use Rattle.transactions.specs.Logged.{Logs, log_and_claims}
 use Rattle.executor.specs.Commits.{commit_view, entry_committed}
 use Rattle.executor.specs.Transactions.{transaction_view}
 use Rattle.executor.proofs.Logged.{answers, commits, gives}
@@ -17,4 +17,4 @@ new-requires g c =
     let entry : entry_of c.session.result t.number c.take_request.result c.take_reply.result ≡ entry_committed own =
     λ i. entry_of (session i) t.number (request i) (reply i) in
     gives own c.args.log.now c.log-answer.new.log c.log-answer.result c.log-answer.new.self c.self.invariant.undone
-    (subst (λ (e : Entry). Logs e t.pass c.args.log.now c.self.inside.held c.log-answer.result c.log-answer.new.log c.log-answer.new.self) entry c.log-answer.ensures)
+    (subst (λ (e : Entry). Logs e t.pass (log_and_claims c.args.log.now c.self.inside.held) c.log-answer.result (log_and_claims c.log-answer.new.log c.log-answer.new.self)) entry c.log-answer.ensures)

@@ -6,7 +6,7 @@ use Rattle.transactions.specs.declared.work.Found.{Found}
 use Rattle.transactions.specs.Progresses.{works_of}
 use Rattle.executor.specs.declared.flow.FlowBody.{FlowBody}
 use Rattle.executor.specs.declared.paused.Tried.TheVariants.{Done}
-use Rattle.executor.specs.AtOnce.{HaveDoneAtOnce, RunsHere}
+use Rattle.executor.specs.AtOnce.{HaveDoneAtOnce, RunsHere, phase_of, phase_to_run}
 use Rattle.executor.specs.Flows.{FlowView, flow_view}
 use Rattle.executor.specs.PausedView.{PausedView, paused_view}
 use Rattle.executor.proofs.AtOnce.{undone_at_once}
@@ -16,13 +16,13 @@ use Rattle.executor.proofs.paused.Paused.run_here.Goals.{After-do_all}
 
 -- the transaction
 abbrev flow_of : (g : given.Over) → After-do_all g → FlowView
-flow_of g c = let t = c.flow.inside.transaction in flow_view t.age t.slot t.number t.body.value.request t.pass c.flow.inside.held t.body.value.progress
+flow_of g c = flow_view c.flow.inside.transaction c.flow.inside.held
 
 -- all its actions have done their work
 all_done : (g : given.Over) (c : After-do_all g) (held : List (List ClaimView)) (found : List Found) (works : List Work) → works ≡ works_of (flow_of g c).progress
-    → HaveDoneAtOnce (shared_of g.J.LogNames.opening) (flow_of g c).age works (flow_of g c).held held found
-    → HaveDoneAtOnce (shared_of g.J.LogNames.opening) (flow_of g c).age (works_of (flow_of g c).progress) (flow_of g c).held held found
-all_done g c held found works is done = subst (λ (l : List Work). HaveDoneAtOnce (shared_of g.J.LogNames.opening) (flow_of g c).age l (flow_of g c).held held found) is done
+    → HaveDoneAtOnce (shared_of g.J.LogNames.opening) (phase_to_run (flow_of g c).age works (flow_of g c).held) held found
+    → HaveDoneAtOnce (shared_of g.J.LogNames.opening) (phase_of (flow_of g c)) held found
+all_done g c held found works is done = subst (λ (l : List Work). HaveDoneAtOnce (shared_of g.J.LogNames.opening) (phase_to_run (flow_of g c).age l (flow_of g c).held) held found) is done
 
 pub following_of-requires-clause-undone : goal.following_of-requires-clause-undone
 following_of-requires-clause-undone g c =

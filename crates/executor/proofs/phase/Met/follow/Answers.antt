@@ -10,7 +10,7 @@ use Rattle.transactions.specs.SortedOut.{held_in}
 use Rattle.transactions.proofs.SortedOut.{none_before}
 use Rattle.executor.specs.Answers.{MayBeRefused}
 use Rattle.executor.specs.AgreedPhases.{KeepsWhole}
-use Rattle.executor.specs.Followed.{Follows, FollowsUnless, HasMetUnder, transaction_of}
+use Rattle.executor.specs.Followed.{Follows, FollowsUnless, HasMetUnder, under_claims}
 use Rattle.executor.specs.Flows.{FlowView, flow_view}
 use Rattle.executor.specs.Phases.{AreAllRans, MetView}
 use Rattle.executor.proofs.Onward.{follows, met_under, room_then, undone_then}
@@ -21,7 +21,7 @@ use Rattle.executor.proofs.phase.Met.follow.Goals.{After-start-start}
 
 -- the transaction, and what has met
 abbrev flow_of : (g : given.Over) → After-start-start g → FlowView
-flow_of g c = let t = c.flow.inside.transaction in flow_view t.age t.slot t.number t.body.value.request t.pass c.flow.inside.held t.body.value.progress
+flow_of g c = flow_view c.flow.inside.transaction c.flow.inside.held
 
 abbrev meeting_of : (g : given.Over) → After-start-start g → MetView g.row.J.Denot
 meeting_of g c = record { flow = flow_of g c; rans = c.self.inside.rans }
@@ -70,7 +70,7 @@ returns g c =
     let J = g.row.J.Denot in
     let j = flow_of g at in
     let sorted = c.sort_out-held.result.1 in
-    let goes = subst (λ (h : List (List ClaimView)). FollowsUnless sorted.refusal c.self.inside.phase_owner (transaction_of j) h j.progress sorted.found.items c.following_of.result) c.sort_out-held.ensures.held c.following_of.ensures in
+    let goes = subst (λ (h : List (List ClaimView)). FollowsUnless sorted.refusal c.self.inside.phase_owner (under_claims h j) sorted.found.items c.following_of.result) c.sort_out-held.ensures.held c.following_of.ensures in
     subst (λ (m : MetView J). Follows m c.following_of.result) (seen g at)
     (follows (meeting_of g at) c.self.inside.phase_owner (whole g at) c.start-start.result.refusal sorted.refusal sorted.found.items c.following_of.result c.start-start.ensures.refusal
     (sym c.sort_out-held.ensures.refusal) c.sort_out-held.ensures.found goes)

@@ -1,10 +1,9 @@
-use Rattle.std.proofs.Common.{◌≡◌, ◌∷◌, [], List, ℕ, Option, Some, None, IfSome, refl, sym}
+use Rattle.std.proofs.Common.{◌≡◌, [], ℕ, Option, Some, None, IfSome, refl, sym}
 use Rattle.std.specs.Prelude.{IfNone}
 use Rattle.files.specs.declared.fields.Fields.{Fields}
 use Rattle.files.specs.FieldRead.{FieldsView, fields_view, field_read}
 use Rattle.files.specs.KindsRead.{moment_read, optional_read}
-use Rattle.files.specs.MomentText.{IsMomentText}
-use Rattle.files.specs.Taken.{TakesWell, fields_left, fault_of}
+use Rattle.files.specs.Taken.{TakesMoment, TakesWell}
 use Rattle.files.proofs.FieldsRead.{Stands}
 use Rattle.files.proofs.KindsRead.{field_from, optional_is, takes_field, took_field}
 use Rattle.files.proofs.MomentSound.{moment_sound}
@@ -25,7 +24,7 @@ pub returns-clause-null : goal.returns-clause-null
 returns-clause-null c = null c.or_note.result c.args.self.now c.or_note.new.self (returns-clause-field c)
 
 some : (value : Option ℕ) (f n : Fields) → ◌≡◌ {A = Option ℕ × FieldsView} (value, fields_view n) (field_read (optional_read moment_read) None (fields_view f))
-    → IfSome value (λ seconds. fault_of n ≡ None → (fault_of f ≡ None) × ((text : List ℕ) × IsMomentText text seconds × (fields_left f ≡ text ∷ fields_left n)))
+    → IfSome value (λ seconds. TakesMoment f n seconds)
 some None f n is = tt
 some (Some seconds) f n is = λ none.
     let took = took_field (optional_read moment_read) None (Some seconds) f n is none in

@@ -1,11 +1,10 @@
 use Rattle.std.proofs.Common.{◌-◌, length}
-use Rattle.std.specs.Io.KnownBytes.{Keeps}
-use Rattle.files.specs.Source.{ahead, at_hand}
+use Rattle.files.specs.Source.{KeepsAhead, at_hand}
 use Rattle.files.proofs.source.Source.three_bytes.Given as goal
 
 abbrev pub invariant-loop-self : goal.invariant-loop-self
 invariant-loop-self g l =
-    Keeps (ahead g.R.Input.remaining l.fn.self) (ahead g.R.Input.remaining l.self)
+    KeepsAhead g.R.Input.remaining l.fn.self l.self
     × (g.R.Input.lasts l.fn.self.reader → g.R.Input.lasts l.self.reader)
 
 abbrev pub decreases-loop-self : goal.decreases-loop-self

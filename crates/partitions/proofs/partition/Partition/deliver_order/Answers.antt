@@ -28,7 +28,7 @@ pub returns-clause-before : goal.returns-clause-before
 returns-clause-before c =
     subst (λ (v : Part). StoodBefore v.tables c.args.key (record { carrier_id = c.carrier_of-carrier_id.result; moments = c.moments_of-moments.result; new_order = c.in_ok-new_order.new_order; room = c.in_ok-new_order.room })) c.self.view_is (record {
       carrier = c.carrier_of-carrier_id.ensures;
-      fifteen = c.moments_of-moments.ensures.fifteen;
+      most_lines = c.moments_of-moments.ensures.most_lines;
       moments = c.moments_of-moments.ensures.each;
       new_order = c.in_ok-new_order.ensures.was;
     })

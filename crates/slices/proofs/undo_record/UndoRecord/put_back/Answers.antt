@@ -80,8 +80,8 @@ take_back_delivery-requires-clause-order c =
     let t = c.args.rows.now.tables in
     sym (ap is_some ((each_row_stands_in_one_group t).orders c.in-Delivery.key).0) ∙ (can_take_back_delivery c.args.rows.now c.args.self c.in-Delivery.key c.in-Delivery.before c.in-Delivery.is c.requires).order
 
-pub take_back_delivery-requires-clause-fifteen : goal.take_back_delivery-requires-clause-fifteen
-take_back_delivery-requires-clause-fifteen c = (can_take_back_delivery c.args.rows.now c.args.self c.in-Delivery.key c.in-Delivery.before c.in-Delivery.is c.requires).fifteen
+pub take_back_delivery-requires-clause-most_lines : goal.take_back_delivery-requires-clause-most_lines
+take_back_delivery-requires-clause-most_lines c = (can_take_back_delivery c.args.rows.now c.args.self c.in-Delivery.key c.in-Delivery.before c.in-Delivery.is c.requires).most_lines
 
 pub returns-in-Delivery : goal.returns-in-Delivery
 returns-in-Delivery c = rw c.in-Delivery.is (delivery_back_changes c.args.rows.now c.take_back_delivery.new.self c.in-Delivery.key c.in-Delivery.before c.take_back_delivery.ensures)

@@ -3,7 +3,7 @@ use Rattle.std.specs.Prelude.{slice_get}
 use Rattle.rows.specs.declared.limits.TheConstants.{INBOX}
 use Rattle.partitions.specs.Parts.{shared_of}
 use Rattle.range_moves.specs.Placements.{route_of}
-use Rattle.world.specs.Happening.{SubmitsAt, begins_at, beginning_at, has_room}
+use Rattle.world.specs.Happening.{SubmitsAt, begins_at, beginning_at, has_room, submission}
 use Rattle.world.specs.Queues.{queue_of}
 use Rattle.world.proofs.Executing.{GoesOnWith}
 use Rattle.world.proofs.Sent.{one_put, submits_at}
@@ -47,7 +47,7 @@ returns-clause-happens g c =
     ap (λ n. nat_lt n INBOX) (c.waiting-has_room.ensures ∙ ap (λ t. length (queue_of t old.inboxes)) to_is) in (
       parts,
       (
-        subst (λ b. SubmitsAt b (slice_get old.parts.desk.sessions.items c.args.session) c.args.session c.args.number c.args.request.now old.parts answer parts) room_is c.submit-answer.ensures,
+        subst (λ b. SubmitsAt (submission b c.args.session c.args.number c.args.request.now) (slice_get old.parts.desk.sessions.items c.args.session) old.parts answer parts) room_is c.submit-answer.ensures,
         subst (λ t. c.hand_out.new.self ≡ beginning_at t parts old) to_is c.hand_out.ensures,
       ),
     )

@@ -1,6 +1,6 @@
 use Rattle.std.proofs.Common.{subst, arith}
 use Rattle.commit_log.specs.declared.entry.Entry.{Entry}
-use Rattle.transactions.specs.Logged.{Logs}
+use Rattle.transactions.specs.Logged.{Logs, log_and_claims}
 use Rattle.world.proofs.Logging.{as_many_hold}
 use Rattle.world.proofs.world.Parts.commit.Goals as goal
 
@@ -10,7 +10,7 @@ release-requires g c =
     let now = c.log-answer in
     let entry : Entry = record { session = c.session.result; number = t.number; request = t.request; reply = c.args.commit.reply } in
     record {
-      room = omega (arith, c.requires.room, c.requires.can.few, as_many_hold entry t.pass c.args.self.now.log now.new.log t.held now.new.self now.result now.ensures);
+      room = omega (arith, c.requires.room, c.requires.can.few, as_many_hold entry t.pass (log_and_claims c.args.self.now.log t.held) (log_and_claims now.new.log now.new.self) now.result now.ensures);
       slot = c.requires.can.slot;
     }
 
@@ -23,7 +23,7 @@ returns g c =
       log = now.new.log;
       held = now.new.self;
       logs = subst
-          (λ n. Logs {J = g.row.J.Denot} (record { session = n; number = t.number; request = t.request; reply = c.args.commit.reply }) t.pass c.args.self.now.log t.held now.result now.new.log now.new.self)
+          (λ n. Logs {J = g.row.J.Denot} (record { session = n; number = t.number; request = t.request; reply = c.args.commit.reply }) t.pass (log_and_claims c.args.self.now.log t.held) now.result (log_and_claims now.new.log now.new.self))
           c.session.ensures now.ensures;
       answered = c.recorded_of.ensures;
       over = c.release.ensures;

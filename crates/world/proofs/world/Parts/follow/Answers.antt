@@ -2,6 +2,7 @@ use Rattle.std.proofs.Common.{◌<◌, false, length, inr, sym, ◌∙◌, ap, s
 use Rattle.transactions.specs.declared.progress.Gathered.{Gathered}
 use Rattle.transactions.specs.declared.progress.Gathered.TheVariants.{Finish}
 use Rattle.transactions.specs.Progresses.{FollowsFrom}
+use Rattle.world.specs.declared.slots.TheConstants.{MOST_ACTIVE}
 use Rattle.world.specs.Following.{releasing}
 use Rattle.world.proofs.Sorting.{meets_gathered, meets_next, meets_over, next_few, sorted_done, sorted_room, sorted_slot}
 use Rattle.world.proofs.world.Parts.follow.Goals as goal
@@ -35,7 +36,7 @@ release-requires g c =
     let few = sorted_room c.args.results c.sort_out-flow.result.0 c.requires.can c.sort_out-flow.ensures.flow in
     record {
       room = omega (arith, c.requires.room, few, ap (λ r. length r.held) c.refused.ensures);
-      slot = subst (λ n. n < 64) (sym (ap (λ r. r.slot) c.refused.ensures)) (sorted_slot c.args.results c.sort_out-flow.result.0 c.requires.can c.sort_out-flow.ensures.flow);
+      slot = subst (λ n. n < MOST_ACTIVE) (sym (ap (λ r. r.slot) c.refused.ensures)) (sorted_slot c.args.results c.sort_out-flow.result.0 c.requires.can c.sort_out-flow.ensures.flow);
     }
 
 pub returns-in-Ok-Next : goal.returns-in-Ok-Next

@@ -47,6 +47,7 @@ loop-event-preserved g c =
             changes = c.step-answer.ensures.changes;
             nothing = c.step-answer.ensures.nothing;
             busy = c.step-answer.ensures.busy;
+            full = c.step-answer.ensures.full;
             asked = c.step-answer.ensures.asked;
             died = c.step-answer.ensures.died;
             dies = c.step-answer.ensures.dies;

@@ -1,16 +1,12 @@
-use Rattle.std.proofs.Common.{◌≡◌, subst, List, ◌∷◌, []}
+use Rattle.std.proofs.Common.{◌≡◌, subst}
 use Rattle.partitions.specs.Parts.{shared_of}
-use Rattle.schema.specs.Database.{Database}
-use Rattle.history.specs.History.{Step, step}
 use Rattle.world.specs.declared.world.Core.{Core}
-use Rattle.world.specs.Slots.{count_active}
-use Rattle.world.specs.Together.{together}
-use Rattle.world.specs.Worlds.{Advances, AllDieOfOlder, AnswersWhoAsked, Fits, IsBusyExactly, NoneDies, RecordsOfOlder}
+use Rattle.world.specs.Worlds.{AdvancesBy, AllDieOfOlder, AnswersWhoAsked, IsBusyExactly, IsFullExactly, NoneDiesAlone, RecordsOfOlder}
 use Rattle.world.specs.Changes.{ChangesOnly}
 use Rattle.world.specs.Happening.{Happens}
 use Rattle.world.proofs.Alone.{none_dies}
 use Rattle.world.proofs.NeverStuck.{is_owned, never_stuck}
-use Rattle.world.proofs.Busy.{busy_exactly}
+use Rattle.world.proofs.Busy.{busy_exactly, full_exactly}
 use Rattle.world.proofs.WhoAsked.{answers_who_asked}
 use Rattle.world.proofs.Deaths.{records_of_older}
 use Rattle.world.proofs.Dying.{die_of_older}
@@ -21,7 +17,7 @@ use Rattle.world.proofs.world.World.step.Goals as goal
 
 pub returns-clause-advances : goal.returns-clause-advances
 returns-clause-advances g c =
-    subst (λ (old : Core g.row.J.Denot). Advances (together old) (step c.args.event.now c.happen.result ∷ []) (together c.happen.new.self)) c.self.view_is c.happen.ensures.advances
+    subst (λ (old : Core g.row.J.Denot). AdvancesBy c.args.event.now c.happen.result old c.happen.new.self) c.self.view_is c.happen.ensures.advances
 
 pub returns-clause-changes : goal.returns-clause-changes
 returns-clause-changes g c =
@@ -37,6 +33,11 @@ pub returns-clause-busy : goal.returns-clause-busy
 returns-clause-busy g c =
     subst (λ (old : Core g.row.J.Denot). IsBusyExactly c.args.event.now old c.happen.result) c.self.view_is
     (busy_exactly (shared_of g.J.LogNames.opening) c.args.event.now c.self.inside.core c.happen.new.self c.happen.result c.self.invariant.0 c.happen.ensures.happens)
+
+pub returns-clause-full : goal.returns-clause-full
+returns-clause-full g c =
+    subst (λ (old : Core g.row.J.Denot). IsFullExactly c.args.event.now old c.happen.result) c.self.view_is
+    (full_exactly (shared_of g.J.LogNames.opening) c.args.event.now c.self.inside.core c.happen.new.self c.happen.result c.self.invariant.0 c.happen.ensures.happens)
 
 pub returns-clause-asked : goal.returns-clause-asked
 returns-clause-asked g c =
@@ -55,7 +56,7 @@ returns-clause-dies g c =
 
 pub returns-clause-alone : goal.returns-clause-alone
 returns-clause-alone g c =
-    subst (λ (old : Core g.row.J.Denot). (opening : Database) (history : List Step) → Fits opening history (together old) → count_active old.parts.desk.active ≡ 1 → NoneDies c.args.event.now old c.happen.new.self) c.self.view_is
+    subst (λ (old : Core g.row.J.Denot). NoneDiesAlone c.args.event.now old c.happen.new.self) c.self.view_is
     (none_dies c.claims_are_of_the_footprint.ensures.once (shared_of g.J.LogNames.opening) c.args.event.now c.self.inside.core c.happen.new.self c.happen.result c.self.invariant.0 c.happen.ensures.happens)
 
 pub returns-clause-executors : goal.returns-clause-executors
