@@ -2,6 +2,7 @@ ghost use Rattle.std.specs.Prelude.{◌≡◌, ◌≤◌};
 
 use rendezvous::shared::{Anything, Convener, Meeting, Place, Reported};
 use std::alloc::Global;
+use std::marker::Brand;
 use std::sync::{Mutex, Wait};
 use std::test::*;
 use std::thread;
@@ -43,7 +44,7 @@ fn convene_for<'m, R: Wait>(
     requires here { convener.meeting ≡ meeting.now }
     requires room { 8 ≤ meeting.now.slots }
 {
-    let mut places = meeting.convene(convener, PLACES, &Anything);
+    let mut places = meeting.convene::<(), Brand>(convener, PLACES, &());
     for inbox in inboxes {
         if let Some(place) = meeting.hand_out(&mut places) {
             *inbox.lock(rt) = Some(Seated { meeting, place });

@@ -88,8 +88,14 @@ impl<R: Drop, T: Topic<R>> Meeting<R, T> {
         Ok((Meeting { board }, Convener { seat }))
     }
 
-    /// Convenes a round of this many places. Returns its places. What the round is about is picked by the caller's proof, as P.
-    pub fn convene<P: Picked<T>>(&self, convener: Convener<R, T>, places: usize) -> Places<R, T>
+    /// Convenes a round of this many places. Returns its places. What the round is about is P's topic, which the caller's proof picks
+    /// from `_from`. Never allocates or waits.
+    pub fn convene<A, P: Picked<T>>(
+        &self,
+        convener: Convener<R, T>,
+        places: usize,
+        _from: &A,
+    ) -> Places<R, T>
         requires here { convener.meeting ≡ self.now }
         requires some { 1 ≤ places }
         requires room { places ≤ self.now.slots }
