@@ -196,9 +196,9 @@ order_home p key (Some row) is found there = home_recorded p.home key.w_id (is.o
 order_home p key None is found there = absurd cc
 
 -- the rows without the order are a part again
-pub part_without_order : (p : Part) (key : OrderKey) (replaced : Replaced) → IsPart p → CanTakeBackOrder p.tables.scale key replaced (content p.tables (group_of_order key))
+pub is_part_without_order : (p : Part) (key : OrderKey) (replaced : Replaced) → IsPart p → CanTakeBackOrder p.tables.scale key replaced (content p.tables (group_of_order key))
     → IsPart (part_without_order p key replaced)
-part_without_order p key replaced is can =
+is_part_without_order p key replaced is can =
     let t = p.tables in
     let group = group_of_order key in
     let home = order_home p key (table.get t.orders key) is refl (sym (ap is_some ((each_row_stands_in_one_group t).orders key).0) ∙ can.order) in

@@ -13,7 +13,7 @@ use Rattle.slices.specs.Undo.{group_of_kept, CanPutBack, CanTakeBackDelivery, Ca
 use Rattle.slices.proofs.Steps.{warehouse_changes, district_changes, stock_changes, customer_changes, no_payment_changes}
 use Rattle.partitions.specs.declared.delivery_rows.BeforeDelivery.{BeforeDelivery}
 use Rattle.slices.proofs.Delivered.{delivery_back_changes}
-use Rattle.slices.proofs.Orders.{part_without_order, order_back_changes}
+use Rattle.slices.proofs.Orders.{is_part_without_order, order_back_changes}
 use Rattle.slices.proofs.undo_record.UndoRecord.put_back.Goals as goal
 
 -- what is asked of an order that is taken back
@@ -68,7 +68,7 @@ take_back_order-requires-clause-lines c = λ n below.
 pub take_back_order-requires-clause-within : goal.take_back_order-requires-clause-within
 take_back_order-requires-clause-within c =
     let can = can_take_back c.args.rows.now c.args.self c.in-Order.key c.in-Order.replaced c.in-Order.is c.requires in
-    part_without_order c.args.rows.now c.in-Order.key c.in-Order.replaced c.partition.ensures.part can
+    is_part_without_order c.args.rows.now c.in-Order.key c.in-Order.replaced c.partition.ensures.part can
 
 -- what is asked of a delivery that is taken back
 can_take_back_delivery : (p : Part) (kept : UndoRecord) (key : OrderKey) (before : BeforeDelivery) → kept ≡ k.Delivery key before → CanPutBack p.tables.scale kept (content p.tables (group_of_kept kept))
