@@ -7,7 +7,7 @@ use crate::place::{Advanced, Ended, Place, Unexpected};
 use crate::{Gate, ServeNames};
 use commit_log::Log;
 use crossbeam_utils::Backoff;
-use executor::{Flow, Met, Phase, PhaseOwner, Report, SessionAnswer};
+use executor::{Flow, PhaseOwner, SessionAnswer};
 use requests::{Request, Script};
 use routing::SharedRouting;
 use schema::Scale;
@@ -118,27 +118,6 @@ impl<J: ServeNames, G: Gate> Engine<'_, J, G> {
     }
 
     // ---- the places of sessions
-
-    /// Takes an action's report to the phase in this slot. Returns the phase's results with the last report; `None` if another
-    /// action is still awaited.
-    pub(crate) fn collect_report(
-        &self,
-        rt: &impl Wait,
-        slot: usize,
-        report: Report<J>,
-    ) -> Result<Option<Met<J>>, Unexpected> {
-        match self.places.get(slot) {
-            Some(place) => place.lock(rt).collect(report),
-            None => Err(Unexpected),
-        }
-    }
-
-    /// Stores the phase of the transaction in this slot that is in flight by messages.
-    pub(crate) fn begin_phase(&self, rt: &impl Wait, slot: usize, phase: Phase<J>) {
-        if let Some(place) = self.places.get(slot) {
-            place.lock(rt).set_phase(phase);
-        }
-    }
 
     /// Ends the transaction in this slot.
     pub(crate) fn end(

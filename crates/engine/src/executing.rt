@@ -271,13 +271,11 @@ impl<J: ServeNames, G: Gate, R: Wait> AtWork<'_, '_, J, G, R> {
 
     // ---- the steps of transactions
 
-    // Takes an action's report to its phase. With the last report the transaction goes on.
+    // An action reports to the meeting of its phase; no lock is held. With the last report the transaction goes on.
     fn take_report(&mut self, report: Report<J>) {
         let slot = report.slot();
-        match self.engine.collect_report(self.rt, slot, report) {
-            Ok(Some(met)) => self.run_on(slot, met.follow(self.alloc)),
-            Ok(None) => {}
-            Err(Unexpected) => self.engine.stop(),
+        if let Some(following) = report.report(self.alloc) {
+            self.run_on(slot, following);
         }
     }
 
@@ -300,8 +298,7 @@ impl<J: ServeNames, G: Gate, R: Wait> AtWork<'_, '_, J, G, R> {
     // Begins the next phase of a transaction by messages.
     fn send_out(&mut self, slot: usize, paused: Paused<J>) {
         match paused.send_out(self.alloc) {
-            Ok((phase, acts)) => {
-                self.engine.begin_phase(self.rt, slot, phase);
+            Ok(acts) => {
                 for act in acts {
                     self.send(act.home(), Message::Act(act));
                 }

@@ -1,10 +1,11 @@
 //! The messages between executors.
-use executor::{Act, CountedShard, GivenBack, PhaseNames};
+use commit_log::Names;
+use executor::{Act, CountedShard, GivenBack};
 use range_moves::MoveOrder;
 
 /// A message to an executor. What is proved of it is the invariant of its own type.
 #[derive(Drop)]
-pub(crate) enum Message<J: PhaseNames> {
+pub(crate) enum Message<J: Names> {
     /// The session of this place is to begin its next request here.
     Begin(usize),
     /// The transaction of this place, which was begun here, is finished, and all its claims are given back.

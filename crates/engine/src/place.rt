@@ -3,7 +3,7 @@ ghost use Rattle.std.specs.Prelude.{◌≡◌};
 
 use crate::ServeNames;
 use crate::asking::{Asked, Next, Ready};
-use executor::{Flow, Met, Paused, Phase, PhaseOwner, Report, Reported, SessionAnswer};
+use executor::{Flow, Paused, PhaseOwner, SessionAnswer};
 use schema::Scale;
 use std::alloc::Global;
 use std::sync::atomic::AtomicU64;
@@ -13,9 +13,7 @@ use std::sync::atomic::AtomicU64;
 #[derive(Drop)]
 pub(crate) struct Place<'a, J: ServeNames> {
     stage: Option<Stage<'a, J>>,
-    // The phase in flight by messages, if there is one.
-    phase: Option<Phase<J>>,
-    // The phase owner, while no transaction is in flight.
+    // The owner of the meeting to which the actions of its transactions report, while no transaction is in flight.
     phase_owner: Option<PhaseOwner<J>>,
     // The executor that began the transaction.
     begun_by: u32,
@@ -76,7 +74,6 @@ impl<'a, J: ServeNames> Place<'a, J> {
     pub(crate) fn new(session: Ready<'a, J>, phase_owner: PhaseOwner<J>) -> Place<'a, J> {
         Place {
             stage: Some(Stage::Ready(session)),
-            phase: None,
             phase_owner: Some(phase_owner),
             begun_by: 0,
             ending: 0,
@@ -87,7 +84,6 @@ impl<'a, J: ServeNames> Place<'a, J> {
     pub(crate) fn free(phase_owner: PhaseOwner<J>) -> Place<'a, J> {
         Place {
             stage: Some(Stage::Free),
-            phase: None,
             phase_owner: Some(phase_owner),
             begun_by: 0,
             ending: 0,
@@ -215,26 +211,6 @@ impl<'a, J: ServeNames> Place<'a, J> {
         }
     }
 
-    /// Takes an action's report. Returns the phase's results with the last report; `None` if another action is still awaited.
-    pub(crate) fn collect(&mut self, report: Report<J>) -> Result<Option<Met<J>>, Unexpected> {
-        let Some(phase) = self.phase.take() else {
-            return Err(Unexpected);
-        };
-        match phase.report(report) {
-            Reported::Awaits(phase) => {
-                self.phase = Some(phase);
-                Ok(None)
-            }
-            Reported::Met(met) => Ok(Some(met)),
-            Reported::Unexpected(phase, report) => Err(unexpected_report(phase, report)),
-        }
-    }
-
-    /// Stores the phase that is in flight by messages.
-    pub(crate) fn set_phase(&mut self, phase: Phase<J>) {
-        self.phase = Some(phase);
-    }
-
     /// Ends the transaction: its session gets the answer. The claims of `ending` actions are still to come back.
     pub(crate) fn end(
         &mut self,
@@ -288,13 +264,4 @@ impl<'a, J: ServeNames> Place<'a, J> {
             _ => None,
         }
     }
-}
-
-// Drops a report to a phase that doesn't await it.
-#[cold]
-#[inline(never)]
-fn unexpected_report<J: ServeNames>(phase: Phase<J>, report: Report<J>) -> Unexpected {
-    drop(phase);
-    drop(report);
-    Unexpected
 }

@@ -1,4 +1,3 @@
-pub mod Shares
 pub mod Phases
 pub mod SentOut
 pub mod SortedOut

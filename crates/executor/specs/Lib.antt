@@ -3,7 +3,6 @@ pub mod Flows
 pub mod Transactions
 pub mod Carrying
 pub mod Phases
-pub mod Reports
 pub mod Begins
 pub mod ExecutorShards
 pub mod GivenBackViews

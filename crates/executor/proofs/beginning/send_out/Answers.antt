@@ -1,6 +1,6 @@
 use Rattle.std.proofs.Common.{◌≡◌, ◌+◌, ◌∙◌, List, Option, sym, ap, subst, length, arith}
 use Rattle.transactions.specs.declared.work.Work.{Work}
-use Rattle.executor.specs.declared.agreed_phase.AgreedPhase.{AgreedPhase}
+use Rattle.executor.specs.declared.phase_owner.AgreedPhase.{AgreedPhase}
 use Rattle.executor.specs.Begins.{act_at, acts_of}
 use Rattle.executor.specs.Carrying.{ActView, IsWorkAt, agreed_phase_of}
 use Rattle.executor.specs.Flows.{FlowView}
