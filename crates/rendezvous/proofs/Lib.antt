@@ -6,3 +6,5 @@ pub mod Keeping
 pub mod Hands
 pub mod SharedPlaces
 pub mod SharedSendable
+pub mod SolePlaces
+pub mod SoleSendable

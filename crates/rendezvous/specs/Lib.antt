@@ -8,3 +8,5 @@ pub mod Seats
 pub mod Hands
 pub mod Meetings
 pub mod SharedReports
+pub mod Sole
+pub mod SoleReports

@@ -1,6 +1,6 @@
 //! A meeting: each of several places reports once, and the last one to report gets all reports.
 //!
-//! No function waits, and only `Meeting::open` allocates.
+//! No function waits, and only `open` allocates.
 #![tactic(auto)]
 
 mod laws;
