@@ -4,7 +4,7 @@ ghost use Rattle.schema.specs.Consistency.{Consistent};
 ghost use Rattle.range_moves.specs.Orders.{IsWithin};
 ghost use Rattle.engine.specs.Interactive.{HasAskedNothing, asked_by, recorded_by};
 ghost use Rattle.engine.specs.Faults.{AreWithin, IsFaultOf, IsFirstBad, IsOfServing};
-ghost use Rattle.engine.specs.Opening.{IsNamedFor, session_names};
+ghost use Rattle.engine.specs.Opening.{IsNamedFor};
 ghost use Rattle.engine.specs.Outcome.{IsOutcomeOf};
 
 use crate::belongings::Executor;
@@ -216,14 +216,13 @@ fn serve_from<
     client: &C,
 ) -> Result<Outcome, ServeFault>
     requires room { 0 < room }
-    requires named { IsNamedFor J.LogNames J.GroupNames
-        (session_names J.agreed_phase J.scripts) tables scripts.now opening }
+    requires named { IsNamedFor J.LogNames J.GroupNames J.scripts tables scripts.now opening }
     requires some { 1 ≤ executors }
-    requires most { vec_len opening.agreed_phases ≤ SESSIONS }
+    requires most { opening.sessions ≤ SESSIONS }
     ensures outcome { IfOk result (λ outcome.
         IsOutcomeOf tables (scripts.now ++ outcome.asked.items) outcome) }
     ensures asked { IfOk result (λ outcome.
-        length scripts.now + length outcome.asked.items ≡ vec_len opening.agreed_phases) }
+        length scripts.now + length outcome.asked.items ≡ opening.sessions) }
     ensures promised { IfOk result (λ outcome. C.promises client.now tables outcome.asked.items
         (drop (length scripts.now) outcome.answers.items)) }
     ensures fault { IfErr result (λ fault. IsOfServing fault) }

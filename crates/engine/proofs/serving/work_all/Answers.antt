@@ -6,4 +6,4 @@ use Rattle.engine.proofs.serving.work_all.Goals as goal
 
 -- executors may go to threads, and come back
 pub work_on_each-requires-send-X : goal.work_on_each-requires-send-X
-work_on_each-requires-send-X g c κs within = param_send _ _ (arg_send _ no _ (Executor-send (param 0 g.row.J) g.J.PhaseNames g.J.LogNames g.J.GroupNames c.type_bounds.send-J))
+work_on_each-requires-send-X g c κs within = param_send _ _ (arg_send _ no _ (Executor-send (param 0 g.row.J) g.J.LogNames g.J.GroupNames c.type_bounds.send-J))
