@@ -86,8 +86,7 @@ def with_all_below():
 
 class Progress:
     """Follows the output of `rt ci`. Prints how many crates have passed each part. Calls `proved` once for each proved crate, with
-    the folder below which its library is built. Records in `is_done_again` whether a crate was proved twice; that happens only if
-    `rt ci` keeps nothing."""
+    the folder below which its library is built."""
 
     def __init__(self, proved):
         named = crates()
@@ -96,15 +95,12 @@ class Progress:
             "proofs": (re.compile(r"rt: (\w+) (proved|is kept)"), len(named)),
             "tests": (re.compile(r"rt: (\w+): its tests are proved"), sum(has(it, "#[test]", "src") for it in named)),
         }
-        self.done, self.made, self.is_done_again = {part: set() for part in self.parts}, set(), False
+        self.done = {part: set() for part in self.parts}
 
     def look(self, folder, line):
         for part, (pattern, _) in self.parts.items():
             found = pattern.match(line)
             with self.lock:
-                if found and line.rstrip().endswith("proved"):
-                    self.is_done_again = self.is_done_again or (part, found[1]) in self.made
-                    self.made.add((part, found[1]))
                 if found and found[1] not in self.done[part]:
                     self.done[part].add(found[1])
                     say(", ".join(f"{name} of {len(self.done[name])} of {of} crates" for name, (_, of) in self.parts.items()))
@@ -145,24 +141,20 @@ class Run:
 
 
 def ahead(chain, others):
-    """Waits until both runs have ended, one of them has failed, or a crate was proved twice because nothing is kept. Returns how many
-    passed and failed in the runs that have ended."""
+    """Waits until both runs have ended, or one of them has failed. Returns how many passed and failed in the runs that have ended."""
     with chain, others:
         while True:
             ended = [it.verdict for it in (chain, others) if not it.is_running()]
             passed, failed = (sum(counts) for counts in zip((0, 0), *ended))
-            if len(ended) == 2 or failed or chain.progress.is_done_again:
+            if len(ended) == 2 or failed:
                 return passed, failed
             time.sleep(1)
 
 
-def words_for(anew):
-    """Returns the arguments of `rt ci`: --anew if everything is to be repeated and this toolchain's `rt ci` has the option."""
+def keeps_results():
+    """Returns whether this toolchain's `rt ci` keeps what it has passed. Then it has the option --anew."""
     ran = subprocess.run(["rt", "help"], stdin=subprocess.DEVNULL, capture_output=True, text=True, errors="replace", check=False)
-    keeps = "--anew" in ran.stdout + ran.stderr
-    if anew and not keeps:
-        say("this toolchain's rt ci keeps nothing of earlier runs, so --anew changes nothing")
-    return ["--anew"] if anew and keeps else []
+    return "--anew" in ran.stdout + ran.stderr
 
 
 @contextlib.contextmanager
@@ -198,14 +190,18 @@ def run(anew, whole):
     below = with_all_below()
     with contextlib.ExitStack() as held:
         copy_of = lambda names: held.enter_context(without_edits(names))
-        room, chain, others = copy_of(crates()), copy_of(below[TOP]), copy_of(it for it in crates() if TOP not in below[it])
+        room = copy_of(crates())
         trials = held.enter_context(Trials(edits, say))
         progress = Progress(trials.begin)
-        if not anew and free_memory() > ENOUGH_FOR_TWO:
+        keeps = keeps_results()
+        if not keeps:
+            say("this toolchain's rt ci keeps nothing, so one run proves everything")
+        elif not anew and free_memory() > ENOUGH_FOR_TWO:
+            chain, others = copy_of(below[TOP]), copy_of(it for it in crates() if TOP not in below[it])
             passed, failed = ahead(Run(chain, [], progress), Run(others, [], progress, priority=10))
             if failed:
                 return passed, failed
-        with Run(room, words_for(anew), progress) as judge:
+        with Run(room, ["--anew"] if anew and keeps else [], progress) as judge:
             judge.reader.join()
         passed, failed = judge.verdict
         if failed:
