@@ -1,11 +1,8 @@
--- An engine is opened: the log's seats record the content of the tables, the slices that were cut have no waiting actions, and
--- each place has its agreed phase.
+-- An engine is opened: the log's seats record the content of the tables, the slices that were cut have no waiting actions.
 use Rattle.std.proofs.Common.{◌≡◌, ℕ, suc, ◌+◌, ◌<◌, List, [], ◌∷◌, length, map, get_or, refl, sym, ap, subst, ◌∙◌, arith}
 use Rattle.std.specs.Prelude.{All}
 use Rattle.std.proofs.lemmas.List.{get_or-map, get_or_default, length-map}
-use Rattle.std.proofs.lemmas.Option.{get_or_from_slice_get}
 use Rattle.std.proofs.lemmas.List.Elements.{All-cons, All-nil}
-use Rattle.atomic_table.specs.Seated.{TableId}
 use Rattle.schema.specs.Database.{Database}
 use Rattle.partitions.specs.Parts.{part_of}
 use Rattle.groups.specs.Content.{content}
@@ -17,7 +14,7 @@ use Rattle.tickets.proofs.OnePlace.{place_inside}
 use Rattle.slices.specs.Openings.{AreOpenedFor, IsBoxOf}
 use Rattle.slices.specs.SliceView.{at_rest}
 use Rattle.slices.proofs.Opened.{opened_groups_have_boxes}
-use Rattle.engine.specs.Opening.{AreAgreedPhasesFrom, IsToOpen}
+use Rattle.engine.specs.Opening.{IsToOpen}
 
 -- the log's seats record the content of the tables
 pub seats_record : (t : Database) (openings : List OpenedGroup) (seats : List CommittedGroup) → AreOpenedFor t openings → AreInPlace t.scale.warehouses seats → contents_committed seats ≡ contents_opened openings
@@ -34,13 +31,6 @@ pub cut_to_open : (t : Database) (ids : List ℕ) → All (IsToOpen t) (map at_r
 cut_to_open t [] = All-nil (IsToOpen t)
 cut_to_open t (id ∷ ids) = All-cons (IsToOpen t) (at_rest (part_of t id)) (map at_rest (map (part_of t) ids)) (record { shared_is = refl; nobody = refl }) (cut_to_open t ids)
 
--- the first of these agreed phases is that of its slot, and so are the others
-pub agreed_phases_next : (agreed_phase : ℕ → TableId) (first : ℕ) (table : TableId) (tables : List TableId) → AreAgreedPhasesFrom agreed_phase first (table ∷ tables) → (agreed_phase first ≡ table) × AreAgreedPhasesFrom agreed_phase (first + 1) tables
-agreed_phases_next agreed_phase first table tables h = (
-  (let at : first + 0 ≡ first = omega arith in ap agreed_phase (sym at) ∙ h 0 table refl),
-  λ k other found. let at : first + 1 + k ≡ first + suc k = omega arith in ap agreed_phase at ∙ h (suc k) other found,
-)
-
 -- the type parameter identifies the agreements that were opened for the groups' places
 pub agreements_named : (t : Database) (openings : List OpenedGroup) (d : OpenedGroup) → AreOpenedFor t openings
     → AreNamed t.scale.warehouses (λ group. (get_or openings (place_of group) d).committed) (λ group. (get_or openings (place_of group) d).work) openings
@@ -48,7 +38,3 @@ agreements_named t openings d opened = λ group e known.
     let inside : place_of group < length openings = omega (arith, place_inside t.scale.warehouses group known, opened.all_there) in
     let same : get_or openings (place_of group) d ≡ get_or openings (place_of group) e = get_or_default openings (place_of group) d e inside in
     (ap (λ (o : OpenedGroup). o.committed) same, ap (λ (o : OpenedGroup). o.work) same)
-
--- and those of the agreed phases from what was opened for their slots
-pub agreed_phases_named : (tables : List TableId) (d : TableId) → AreAgreedPhasesFrom (λ slot. get_or tables slot d) 0 tables
-agreed_phases_named tables d = λ k table found. let at : 0 + k ≡ k = omega arith in ap (λ slot. get_or tables slot d) at ∙ get_or_from_slice_get tables k table d found

@@ -1,7 +1,7 @@
 -- Executors may go to another thread, and what they share may be shared by threads, if the type parameter and the gate may.
 use denote.RattleType.{RattleType}
 use denote.Ref.{NamedLft}
-use denote.Param.Send.{IsSend, IsSync, sendable, view_send}
+use denote.Param.Send.{IsSend, IsSync, sendable, view_send, view_sync}
 use denote.Param.SendFields.{declared_send, declared_sync, variants_send}
 use Rattle.std.proofs.Crossing.{crosses, Box-send, Vec-send, Vec-sync, Deque-send}
 use Rattle.queues.specs.contracts.sender.Sender as Sender
@@ -9,11 +9,10 @@ use Rattle.queues.proofs.Sendable.{Taker-send, Sender-send}
 use Rattle.routing.proofs.Sendable.{SharedRouting-sync}
 use Rattle.requests.proofs.Sendable.{Request-send, Script-sync}
 use Rattle.commit_log.proofs.Sendable.{Log-send, Pass-send, SessionSeat-send}
-use Rattle.executor.proofs.Sendable.{Answer-send, Act-send, GivenBack-send, Flow-send, PhaseOwner-send, Phase-send, CountedShard-send, ExecutorShards-send, SessionAnswer-send}
+use Rattle.executor.proofs.Sendable.{Answer-send, Act-send, CompletionOwner-send, CompletionPlace-send, GivenBack-send, Flow-send, PhaseOwner-send, CountedShard-send, ExecutorShards-send, SessionAnswer-send}
 use Rattle.executor.specs.contracts.counted_shard.CountedShard as CountedShard
 use Rattle.tickets.specs.declared.group_names.GroupNames.{Ghosts as GroupNames}
 use Rattle.commit_log.specs.declared.log_names.LogNames.{Ghosts as LogNames}
-use Rattle.executor.specs.declared.names.PhaseNames.{Ghosts as PhaseNames}
 use Rattle.engine.specs.declared.names.ServeNames.{Ghosts as ServeNames}
 use Rattle.engine.specs.contracts.asking.Ready as Ready
 use Rattle.engine.specs.contracts.asking.Asked as Asked
@@ -24,6 +23,7 @@ use Rattle.engine.specs.contracts.belongings.Executor as Executor
 use Rattle.engine.specs.contracts.belongings.Turn as Turn
 use Rattle.engine.specs.contracts.message.Message as Message
 use Rattle.engine.specs.contracts.moves.Moves as Moves
+use Rattle.engine.specs.contracts.opening_scale.OpeningScale as OpeningScale
 use Rattle.engine.specs.contracts.place.Place as Place
 use Rattle.engine.specs.contracts.place.Stage as Stage
 use Rattle.engine.specs.contracts.session.Session as Session
@@ -46,22 +46,22 @@ Moves-sync a = declared_sync (Moves.the_type a) (
   ),
 )
 
-module _ (J : RattleType) (agreed_phase : PhaseNames J.Denot) (log : LogNames J.Denot) (groups : GroupNames J.Denot) (s : IsSend J) where
-  Message-send : IsSend (Message.the_row J agreed_phase log groups)
-  Message-send = variants_send (Message.enum J agreed_phase log groups) (
+module _ (J : RattleType) (log : LogNames J.Denot) (groups : GroupNames J.Denot) (s : IsSend J) where
+  Message-send : IsSend (Message.the_row J log groups)
+  Message-send = variants_send (Message.enum J log groups) (
     (search sendable depth 20, tt),
     (
       (search sendable depth 20, tt),
       (
-        (Act-send J agreed_phase log groups s, tt),
+        (Act-send J log groups s, tt),
         (
-          (GivenBack-send J agreed_phase log groups s, tt),
+          (GivenBack-send J log groups s, (CompletionPlace-send, tt)),
           (
             (search sendable depth 20, tt),
             (
               (search sendable depth 20, (search sendable depth 20, tt)),
               (
-                (Box-send (CountedShard.the_row J agreed_phase log groups) (CountedShard-send J agreed_phase log groups s), tt),
+                (Box-send (CountedShard.the_row J log groups) (CountedShard-send J log groups s), tt),
                 tt,
               ),
             ),
@@ -71,18 +71,21 @@ module _ (J : RattleType) (agreed_phase : PhaseNames J.Denot) (log : LogNames J.
     ),
   )
 
-  Outlet-send : IsSend (Sender.the_row (Message.the_row J agreed_phase log groups))
-  Outlet-send = Sender-send (Message.the_row J agreed_phase log groups) Message-send
+  OpeningScale-sync : IsSync (OpeningScale.the_row J log groups)
+  OpeningScale-sync = view_sync _ _ _ _ _ (declared_sync (OpeningScale.TheInside.the_type J log groups) (search sendable depth 40, (search sendable depth 20, tt)))
 
-  pub Executor-send : IsSend (Executor.the_row J agreed_phase log groups)
-  Executor-send = declared_send (Executor.the_type J agreed_phase log groups) (
+  Outlet-send : IsSend (Sender.the_row (Message.the_row J log groups))
+  Outlet-send = Sender-send (Message.the_row J log groups) Message-send
+
+  pub Executor-send : IsSend (Executor.the_row J log groups)
+  Executor-send = declared_send (Executor.the_type J log groups) (
     search sendable depth 20,
     (
-      ExecutorShards-send J agreed_phase log groups s,
+      ExecutorShards-send J log groups s,
       (
         search (Vec-send, sendable) depth 20,
         (
-          Taker-send (Message.the_row J agreed_phase log groups) Message-send,
+          Taker-send (Message.the_row J log groups) Message-send,
           (
             search (Outlet-send, Vec-send, sendable) depth 20,
             (
@@ -114,8 +117,8 @@ module _ (J : RattleType) (agreed_phase : PhaseNames J.Denot) (log : LogNames J.
   )
 
   -- a session that asks interactively
-  pub Session-send : (serve : ServeNames J.Denot) → IsSend (Session.the_row J serve agreed_phase log groups)
-  Session-send serve = view_send _ _ _ _ _ (declared_send (Session.TheInside.the_type J serve agreed_phase log groups) (
+  pub Session-send : (serve : ServeNames J.Denot) → IsSend (Session.the_row J serve log groups)
+  Session-send serve = view_send _ _ _ _ _ (declared_send (Session.TheInside.the_type J serve log groups) (
     SessionSeat-send J log s,
     (
       Pass-send J log s,
@@ -136,8 +139,8 @@ module _ (J : RattleType) (agreed_phase : PhaseNames J.Denot) (log : LogNames J.
   ))
 
   module _ (a : NamedLft) (serve : ServeNames J.Denot) where
-    Ready-send : IsSend (Ready.the_row a J serve agreed_phase log groups)
-    Ready-send = view_send _ _ _ _ _ (declared_send (Ready.TheInside.the_type a J serve agreed_phase log groups) (
+    Ready-send : IsSend (Ready.the_row a J serve log groups)
+    Ready-send = view_send _ _ _ _ _ (declared_send (Ready.TheInside.the_type a J serve log groups) (
       search (Script-sync, sendable) depth 20,
       (
         SessionSeat-send J log s,
@@ -157,8 +160,8 @@ module _ (J : RattleType) (agreed_phase : PhaseNames J.Denot) (log : LogNames J.
       ),
     ))
 
-    Asked-send : IsSend (Asked.the_row a J serve agreed_phase log groups)
-    Asked-send = view_send _ _ _ _ _ (declared_send (Asked.TheInside.the_type a J serve agreed_phase log groups) (
+    Asked-send : IsSend (Asked.the_row a J serve log groups)
+    Asked-send = view_send _ _ _ _ _ (declared_send (Asked.TheInside.the_type a J serve log groups) (
       search (Script-sync, sendable) depth 20,
       (
         SessionSeat-send J log s,
@@ -172,8 +175,8 @@ module _ (J : RattleType) (agreed_phase : PhaseNames J.Denot) (log : LogNames J.
       ),
     ))
 
-    Stage-send : IsSend (Stage.the_row a J serve agreed_phase log groups)
-    Stage-send = variants_send (Stage.enum a J serve agreed_phase log groups) (
+    Stage-send : IsSend (Stage.the_row a J serve log groups)
+    Stage-send = variants_send (Stage.enum a J serve log groups) (
       (search (Ready-send, sendable) depth 20, tt),
       (
         (search (Asked-send, sendable) depth 20, tt),
@@ -182,11 +185,11 @@ module _ (J : RattleType) (agreed_phase : PhaseNames J.Denot) (log : LogNames J.
           (
             tt,
             (
-              (search sendable depth 20, (Flow-send J agreed_phase log groups s, tt)),
+              (search sendable depth 20, (Flow-send J log groups s, tt)),
               (
                 tt,
                 (
-                  (SessionAnswer-send J agreed_phase log groups s, tt),
+                  (SessionAnswer-send J log groups s, tt),
                   (
                     tt,
                     (
@@ -202,28 +205,25 @@ module _ (J : RattleType) (agreed_phase : PhaseNames J.Denot) (log : LogNames J.
       ),
     )
 
-    Place-send : IsSend (Place.the_row a J serve agreed_phase log groups)
-    Place-send = declared_send (Place.the_type a J serve agreed_phase log groups) (
+    Place-send : IsSend (Place.the_row a J serve log groups)
+    Place-send = declared_send (Place.the_type a J serve log groups) (
       search (Stage-send, sendable) depth 20,
       (
-        search (Phase-send, sendable) depth 20,
+        search (PhaseOwner-send, sendable) depth 20,
         (
-          search (PhaseOwner-send, sendable) depth 20,
+          search sendable depth 20,
           (
-            search sendable depth 20,
-            (
-              search sendable depth 20,
-              tt,
-            ),
+            search (CompletionOwner-send, sendable) depth 20,
+            tt,
           ),
         ),
       ),
     )
 
     module _ (G : RattleType) (y : IsSync G) where
-      pub Engine-sync : IsSync (Engine.the_row a J G serve agreed_phase log groups)
-      Engine-sync = declared_sync (Engine.the_type a J G serve agreed_phase log groups) (
-        search sendable depth 40,
+      pub Engine-sync : IsSync (Engine.the_row a J G serve log groups)
+      Engine-sync = declared_sync (Engine.the_type a J G serve log groups) (
+        OpeningScale-sync,
         (
           search (Script-sync, sendable) depth 20,
           (
@@ -264,14 +264,17 @@ module _ (J : RattleType) (agreed_phase : PhaseNames J.Denot) (log : LogNames J.
       )
 
       module _ (e : NamedLft) (R : RattleType) (r : IsSync R) where
-        pub Crew-sync : IsSync (Crew.the_row e a J G R serve agreed_phase log groups)
-        Crew-sync = declared_sync (Crew.the_type e a J G R serve agreed_phase log groups) (
+        pub Crew-sync : IsSync (Crew.the_row e a J G R serve log groups)
+        Crew-sync = declared_sync (Crew.the_type e a J G R serve log groups) (
           search (r, sendable) depth 10,
           (
             search sendable depth 20,
             (
               search (Engine-sync, sendable) depth 10,
-              tt,
+              (
+                search (Executor-send, Vec-sync, crosses, sendable) depth 20,
+                tt,
+              ),
             ),
           ),
         )

@@ -1,6 +1,7 @@
 //! The state that an executor has to itself.
 use crate::message::Message;
-use executor::{ExecutorShards, PhaseNames};
+use commit_log::Names;
+use executor::ExecutorShards;
 use queues::{Sender, Taker};
 use rows::SESSIONS;
 use schema::NoMemory;
@@ -30,7 +31,7 @@ pub(crate) struct Turn {
 
 /// An executor: the shards of its warehouses, and the messages that it is to take or to send.
 #[derive(Drop)]
-pub struct Executor<J: PhaseNames> {
+pub struct Executor<J: Names> {
     pub(crate) number: u32,
     pub(crate) shards: ExecutorShards<J>,
     /// The executor to which the shard of a warehouse has gone since a move last brought it here; by the warehouse's W_ID less
@@ -56,7 +57,7 @@ pub struct Executor<J: PhaseNames> {
     steps: u64,
 }
 
-impl<J: PhaseNames> Executor<J> {
+impl<J: Names> Executor<J> {
     /// Opens an executor without shards, with room for those of this many warehouses, that takes from this inbox and puts into
     /// these outlets. Returns NoMemory if an allocation fails.
     pub(crate) fn open(

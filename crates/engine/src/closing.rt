@@ -65,7 +65,7 @@ pub fn close<J: ServeNames, G: Gate + Drop>(
     let mut answers = audit_served(alloc, &mut log, places, scripts)?;
     let asked = audit_left(alloc, &mut log, left, &mut answers)?;
     audit_idle(&mut log, idle);
-    let slices = settle_all(alloc, &mut log, scale.warehouses, executors)?;
+    let slices = settle_all(alloc, &mut log, scale.get().warehouses, executors)?;
     let tables = whole(catalog, slices)?;
     let _ = tables.scale();
     let _ = log.entries();

@@ -1,16 +1,14 @@
 //! The state that all executors share.
-ghost use Rattle.std.specs.Prelude.{◌≡◌};
-
 use crate::moves::Moves;
+use crate::opening_scale::OpeningScale;
 use crate::parking::Parking;
 use crate::place::{Advanced, Ended, Place, Unexpected};
 use crate::{Gate, ServeNames};
 use commit_log::Log;
 use crossbeam_utils::Backoff;
-use executor::{Flow, Met, Phase, PhaseOwner, Report, SessionAnswer};
+use executor::{CompletionOwner, Flow, PhaseOwner, SessionAnswer};
 use requests::{Request, Script};
 use routing::SharedRouting;
-use schema::Scale;
 use std::alloc::Global;
 use std::sync::atomic::{AtomicBool, AtomicU64, AtomicUsize, Ordering};
 use std::sync::{Mutex, MutexGuard, Wait};
@@ -28,7 +26,7 @@ pub(crate) struct Upcoming {
 /// The log's lock is the only lock common to all executors, and no thread takes a lock while it holds another.
 #[derive(Drop)]
 pub struct Engine<'a, J: ServeNames, G: Gate> {
-    pub(crate) scale: Scale,
+    pub(crate) scale: OpeningScale<J>,
     pub(crate) scripts: &'a [Script],
     /// How often a request is asked at most.
     pub(crate) tries: u32,
@@ -48,7 +46,6 @@ pub struct Engine<'a, J: ServeNames, G: Gate> {
     pub(crate) unserved: AtomicUsize,
     /// Whether the executors are to end even if not all is served.
     pub(crate) is_stopped: AtomicBool,
-    ghost opening_scale: { scale ≡ J.opening.scale },
 }
 
 impl<J: ServeNames, G: Gate> Engine<'_, J, G> {
@@ -119,48 +116,33 @@ impl<J: ServeNames, G: Gate> Engine<'_, J, G> {
 
     // ---- the places of sessions
 
-    /// Takes an action's report to the phase in this slot. Returns the phase's results with the last report; `None` if another
-    /// action is still awaited.
-    pub(crate) fn collect_report(
-        &self,
-        rt: &impl Wait,
-        slot: usize,
-        report: Report<J>,
-    ) -> Result<Option<Met<J>>, Unexpected> {
-        match self.places.get(slot) {
-            Some(place) => place.lock(rt).collect(report),
-            None => Err(Unexpected),
-        }
-    }
-
-    /// Stores the phase of the transaction in this slot that is in flight by messages.
-    pub(crate) fn begin_phase(&self, rt: &impl Wait, slot: usize, phase: Phase<J>) {
-        if let Some(place) = self.places.get(slot) {
-            place.lock(rt).set_phase(phase);
-        }
-    }
-
-    /// Ends the transaction in this slot.
+    /// Ends the transaction in this slot. `completes` says whether claims of it are to go back by messages.
     pub(crate) fn end(
         &self,
         rt: &impl Wait,
         slot: usize,
         recorded: SessionAnswer<J>,
         phase_owner: PhaseOwner<J>,
-        ending: usize,
+        completes: bool,
     ) -> Result<Ended, Unexpected> {
         match self.places.get(slot) {
             Some(place) => place
                 .lock(rt)
-                .end(recorded, phase_owner, ending, self.tries),
+                .end(recorded, phase_owner, completes, self.tries),
             None => Err(Unexpected),
         }
     }
 
-    /// Counts an action of the finished transaction in this slot whose claims are back. After the last one, returns the executor
-    /// that began the transaction.
-    pub(crate) fn give_back(&self, rt: &impl Wait, slot: usize) -> Option<u32> {
-        self.places.get(slot)?.lock(rt).give_back()
+    /// All claims of the finished transaction in a slot are back. Returns the executor that began the transaction.
+    pub(crate) fn complete(
+        &self,
+        rt: &impl Wait,
+        completion: CompletionOwner,
+    ) -> Result<u32, Unexpected> {
+        match self.places.get(completion.slot()) {
+            Some(place) => Ok(place.lock(rt).complete(completion)),
+            None => Err(Unexpected),
+        }
     }
 
     /// Stores a request that the session of this slot asks interactively, at the terminal of this warehouse.
@@ -225,9 +207,14 @@ impl<J: ServeNames, G: Gate> Engine<'_, J, G> {
         executor: u32,
     ) -> Result<Advanced<J>, Unexpected> {
         match self.places.get(slot) {
-            Some(place) => place
-                .lock(rt)
-                .ask_next(alloc, &self.scale, &self.ages, slot, self.tries, executor),
+            Some(place) => place.lock(rt).ask_next(
+                alloc,
+                self.scale.get(),
+                &self.ages,
+                slot,
+                self.tries,
+                executor,
+            ),
             None => Err(Unexpected),
         }
     }

@@ -2,10 +2,14 @@
 use crate::belongings::{Executor, STEP};
 use crate::engine::Engine;
 use crate::message::Message;
-use crate::place::{Advanced, Ended, Unexpected};
+use crate::place::{Advanced, Unexpected};
 use crate::{Gate, ServeNames};
 use crossbeam_utils::Backoff;
-use executor::{Act, Commit, Following, GivenBack, Paused, Release, Report, Returns, Tried};
+use executor::{
+    Act, Commit, Completion, CompletionPlace, Following, GivenBack, Paused, Release, Report,
+    Returns, Tried,
+};
+use schema::NoMemory;
 use std::alloc::Global;
 use std::sync::Wait;
 use std::time::Duration;
@@ -206,7 +210,7 @@ impl<J: ServeNames, G: Gate, R: Wait> AtWork<'_, '_, J, G, R> {
             Message::Begin(slot) => self.get_ready(slot, 0),
             Message::Over(slot) => self.over(slot),
             Message::Act(act) => self.perform(act),
-            Message::GivenBack(given) => self.take_back(given),
+            Message::GivenBack(given, place) => self.take_back(given, place),
             Message::Move(order) => self.move_here(order),
             Message::Fetch { home, to } => self.send_shard(home, to),
             Message::Parcel(shard) => self.install(shard),
@@ -226,12 +230,11 @@ impl<J: ServeNames, G: Gate, R: Wait> AtWork<'_, '_, J, G, R> {
         self.take_turns(home);
     }
 
-    // Gives claims back to their shard, or passes them on.
-    fn take_back(&mut self, given: GivenBack<J>) {
-        let slot = given.slot();
+    // Gives claims back to their shard and reports that they are back, or passes them on.
+    fn take_back(&mut self, given: GivenBack<J>, place: CompletionPlace) {
         match self.give_back_here(given) {
-            Ok(()) => self.count_back(slot),
-            Err(given) => self.pass_on(given.home(), Message::GivenBack(given)),
+            Ok(()) => self.report_back(place),
+            Err(given) => self.pass_on(given.home(), Message::GivenBack(given, place)),
         }
     }
 
@@ -271,13 +274,11 @@ impl<J: ServeNames, G: Gate, R: Wait> AtWork<'_, '_, J, G, R> {
 
     // ---- the steps of transactions
 
-    // Takes an action's report to its phase. With the last report the transaction goes on.
+    // An action reports to the meeting of its phase; no lock is held. With the last report the transaction goes on.
     fn take_report(&mut self, report: Report<J>) {
         let slot = report.slot();
-        match self.engine.collect_report(self.rt, slot, report) {
-            Ok(Some(met)) => self.run_on(slot, met.follow(self.alloc)),
-            Ok(None) => {}
-            Err(Unexpected) => self.engine.stop(),
+        if let Some(following) = report.report(self.alloc) {
+            self.run_on(slot, following);
         }
     }
 
@@ -300,8 +301,7 @@ impl<J: ServeNames, G: Gate, R: Wait> AtWork<'_, '_, J, G, R> {
     // Begins the next phase of a transaction by messages.
     fn send_out(&mut self, slot: usize, paused: Paused<J>) {
         match paused.send_out(self.alloc) {
-            Ok((phase, acts)) => {
-                self.engine.begin_phase(self.rt, slot, phase);
+            Ok(acts) => {
                 for act in acts {
                     self.send(act.home(), Message::Act(act));
                 }
@@ -325,28 +325,20 @@ impl<J: ServeNames, G: Gate, R: Wait> AtWork<'_, '_, J, G, R> {
         let session = recorded.session();
         let number = recorded.number();
         let elsewhere = self.give_back_last(&mut returns);
-        let ending = returns
-            .len()
-            .saturating_add(usize::from(elsewhere.is_some()));
+        let completes = elsewhere.is_some();
         let Ok(ended) = self
             .engine
-            .end(self.rt, slot, recorded, phase_owner, ending)
+            .end(self.rt, slot, recorded, phase_owner, completes)
         else {
-            self.engine.stop();
-            return;
+            return self.engine.stop();
         };
         self.engine.call_session(slot);
-        self.record_answered(session, number, ended);
-        if let Some(given) = elsewhere {
-            self.send_back(given);
+        self.record_answered(session, number, ended.is_answered);
+        match (elsewhere, ended.completion) {
+            (Some(first), Some(completion)) => self.send_back(completion.begin(first, returns)),
+            (None, _) => self.send_over(slot, ended.begun_by),
+            (Some(_), None) => self.engine.stop(),
         }
-        for _ in 0..returns.len() {
-            let Some(given) = returns.next_back() else {
-                break;
-            };
-            self.send_back(given);
-        }
-        self.send_over(slot, ended.over);
     }
 
     // Gives the claims of the last actions back to their shards, as long as these are here. Returns the first claims whose shard
@@ -360,32 +352,48 @@ impl<J: ServeNames, G: Gate, R: Wait> AtWork<'_, '_, J, G, R> {
         None
     }
 
-    // Sends the claims of an action to the executor that has their warehouse.
-    fn send_back(&mut self, given: GivenBack<J>) {
-        self.send(given.home(), Message::GivenBack(given));
+    // Sends the claims of each action to the executor that has their warehouse.
+    fn send_back(&mut self, completion: Option<Completion<J>>) {
+        let Some(mut completion) = completion else {
+            return self.engine.stop();
+        };
+        for _ in self.rt.forever() {
+            match completion.next() {
+                Ok(Some((given, place))) => {
+                    self.send(given.home(), Message::GivenBack(given, place))
+                }
+                Ok(None) => return,
+                Err(NoMemory) => return self.engine.stop(),
+            }
+        }
     }
 
     // Calls the gate if the request of this number has its answer and is not asked again.
-    fn record_answered(&self, session: u32, number: u32, ended: Ended) {
-        if ended.is_answered
-            && let Some(request) = self.engine.request(session, number)
-        {
+    fn record_answered(&self, session: u32, number: u32, is_answered: bool) {
+        if is_answered && let Some(request) = self.engine.request(session, number) {
             self.engine.gate.answered(session, number, request);
         }
     }
 
-    // Counts an action of a finished transaction whose claims have come back by a message.
-    fn count_back(&mut self, slot: usize) {
-        let over = self.engine.give_back(self.rt, slot);
-        self.send_over(slot, over);
+    // An action of a finished transaction reports that its claims are back; no lock is held. With the last report the transaction is
+    // over.
+    fn report_back(&mut self, place: CompletionPlace) {
+        let slot = place.slot();
+        let Some(completion) = place.report() else {
+            return;
+        };
+        match self.engine.complete(self.rt, completion) {
+            Ok(begun_by) => self.send_over(slot, begun_by),
+            Err(Unexpected) => self.engine.stop(),
+        }
     }
 
-    // If all claims of a finished transaction are back, notifies the executor that began it.
-    fn send_over(&mut self, slot: usize, over: Option<u32>) {
-        match over {
-            Some(by) if by == self.own.number => self.over(slot),
-            Some(by) => self.push(by, Message::Over(slot)),
-            None => {}
+    // All claims of a finished transaction are back: notifies the executor that began it.
+    fn send_over(&mut self, slot: usize, begun_by: u32) {
+        if begun_by == self.own.number {
+            self.over(slot);
+        } else {
+            self.push(begun_by, Message::Over(slot));
         }
     }
 

@@ -17,6 +17,7 @@ mod moves;
 mod moving;
 mod names;
 mod opening;
+mod opening_scale;
 mod outcome;
 mod parking;
 mod place;

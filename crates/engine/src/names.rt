@@ -1,9 +1,9 @@
-use executor::PhaseNames;
+use commit_log::Names;
 use std::marker::Brand;
 
 /// Identifies the scripts that are served, beside the tables on which all messages in flight agree. All that serves the scripts
 /// has it as a type parameter. Ghost data only: the call that serves the scripts picks it.
-pub trait ServeNames: PhaseNames {
+pub trait ServeNames: Names {
     ghost use Rattle.std.specs.Prelude.{List};
     ghost use Rattle.requests.specs.declared.request.Request.{Request};
 

@@ -3,7 +3,7 @@ ghost use Rattle.std.specs.Prelude.{◌≡◌, ◌≤◌, ◌<◌, All, IfOk, ve
 ghost use Rattle.partitions.specs.Parts.{shared_of};
 ghost use Rattle.slices.specs.Openings.{AreOpenedFor};
 ghost use Rattle.engine.specs.Interactive.{HasAskedNothing};
-ghost use Rattle.engine.specs.Opening.{AreAgreedPhasesFrom, IsNamedFor, IsToOpen, session_names};
+ghost use Rattle.engine.specs.Opening.{IsNamedFor, IsToOpen};
 ghost use Rattle.engine.specs.Sessions.{AreNewFrom};
 
 use crate::asking::Ready;
@@ -11,11 +11,12 @@ use crate::belongings::Executor;
 use crate::engine::Engine;
 use crate::message::Message;
 use crate::moves::Moves;
+use crate::opening_scale::OpeningScale;
 use crate::parking::Parking;
 use crate::place::Place;
 use crate::{Gate, Idle, ServeNames, Session};
 use commit_log::{Log, LogBook, Pass, SessionSeat, UnnamedLog};
-use executor::{CountedShard, OpenedPhaseAgreement};
+use executor::{CompletionOwner, CountedShard, PhaseOwner};
 use partitions::Catalog;
 use queues::Sender;
 use range_moves::MoveOrder;
@@ -37,36 +38,25 @@ pub struct Opening {
     /// The seats of all groups, by their places.
     pub(crate) groups: Vec<GroupSeats>,
     pub(crate) log: UnnamedLog,
-    /// The agreed phase of each session's transactions, by the sessions' numbers.
-    pub(crate) agreed_phases: Vec<OpenedPhaseAgreement>,
+    /// The number of sessions.
+    pub(crate) sessions: usize,
 }
 
 impl Opening {
-    /// Opens the agreements of the tables' groups, of a log without entries, and of the agreed phases of this many sessions.
-    /// Returns NoMemory if an allocation fails; nothing is left then.
+    /// Opens the agreements of the tables' groups and of a log without entries, for this many sessions. Returns NoMemory if an
+    /// allocation fails; nothing is left then.
     pub fn open(alloc: Global, tables: &Tables, sessions: usize) -> Result<Opening, NoMemory>
         ensures groups { IfOk result (λ opening. AreOpenedFor tables.now opening.groups.items) }
-        ensures agreed_phases { IfOk result (λ opening. vec_len opening.agreed_phases ≡ sessions) }
+        ensures sessions { IfOk result (λ opening. opening.sessions ≡ sessions) }
     {
         let groups = open_groups(alloc, tables)?;
         let log = UnnamedLog::open(alloc)?;
-        let agreed_phases = open_agreed_phases(alloc, sessions)?;
         Ok(Opening {
             groups,
             log,
-            agreed_phases,
+            sessions,
         })
     }
-}
-
-fn open_agreed_phases(alloc: Global, sessions: usize) -> Result<Vec<OpenedPhaseAgreement>, NoMemory>
-    ensures { IfOk result (λ agreed_phases. vec_len agreed_phases ≡ sessions) }
-{
-    let mut agreed_phases = Vec::with_capacity(alloc, sessions)?;
-    for _slot in 0..sessions {
-        agreed_phases.push(OpenedPhaseAgreement::open(alloc)?)?;
-    }
-    Ok(agreed_phases)
 }
 
 /// The senders into each inbox that are not given away yet.
@@ -101,24 +91,23 @@ pub fn open<'a, J: ServeNames, G: Gate + Drop>(
     gate: G,
 ) -> Result<Opened<'a, J, G>, NoMemory>
     requires room { 0 < room }
-    requires named { IsNamedFor J.LogNames J.GroupNames
-        (session_names J.agreed_phase J.scripts) tables scripts.now opening }
+    requires named { IsNamedFor J.LogNames J.GroupNames J.scripts tables scripts.now opening }
     requires some { 1 ≤ executors }
-    requires most { vec_len opening.agreed_phases ≤ SESSIONS }
+    requires most { opening.sessions ≤ SESSIONS }
     ensures catalog { IfOk result (λ opened. opened.catalog ≡ shared_of tables) }
-    ensures idle { IfOk result (λ opened. opened.idle.first ≡ vec_len opening.agreed_phases) }
+    ensures idle { IfOk result (λ opened. opened.idle.first ≡ opening.sessions) }
     ensures sessions { IfOk result (λ opened. All HasAskedNothing opened.sessions.items) }
 {
     let Opening {
         groups,
         log,
-        agreed_phases,
+        sessions: count,
     } = opening;
     let scale = tables.scale();
     let routing = Routing::opening(&scale, executors);
     let (boxes, seats) = named_all::<J>(alloc, scale.warehouses, groups)?;
     let (catalog, slices) = cut(alloc, tables, boxes)?;
-    let interactive = agreed_phases.len().saturating_sub(scripts.len());
+    let interactive = count.saturating_sub(scripts.len());
     let (mut executors, mut senders) = open_idle(
         alloc,
         executors,
@@ -140,9 +129,9 @@ pub fn open<'a, J: ServeNames, G: Gate + Drop>(
         places,
         sessions,
         idle,
-    } = open_places(alloc, lanes, agreed_phases, scripts, &mut senders, tries)?;
+    } = open_places(alloc, lanes, count, scripts, &mut senders, tries)?;
     let engine = Engine {
-        scale,
+        scale: OpeningScale::new(scale),
         scripts,
         tries,
         routing: SharedRouting::open(alloc, &routing)?,
@@ -292,11 +281,12 @@ struct Seated<'a, J: ServeNames> {
     idle: Idle<J>,
 }
 
-// Makes a place for each agreed phase: first for the sessions that have a script, then for those that ask interactively.
+// Makes a place for each of so many sessions, with the meetings of its transactions: first for the sessions that have a script, then
+// for those that ask interactively.
 fn open_places<'a, J: ServeNames>(
     alloc: Global,
     lanes: Vec<(Pass<J>, SessionSeat<J>)>,
-    agreed_phases: Vec<OpenedPhaseAgreement>,
+    count: usize,
     scripts: &'a [Script],
     senders: &mut Senders<J>,
     tries: u32,
@@ -304,30 +294,28 @@ fn open_places<'a, J: ServeNames>(
     requires scripts { J.scripts ≡ scripts.now }
     requires new { AreNewFrom 0 lanes.items }
     requires all { vec_len lanes ≡ SESSIONS }
-    requires agreed_phases { AreAgreedPhasesFrom J.agreed_phase 0 agreed_phases.items }
-    requires most { vec_len agreed_phases ≤ SESSIONS }
-    ensures idle { IfOk result (λ seated. seated.idle.first ≡ vec_len agreed_phases) }
+    requires most { count ≤ SESSIONS }
+    ensures idle { IfOk result (λ seated. seated.idle.first ≡ count) }
     ensures sessions { IfOk result (λ seated. All HasAskedNothing seated.sessions.items) }
 {
-    let count = agreed_phases.len();
     let mut lanes = lanes.into_iter();
-    let mut agreed_phases = agreed_phases.into_iter();
     let mut places = Vec::with_capacity(alloc, count)?;
     let mut sessions = Vec::new(alloc);
     for slot in 0..count {
         let Some((pass, seat)) = lanes.next() else {
             unreachable!()
         };
-        let Some(agreed_phase) = agreed_phases.next() else {
-            unreachable!()
-        };
-        let phase_owner = agreed_phase.named::<J>(slot);
+        let phase_owner = PhaseOwner::open(alloc, slot)?;
+        let completion = CompletionOwner::open(alloc, slot)?;
         let place = match scripts.get(slot) {
-            Some(script) => Place::new(Ready::open(alloc, script, pass, seat, tries)?, phase_owner),
+            Some(script) => {
+                let ready = Ready::open(alloc, script, pass, seat, tries)?;
+                Place::new(ready, phase_owner, completion)
+            }
             None => {
                 let outlets = next_of_each(alloc, senders)?;
                 sessions.push(Session::new(alloc, pass, seat, outlets))?;
-                Place::free(phase_owner)
+                Place::free(phase_owner, completion)
             }
         };
         places.push(Mutex::new(place))?;

@@ -3,24 +3,26 @@ ghost use Rattle.std.specs.Prelude.{◌≡◌};
 
 use crate::ServeNames;
 use crate::asking::{Asked, Next, Ready};
-use executor::{Flow, Met, Paused, Phase, PhaseOwner, Report, Reported, SessionAnswer};
+use executor::{CompletionOwner, Flow, Paused, PhaseOwner, SessionAnswer};
 use schema::Scale;
 use std::alloc::Global;
 use std::sync::atomic::AtomicU64;
 
 /// The place of a session. It has room for one transaction, whose messages contain its slot. The next transaction can't begin
 /// before all claims of this one are given back.
+///
+/// Its lock is taken when a request is asked, begins or is answered, and when the last claims of a transaction are back. An action
+/// reports without it.
 #[derive(Drop)]
 pub(crate) struct Place<'a, J: ServeNames> {
     stage: Option<Stage<'a, J>>,
-    // The phase in flight by messages, if there is one.
-    phase: Option<Phase<J>>,
-    // The phase owner, while no transaction is in flight.
+    // The owner of the meeting to which the actions of its transactions report, while no transaction is in flight.
     phase_owner: Option<PhaseOwner<J>>,
     // The executor that began the transaction.
     begun_by: u32,
-    // The number of actions of a finished transaction whose claims are still to come back.
-    ending: usize,
+    // The owner of the meeting to which the actions of a finished transaction report that their claims are back, unless claims are
+    // on their way.
+    completion: Option<CompletionOwner>,
 }
 
 /// The stage of a session. `Ready`, `Asked` and `Ended` are for a session that has a script, the others for one that asks
@@ -50,12 +52,14 @@ enum Stage<'a, J: ServeNames> {
 pub(crate) struct Unexpected;
 
 /// The result of `Place::end`.
-#[derive(Clone, Copy, Debug)]
+#[derive(Drop)]
 pub(crate) struct Ended {
     /// Whether the request has its answer and is not asked again.
     pub(crate) is_answered: bool,
-    /// The executor that began the transaction, if all its claims are given back.
-    pub(crate) over: Option<u32>,
+    /// The executor that began the transaction.
+    pub(crate) begun_by: u32,
+    /// The owner of the completion meeting, if claims are to go back by messages.
+    pub(crate) completion: Option<CompletionOwner>,
 }
 
 /// The result of `Place::advance`.
@@ -72,25 +76,27 @@ pub(crate) enum Advanced<J: ServeNames> {
 }
 
 impl<'a, J: ServeNames> Place<'a, J> {
-    /// The place of a session that has a script, with its phase owner.
-    pub(crate) fn new(session: Ready<'a, J>, phase_owner: PhaseOwner<J>) -> Place<'a, J> {
+    /// The place of a session that has a script, with the owners of its meetings.
+    pub(crate) fn new(
+        session: Ready<'a, J>,
+        phase_owner: PhaseOwner<J>,
+        completion: CompletionOwner,
+    ) -> Place<'a, J> {
         Place {
             stage: Some(Stage::Ready(session)),
-            phase: None,
             phase_owner: Some(phase_owner),
             begun_by: 0,
-            ending: 0,
+            completion: Some(completion),
         }
     }
 
-    /// The place of a session that asks interactively, with its phase owner.
-    pub(crate) fn free(phase_owner: PhaseOwner<J>) -> Place<'a, J> {
+    /// The place of a session that asks interactively, with the owners of its meetings.
+    pub(crate) fn free(phase_owner: PhaseOwner<J>, completion: CompletionOwner) -> Place<'a, J> {
         Place {
             stage: Some(Stage::Free),
-            phase: None,
             phase_owner: Some(phase_owner),
             begun_by: 0,
-            ending: 0,
+            completion: Some(completion),
         }
     }
 
@@ -152,7 +158,7 @@ impl<'a, J: ServeNames> Place<'a, J> {
     ) -> Result<Advanced<J>, Unexpected>
         requires { scale.now ≡ J.opening.scale }
     {
-        if self.ending > 0 {
+        if self.completion.is_none() {
             return Ok(Advanced::Waits);
         }
         let ready = match self.stage.take() {
@@ -206,41 +212,23 @@ impl<'a, J: ServeNames> Place<'a, J> {
         first: Option<(u32, u32)>,
         flow: Flow<J>,
     ) -> Result<Advanced<J>, Unexpected> {
-        let Some(phase_owner) = self.phase_owner.take() else {
+        let (Some(phase_owner), Some(completion)) = (self.phase_owner.take(), &self.completion)
+        else {
             return Err(Unexpected);
         };
-        match Paused::new(flow, phase_owner) {
+        match Paused::new(flow, phase_owner, completion) {
             Some(paused) => Ok(Advanced::Begins(first, paused)),
             None => Err(Unexpected),
         }
     }
 
-    /// Takes an action's report. Returns the phase's results with the last report; `None` if another action is still awaited.
-    pub(crate) fn collect(&mut self, report: Report<J>) -> Result<Option<Met<J>>, Unexpected> {
-        let Some(phase) = self.phase.take() else {
-            return Err(Unexpected);
-        };
-        match phase.report(report) {
-            Reported::Awaits(phase) => {
-                self.phase = Some(phase);
-                Ok(None)
-            }
-            Reported::Met(met) => Ok(Some(met)),
-            Reported::Unexpected(phase, report) => Err(unexpected_report(phase, report)),
-        }
-    }
-
-    /// Stores the phase that is in flight by messages.
-    pub(crate) fn set_phase(&mut self, phase: Phase<J>) {
-        self.phase = Some(phase);
-    }
-
-    /// Ends the transaction: its session gets the answer. The claims of `ending` actions are still to come back.
+    /// Ends the transaction: its session gets the answer. If claims are to go back by messages, the owner of the completion meeting
+    /// is returned, and the next transaction can't begin before `complete`.
     pub(crate) fn end(
         &mut self,
         recorded: SessionAnswer<J>,
         phase_owner: PhaseOwner<J>,
-        ending: usize,
+        completes: bool,
         tries: u32,
     ) -> Result<Ended, Unexpected> {
         let is_answered = match self.stage.take() {
@@ -259,24 +247,22 @@ impl<'a, J: ServeNames> Place<'a, J> {
             _ => return Err(Unexpected),
         };
         self.phase_owner = Some(phase_owner);
-        self.ending = ending;
-        let over = if ending == 0 {
-            Some(self.begun_by)
+        let completion = if completes {
+            self.completion.take()
         } else {
             None
         };
-        Ok(Ended { is_answered, over })
+        Ok(Ended {
+            is_answered,
+            begun_by: self.begun_by,
+            completion,
+        })
     }
 
-    /// Counts an action of the finished transaction whose claims are back. After the last one, returns the executor that began
-    /// the transaction.
-    pub(crate) fn give_back(&mut self) -> Option<u32> {
-        self.ending = self.ending.checked_sub(1)?;
-        if self.ending == 0 {
-            Some(self.begun_by)
-        } else {
-            None
-        }
+    /// All claims of the finished transaction are back. Returns the executor that began it.
+    pub(crate) fn complete(&mut self, completion: CompletionOwner) -> u32 {
+        self.completion = Some(completion);
+        self.begun_by
     }
 
     /// The W_ID of the warehouse whose terminal asks the session's next request, and how often that has died; `None` if a request
@@ -288,13 +274,4 @@ impl<'a, J: ServeNames> Place<'a, J> {
             _ => None,
         }
     }
-}
-
-// Drops a report to a phase that doesn't await it.
-#[cold]
-#[inline(never)]
-fn unexpected_report<J: ServeNames>(phase: Phase<J>, report: Report<J>) -> Unexpected {
-    drop(phase);
-    drop(report);
-    Unexpected
 }

@@ -4,7 +4,7 @@ ghost use Rattle.schema.specs.Consistency.{Consistent};
 ghost use Rattle.range_moves.specs.Orders.{IsWithin};
 ghost use Rattle.engine.specs.Interactive.{HasAskedNothing, asked_by, recorded_by};
 ghost use Rattle.engine.specs.Faults.{AreWithin, IsFaultOf, IsFirstBad, IsOfServing};
-ghost use Rattle.engine.specs.Opening.{IsNamedFor, session_names};
+ghost use Rattle.engine.specs.Opening.{IsNamedFor};
 ghost use Rattle.engine.specs.Outcome.{IsOutcomeOf};
 
 use crate::belongings::Executor;
@@ -21,7 +21,7 @@ use rows::{INBOX, SESSIONS};
 use schema::Tables;
 use std::alloc::Global;
 use std::marker::Brand;
-use std::sync::Wait;
+use std::sync::{Mutex, Wait};
 use std::thread::Threads;
 
 /// Serves the scripts from the opening tables. Script s is session s, which asks its requests one after the other. `executors`
@@ -216,14 +216,13 @@ fn serve_from<
     client: &C,
 ) -> Result<Outcome, ServeFault>
     requires room { 0 < room }
-    requires named { IsNamedFor J.LogNames J.GroupNames
-        (session_names J.agreed_phase J.scripts) tables scripts.now opening }
+    requires named { IsNamedFor J.LogNames J.GroupNames J.scripts tables scripts.now opening }
     requires some { 1 ≤ executors }
-    requires most { vec_len opening.agreed_phases ≤ SESSIONS }
+    requires most { opening.sessions ≤ SESSIONS }
     ensures outcome { IfOk result (λ outcome.
         IsOutcomeOf tables (scripts.now ++ outcome.asked.items) outcome) }
     ensures asked { IfOk result (λ outcome.
-        length scripts.now + length outcome.asked.items ≡ vec_len opening.agreed_phases) }
+        length scripts.now + length outcome.asked.items ≡ opening.sessions) }
     ensures promised { IfOk result (λ outcome. C.promises client.now tables outcome.asked.items
         (drop (length scripts.now) outcome.answers.items)) }
     ensures fault { IfErr result (λ fault. IsOfServing fault) }
@@ -265,7 +264,18 @@ fn work_all<
         C.promises client.now J.opening (asked_by r.1.items) (recorded_by r.1.items)) }
     ensures fault { IfErr result (λ fault. IsOfServing fault) }
 {
-    let crew = Crew { rt, alloc, engine };
+    let mut places = Vec::with_capacity(alloc, executors.len())?;
+    for executor in executors {
+        let Ok(()) = places.push(Mutex::new(Some(executor))) else {
+            return Err(ServeFault::NoMemory);
+        };
+    }
+    let crew = Crew {
+        rt,
+        alloc,
+        engine,
+        executors: places,
+    };
     let asking = Asking {
         rt,
         alloc,
@@ -273,7 +283,8 @@ fn work_all<
         client,
         sessions,
     };
-    work_on_each(rt, alloc, &crew, executors, asking)
+    let left = work_on_each(rt, alloc, &crew, crew.executors.len(), asking)?;
+    Ok((crew.into_executors()?, left))
 }
 
 /// A client, its sessions, and the engine by which they ask.
@@ -292,18 +303,55 @@ struct Crew<'e, 'a, J: ServeNames, G: Gate, R: Wait> {
     rt: &'e R,
     alloc: Global,
     engine: &'e Engine<'a, J, G>,
+    /// By the executors' numbers; `None` while an executor is at work in its thread.
+    executors: Vec<Mutex<Option<Executor<J>>>>,
 }
 
-impl<J: ServeNames, G: Gate, R: Wait> Work<Executor<J>> for Crew<'_, '_, J, G, R> {
-    fn work(&self, own: Executor<J>) -> Executor<J> {
-        let Crew { rt, alloc, engine } = *self;
-        AtWork {
+impl<J: ServeNames, G: Gate, R: Wait> Crew<'_, '_, J, G, R> {
+    // The executors, once all threads have ended. An executor that is not back is `Unsettled`.
+    fn into_executors(self) -> Result<Vec<Executor<J>>, ServeFault>
+        ensures { IfErr result (λ fault. IsOfServing fault) }
+    {
+        let Crew {
+            alloc,
+            executors,
+            ..
+        } = self;
+        let mut back = Vec::with_capacity(alloc, executors.len())?;
+        for executor in executors {
+            let Some(executor) = executor.into_inner() else {
+                return Err(ServeFault::Unsettled);
+            };
+            let Ok(()) = back.push(executor) else {
+                return Err(ServeFault::NoMemory);
+            };
+        }
+        Ok(back)
+    }
+}
+
+impl<J: ServeNames, G: Gate, R: Wait> Work for Crew<'_, '_, J, G, R> {
+    fn work(&self, number: usize) {
+        let Crew {
             rt,
             alloc,
             engine,
+            executors,
+        } = self;
+        let Some(place) = executors.get(number) else {
+            return engine.stop();
+        };
+        let Some(own) = place.lock(*rt).take() else {
+            return engine.stop();
+        };
+        let own = AtWork {
+            rt: *rt,
+            alloc: *alloc,
+            engine: *engine,
             own,
         }
-        .run()
+        .run();
+        *place.lock(*rt) = Some(own);
     }
 
     fn stop(&self) {

@@ -224,7 +224,7 @@ impl<J: ServeNames> Session<J> {
             request,
             number,
         };
-        match check(&engine.scale, &asker.request) {
+        match check(engine.scale.get(), &asker.request) {
             Err(refusal) => Ok(asker.refused(refusal)),
             Ok(()) if is_full => Ok(asker.refused(Refusal::LogFull)),
             Ok(()) => match asker.call(rt, alloc, engine) {

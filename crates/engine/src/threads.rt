@@ -1,4 +1,4 @@
-//! Threads that each work on one value.
+//! Threads that each do a part of a work.
 ghost use Rattle.std.specs.Prelude.{IfErr, IfOk};
 ghost use Rattle.engine.specs.Faults.{IsOfServing};
 
@@ -7,12 +7,12 @@ use std::alloc::Global;
 use std::sync::Wait;
 use std::thread::{self, JoinHandle, Scope, Threads};
 
-/// The work of threads.
-pub(crate) trait Work<X> {
-    /// Works on a value and returns it.
-    fn work(&self, own: X) -> X;
+/// The work of threads, in numbered parts.
+pub(crate) trait Work {
+    /// Does the part of this number.
+    fn work(&self, number: usize);
 
-    /// Makes all such work end soon.
+    /// Makes all parts end soon.
     fn stop(&self);
 }
 
@@ -30,34 +30,33 @@ pub(crate) trait Meanwhile<B> {
         ensures { gives self result };
 }
 
-/// Works on each value in a thread of its own, and runs `meanwhile`. Returns the values in order, and the result of `meanwhile`,
-/// once all threads have ended. If a thread can't be started, the started ones are stopped, and their values are lost.
+/// Does each of this many parts of a work in a thread of its own, and runs `meanwhile`. Returns the result of `meanwhile` once all
+/// threads have ended. If a thread can't be started, the started ones are stopped.
 pub(crate) fn work_on_each<
-    X: Send + Drop,
-    W: Work<X> + Sync,
+    W: Work + Sync,
     B: Drop,
     M: Meanwhile<B> + Drop,
     R: Threads + Wait + Sync,
->(rt: &R, alloc: Global, work: &W, each: Vec<X>, meanwhile: M) -> Result<(Vec<X>, B), ServeFault>
+>(rt: &R, alloc: Global, work: &W, parts: usize, meanwhile: M) -> Result<B, ServeFault>
     requires { M.may_run meanwhile }
-    ensures done { IfOk result (λ r. M.gives meanwhile r.1) }
+    ensures done { IfOk result (λ r. M.gives meanwhile r) }
     ensures fault { IfErr result (λ fault. IsOfServing fault) }
 {
     thread::scope(
         thread::scope_env(),
         rt,
-        |scope| -> Result<(Vec<X>, B), ServeFault>
+        |scope| -> Result<B, ServeFault>
             requires { M.may_run meanwhile }
-            ensures done { IfOk result (λ r. M.gives meanwhile r.1) }
+            ensures done { IfOk result (λ r. M.gives meanwhile r) }
             ensures fault { IfErr result (λ fault. IsOfServing fault) }
         {
-            match start_all(scope, alloc, work, each) {
+            match start_all(scope, alloc, work, parts) {
                 Ok(threads) => {
                     let done = meanwhile.run();
-                    match join_all(rt, alloc, threads) {
-                        Ok(each) => Ok((each, done)),
-                        Err(fault) => Err(fault),
+                    for thread in threads {
+                        thread.join(rt);
                     }
+                    Ok(done)
                 }
                 Err(fault) => {
                     work.stop();
@@ -68,20 +67,20 @@ pub(crate) fn work_on_each<
     )
 }
 
-// Starts a thread for each value.
-fn start_all<'s, E, X: Send + Drop + 's, W: Work<X> + Sync>(
+// Starts a thread for each part.
+fn start_all<'s, E, W: Work + Sync>(
     scope: &Scope<'s, E>,
     alloc: Global,
     work: &'s W,
-    each: Vec<X>,
-) -> Result<Vec<JoinHandle<X>>, ServeFault>
+    parts: usize,
+) -> Result<Vec<JoinHandle<()>>, ServeFault>
     ensures fault { IfErr result (λ fault. IsOfServing fault) }
 {
-    let Ok(mut threads) = Vec::with_capacity(alloc, each.len()) else {
+    let Ok(mut threads) = Vec::with_capacity(alloc, parts) else {
         return Err(ServeFault::NoMemory);
     };
-    for own in each {
-        let Ok(thread) = scope.spawn(move || work.work(own)) else {
+    for number in 0..parts {
+        let Ok(thread) = scope.spawn(move || work.work(number)) else {
             return Err(ServeFault::NoThread);
         };
         let Ok(()) = threads.push(thread) else {
@@ -89,23 +88,4 @@ fn start_all<'s, E, X: Send + Drop + 's, W: Work<X> + Sync>(
         };
     }
     Ok(threads)
-}
-
-// Waits for the threads and returns their values.
-fn join_all<X: Drop, R: Threads>(
-    rt: &R,
-    alloc: Global,
-    threads: Vec<JoinHandle<X>>,
-) -> Result<Vec<X>, ServeFault>
-    ensures fault { IfErr result (λ fault. IsOfServing fault) }
-{
-    let Ok(mut each) = Vec::with_capacity(alloc, threads.len()) else {
-        return Err(ServeFault::NoMemory);
-    };
-    for thread in threads {
-        let Ok(()) = each.push(thread.join(rt)) else {
-            return Err(ServeFault::NoMemory);
-        };
-    }
-    Ok(each)
 }

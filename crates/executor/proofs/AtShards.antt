@@ -88,9 +88,9 @@ module _ (at_home : WorksAreDoneAtHome) (shared : SharedTables) where
 
     -- its report, by what it has again
     pub reports_recorded : (e : ActView) (recorded : Carried J) (old new : ShardView (Carried J)) (one : Ran J) → CarriesAct shared e → CarriesCountedShard shared old
-        → ActsAs e.by e.work (carried_by e) old (acted.Ran one recorded) new → CarriesReport shared (report_view recorded.number one recorded.share recorded.flow)
+        → ActsAs e.by e.work (carried_by e) old (acted.Ran one recorded) new → CarriesReport shared (report_view one recorded.place recorded.flow)
     reports_recorded e recorded old new one h counted_shard acts =
-        subst (λ (k : Carried J). CarriesReport shared (report_view k.number one k.share k.flow)) (sym acts.0) (reports e recorded old new one h counted_shard.shared_is acts)
+        subst (λ (k : Carried J). CarriesReport shared (report_view one k.place k.flow)) (sym acts.0) (reports e recorded old new one h counted_shard.shared_is acts)
 
     -- the shard, whatever the result
     pub after_acts : (e : ActView) (old new : ShardView (Carried J)) (came : Acted J (Carried J)) → CarriesAct shared e → CarriesCountedShard shared old → ActsAs e.by e.work (carried_by e) old came new → CarriesCountedShard shared new
@@ -119,7 +119,7 @@ module _ (at_home : WorksAreDoneAtHome) (shared : SharedTables) where
             turn.work,
             (
               own.work_is,
-              ran_by turned.by turned.carried.share.agreed_phase.age turn.work (with_waiters new.slice.waiters old.slice) new.slice turned.ran (ap (λ (b : Holder). b.age) own.by_is) h.shared_is turn.ran,
+              ran_by turned.by turned.carried.place.agreed_phase.age turn.work (with_waiters new.slice.waiters old.slice) new.slice turned.ran (ap (λ (b : Holder). b.age) own.by_is) h.shared_is turn.ran,
             ),
           );
           flow_is = own.flow_is;

@@ -1,7 +1,7 @@
-pub mod Shares
 pub mod Phases
 pub mod SentOut
 pub mod SortedOut
+pub mod Sorting
 pub mod Refusals
 pub mod AtShards
 pub mod Onward

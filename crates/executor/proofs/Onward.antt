@@ -18,7 +18,7 @@ use Rattle.transactions.specs.declared.progress.Gathered.TheVariants.{Next, Fini
 use Rattle.transactions.specs.Progresses.{FollowsFrom, HasFound, IsReached, works_of}
 use Rattle.executor.specs.declared.following.Following.{Following}
 use Rattle.executor.specs.declared.following.Following.TheVariants.{Over}
-use Rattle.executor.specs.AgreedPhases.{PhaseOwnerView, KeepsWhole}
+use Rattle.executor.specs.AgreedPhases.{PhaseOwnerView, OwnsPhaseOf}
 use Rattle.executor.specs.Flows.{CarriesFlow, FlowView}
 use Rattle.transactions.specs.Acting.{AreUndoneBy}
 use Rattle.executor.specs.Phases.{AreAllRans, MetView}
@@ -60,7 +60,7 @@ module _ {J : Type 0} where
 
   -- ---- what follows
 
-  module _ (m : MetView J) (phase_owner : PhaseOwnerView) (whole : KeepsWhole m.flow.slot phase_owner) where
+  module _ (m : MetView J) (phase_owner : PhaseOwnerView) (whole : OwnsPhaseOf m.flow.slot phase_owner) where
     abbrev held_then : List (List ClaimView)
     held_then = m.flow.held ++ held_in m.rans
 

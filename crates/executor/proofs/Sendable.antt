@@ -1,30 +1,30 @@
--- ExecutorShards, phases, and all that goes between executors may go to another thread, if the type parameter may.
+-- ExecutorShards, phase owners, and all that goes between executors may go to another thread, if the type parameter may.
 use denote.RattleType.{RattleType}
 use denote.Param.Send.{IsSend, sendable, view_send}
 use denote.Param.SendFields.{declared_send, variants_send}
 use denote.Builtin.{u32}
 use Rattle.std.specs.contracts.result.Result as Result
-use Rattle.std.proofs.Crossing.{Box-send, Vec-send}
+use Rattle.std.proofs.Crossing.{Box-send, Vec-send, crosses}
 use Rattle.requests.specs.contracts.refusal.Refusal as Refusal
 use Rattle.requests.proofs.Sendable.{Refusal-send, Reply-send, Request-send}
-use Rattle.agreement.proofs.Sendable.{Seat-send}
 use Rattle.tickets.proofs.Sendable.{Claims-send}
 use Rattle.commit_log.proofs.Sendable.{Pass-send}
 use Rattle.transactions.proofs.Sendable.{HeldClaims-send, Progress-send, Work-send, Ran-send, Shard-send}
-use Rattle.rendezvous.proofs.Sendable.{Meeting-send}
+use Rattle.rendezvous.proofs.Sendable.{Convener-send, Meeting-send, Meeting-sync, Place-send}
 use Rattle.tickets.specs.declared.group_names.GroupNames.{Ghosts as GroupNames}
 use Rattle.commit_log.specs.declared.log_names.LogNames.{Ghosts as LogNames}
-use Rattle.executor.specs.declared.names.PhaseNames.{Ghosts as PhaseNames}
-use Rattle.executor.specs.contracts.agreed_phase.Share as Share
-use Rattle.executor.specs.contracts.agreed_phase.PhaseOwner as PhaseOwner
+use Rattle.executor.specs.contracts.phase_owner.Said as Said
+use Rattle.executor.specs.contracts.phase_owner.PhasePlace as PhasePlace
+use Rattle.executor.specs.contracts.phase_owner.PhaseOwner as PhaseOwner
 use Rattle.executor.specs.contracts.act.Act as Act
 use Rattle.executor.specs.contracts.act.Carried as Carried
+use Rattle.executor.specs.contracts.completion.CompletionOwner as CompletionOwner
+use Rattle.executor.specs.contracts.completion.CompletionPlace as CompletionPlace
 use Rattle.executor.specs.contracts.giving_back.Settle as Settle
 use Rattle.executor.specs.contracts.giving_back.Undo as Undo
 use Rattle.executor.specs.contracts.flow.FlowBody as FlowBody
 use Rattle.executor.specs.contracts.flow.Transaction as Transaction
 use Rattle.executor.specs.contracts.flow.Flow as Flow
-use Rattle.executor.specs.contracts.phase.Phase as Phase
 use Rattle.executor.specs.contracts.counted_shard.CountedShard as CountedShard
 use Rattle.executor.specs.contracts.shards.ExecutorShards as ExecutorShards
 use Rattle.executor.specs.contracts.release.GivenBack as GivenBack
@@ -43,34 +43,31 @@ Answer-send = variants_send (Result.enum u32 Refusal.the_row) (
 FlowBody-send : IsSend FlowBody.the_row
 FlowBody-send = declared_send FlowBody.the_type (Request-send, (Progress-send, (Reply-send, tt)))
 
-module _ (J : RattleType) (agreed_phase : PhaseNames J.Denot) (log : LogNames J.Denot) (groups : GroupNames J.Denot) (s : IsSend J) where
-  Share-send : IsSend (Share.the_row J agreed_phase log groups)
-  Share-send = view_send _ _ _ _ _ (declared_send (Share.TheInside.the_type J agreed_phase log groups) (
-    search sendable depth 20,
+pub CompletionOwner-send : IsSend CompletionOwner.the_row
+CompletionOwner-send = view_send _ _ _ _ _ (declared_send CompletionOwner.TheInside.the_type (
+  search sendable depth 20,
+  (
+    search (Meeting-send, Meeting-sync, crosses, sendable) depth 40,
     (
-      search (Seat-send, sendable) depth 20,
-      (
-        search sendable depth 20,
-        tt,
-      ),
+      search (Convener-send, sendable) depth 40,
+      tt,
     ),
-  ))
+  ),
+))
 
-  pub PhaseOwner-send : IsSend (PhaseOwner.the_row J agreed_phase log groups)
-  PhaseOwner-send = view_send _ _ _ _ _ (declared_send (PhaseOwner.TheInside.the_type J agreed_phase log groups) (
-    search sendable depth 20,
+pub CompletionPlace-send : IsSend CompletionPlace.the_row
+CompletionPlace-send = view_send _ _ _ _ _ (declared_send CompletionPlace.TheInside.the_type (
+  search sendable depth 20,
+  (
+    search (Meeting-send, Meeting-sync, crosses, sendable) depth 40,
     (
-      search (Seat-send, sendable) depth 20,
-      (
-        search (Seat-send, Vec-send, sendable) depth 20,
-        (
-          search sendable depth 20,
-          tt,
-        ),
-      ),
+      search (Place-send, sendable) depth 40,
+      tt,
     ),
-  ))
+  ),
+))
 
+module _ (J : RattleType) (log : LogNames J.Denot) (groups : GroupNames J.Denot) (s : IsSend J) where
   Transaction-send : IsSend (Transaction.the_row J log)
   Transaction-send = declared_send (Transaction.the_type J log) (
     search sendable depth 20,
@@ -89,8 +86,8 @@ module _ (J : RattleType) (agreed_phase : PhaseNames J.Denot) (log : LogNames J.
     ),
   )
 
-  pub Flow-send : IsSend (Flow.the_row J agreed_phase log groups)
-  Flow-send = view_send _ _ _ _ _ (declared_send (Flow.TheInside.the_type J agreed_phase log groups) (
+  pub Flow-send : IsSend (Flow.the_row J log groups)
+  Flow-send = view_send _ _ _ _ _ (declared_send (Flow.TheInside.the_type J log groups) (
     Transaction-send,
     (
       HeldClaims-send J groups s,
@@ -98,8 +95,41 @@ module _ (J : RattleType) (agreed_phase : PhaseNames J.Denot) (log : LogNames J.
     ),
   ))
 
-  pub SessionAnswer-send : IsSend (SessionAnswer.the_row J agreed_phase log groups)
-  SessionAnswer-send = view_send _ _ _ _ _ (declared_send (SessionAnswer.TheInside.the_type J agreed_phase log groups) (
+  Said-send : IsSend (Said.the_row J log groups)
+  Said-send = declared_send (Said.the_type J log groups) (
+    Ran-send J groups s,
+    (
+      search (Flow-send, sendable) depth 20,
+      tt,
+    ),
+  )
+
+  PhasePlace-send : IsSend (PhasePlace.the_row J log groups)
+  PhasePlace-send = view_send _ _ _ _ _ (declared_send (PhasePlace.TheInside.the_type J log groups) (
+    search sendable depth 20,
+    (
+      search (Said-send, Meeting-send, Meeting-sync, crosses, sendable) depth 40,
+      (
+        search (Said-send, Place-send, sendable) depth 40,
+        tt,
+      ),
+    ),
+  ))
+
+  pub PhaseOwner-send : IsSend (PhaseOwner.the_row J log groups)
+  PhaseOwner-send = view_send _ _ _ _ _ (declared_send (PhaseOwner.TheInside.the_type J log groups) (
+    search sendable depth 20,
+    (
+      search (Said-send, Meeting-send, Meeting-sync, crosses, sendable) depth 40,
+      (
+        search (Said-send, Convener-send, sendable) depth 40,
+        tt,
+      ),
+    ),
+  ))
+
+  pub SessionAnswer-send : IsSend (SessionAnswer.the_row J log groups)
+  SessionAnswer-send = view_send _ _ _ _ _ (declared_send (SessionAnswer.TheInside.the_type J log groups) (
     search sendable depth 20,
     (
       search sendable depth 20,
@@ -113,38 +143,32 @@ module _ (J : RattleType) (agreed_phase : PhaseNames J.Denot) (log : LogNames J.
     ),
   ))
 
-  pub Act-send : IsSend (Act.the_row J agreed_phase log groups)
-  Act-send = view_send _ _ _ _ _ (declared_send (Act.TheInside.the_type J agreed_phase log groups) (
+  pub Act-send : IsSend (Act.the_row J log groups)
+  Act-send = view_send _ _ _ _ _ (declared_send (Act.TheInside.the_type J log groups) (
     search sendable depth 40,
     (
-      search sendable depth 20,
+      Work-send,
       (
-        Work-send,
+        PhasePlace-send,
         (
-          Share-send,
-          (
-            search (Flow-send, sendable) depth 20,
-            tt,
-          ),
+          search (Flow-send, sendable) depth 20,
+          tt,
         ),
       ),
     ),
   ))
 
-  Carried-send : IsSend (Carried.the_row J agreed_phase log groups)
-  Carried-send = declared_send (Carried.the_type J agreed_phase log groups) (
-    search sendable depth 20,
+  Carried-send : IsSend (Carried.the_row J log groups)
+  Carried-send = declared_send (Carried.the_type J log groups) (
+    PhasePlace-send,
     (
-      Share-send,
-      (
-        search (Flow-send, sendable) depth 20,
-        tt,
-      ),
+      search (Flow-send, sendable) depth 20,
+      tt,
     ),
   )
 
-  Settle-send : IsSend (Settle.the_row J agreed_phase log groups)
-  Settle-send = view_send _ _ _ _ _ (declared_send (Settle.TheInside.the_type J agreed_phase log groups) (
+  Settle-send : IsSend (Settle.the_row J log groups)
+  Settle-send = view_send _ _ _ _ _ (declared_send (Settle.TheInside.the_type J log groups) (
     search sendable depth 20,
     (
       Claims-send J groups s,
@@ -152,8 +176,8 @@ module _ (J : RattleType) (agreed_phase : PhaseNames J.Denot) (log : LogNames J.
     ),
   ))
 
-  Undo-send : IsSend (Undo.the_row J agreed_phase log groups)
-  Undo-send = view_send _ _ _ _ _ (declared_send (Undo.TheInside.the_type J agreed_phase log groups) (
+  Undo-send : IsSend (Undo.the_row J log groups)
+  Undo-send = view_send _ _ _ _ _ (declared_send (Undo.TheInside.the_type J log groups) (
     search sendable depth 20,
     (
       Claims-send J groups s,
@@ -161,8 +185,8 @@ module _ (J : RattleType) (agreed_phase : PhaseNames J.Denot) (log : LogNames J.
     ),
   ))
 
-  pub GivenBack-send : IsSend (GivenBack.the_row J agreed_phase log groups)
-  GivenBack-send = variants_send (GivenBack.enum J agreed_phase log groups) (
+  pub GivenBack-send : IsSend (GivenBack.the_row J log groups)
+  GivenBack-send = variants_send (GivenBack.enum J log groups) (
     (Settle-send, tt),
     (
       (Undo-send, tt),
@@ -170,20 +194,8 @@ module _ (J : RattleType) (agreed_phase : PhaseNames J.Denot) (log : LogNames J.
     ),
   )
 
-  pub Phase-send : IsSend (Phase.the_row J agreed_phase log groups)
-  Phase-send = view_send _ _ _ _ _ (declared_send (Phase.TheInside.the_type J agreed_phase log groups) (
-    PhaseOwner-send,
-    (
-      search (Flow-send, sendable) depth 20,
-      (
-        search (Ran-send, Meeting-send, sendable) depth 20,
-        tt,
-      ),
-    ),
-  ))
-
-  pub CountedShard-send : IsSend (CountedShard.the_row J agreed_phase log groups)
-  CountedShard-send = view_send _ _ _ _ _ (declared_send (CountedShard.TheInside.the_type J agreed_phase log groups) (
+  pub CountedShard-send : IsSend (CountedShard.the_row J log groups)
+  CountedShard-send = view_send _ _ _ _ _ (declared_send (CountedShard.TheInside.the_type J log groups) (
     search (Carried-send, Shard-send, sendable) depth 20,
     (
       search sendable depth 20,
@@ -191,8 +203,8 @@ module _ (J : RattleType) (agreed_phase : PhaseNames J.Denot) (log : LogNames J.
     ),
   ))
 
-  pub ExecutorShards-send : IsSend (ExecutorShards.the_row J agreed_phase log groups)
-  ExecutorShards-send = declared_send (ExecutorShards.the_type J agreed_phase log groups) (
+  pub ExecutorShards-send : IsSend (ExecutorShards.the_row J log groups)
+  ExecutorShards-send = declared_send (ExecutorShards.the_type J log groups) (
     search (CountedShard-send, Box-send, Vec-send, sendable) depth 20,
     tt,
   )

@@ -1,73 +1,91 @@
--- What contracts see of a transaction's agreed phase and of its shares.
-use Rattle.std.specs.Prelude.{◌≡◌, ◌≤◌, ◌+◌, ℕ, List, [], ◌∷◌, length}
+-- What contracts see of a transaction's phase, of its owner, and of the places of its actions in the meeting to which they report.
+use Rattle.std.specs.Prelude.{◌≡◌, ◌+◌, ◌-◌, ℕ, List, [], ◌∷◌, Option, Some, None, length}
 use Rattle.atomic_table.specs.Seated.{TableId}
-use Rattle.agreement.specs.SeatView.{Agreement, SeatView, seat_view, IsSpent}
-use Rattle.executor.specs.declared.agreed_phase.AgreedPhase.{AgreedPhase}
+use Rattle.rendezvous.specs.Meetings.{ConvenerView, PlaceView, PlacesView}
 use Rattle.transactions.specs.declared.laws.TheConstants.{MOST_ACTIONS}
 use Rattle.transactions.specs.declared.progress.Progress.{Progress}
 use Rattle.transactions.specs.declared.progress.Progress.TheVariants.{StockLevel}
 use Rattle.transactions.specs.declared.stock_level.Progress.TheVariants.{ReadNext}
+use Rattle.transactions.specs.Progresses.{works_of}
+use Rattle.executor.specs.declared.phase_owner.AgreedPhase.{AgreedPhase}
 
--- a transaction of this age has come to this phase, and its earlier phases had `first` actions
-abbrev pub agreed_phase : ℕ → ℕ → Progress → AgreedPhase
-agreed_phase age first progress = record { age = age; first = first; progress = progress }
+-- a transaction of this age, in this slot, has come to this phase, and its earlier phases had `first` actions
+abbrev pub agreed_phase : ℕ → ℕ → ℕ → Progress → AgreedPhase
+agreed_phase slot age first progress = record { slot = slot; age = age; first = first; progress = progress }
 
--- the agreed phase before the first transaction
+-- a placeholder for a phase
 abbrev pub no_agreed_phase : AgreedPhase
-no_agreed_phase = agreed_phase 0 0 (StockLevel (ReadNext (record { home = record { w_id = 0; d_id = 0 }; threshold = 0 })))
+no_agreed_phase = agreed_phase 0 0 0 (StockLevel (ReadNext (record { home = record { w_id = 0; d_id = 0 }; threshold = 0 })))
+
+-- the phase that a round is about
+abbrev pub phase_in : Option AgreedPhase → AgreedPhase
+phase_in None = no_agreed_phase
+phase_in (Some phase) = phase
 
 -- ---- what contracts see
 
--- a share: the slot of its transaction, and the agreed phase that it records
-pub record ShareView : Type 0 where
-  pub slot : ℕ
-  pub agreed_phase : AgreedPhase
-
-abbrev pub share_view : ℕ → AgreedPhase → ShareView
-share_view slot recorded = record { slot = slot; agreed_phase = recorded }
-
--- a phase owner: its slot, the agreed phase that it records, and how many shares are out
+-- the owner of a phase: its slot
 pub record PhaseOwnerView : Type 0 where
   pub slot : ℕ
+
+abbrev pub phase_owner_view : ℕ → PhaseOwnerView
+phase_owner_view slot = record { slot = slot }
+
+-- the place of an action: the slot of its transaction, its number in its phase, and the phase
+pub record PhasePlaceView : Type 0 where
+  pub slot : ℕ
+  pub number : ℕ
   pub agreed_phase : AgreedPhase
-  pub out : ℕ
 
-abbrev pub phase_owner_view : ℕ → AgreedPhase → ℕ → PhaseOwnerView
-phase_owner_view slot recorded out = record { slot = slot; agreed_phase = recorded; out = out }
+abbrev pub phase_place_view : ℕ → ℕ → AgreedPhase → PhasePlaceView
+phase_place_view slot number phase = record { slot = slot; number = number; agreed_phase = phase }
 
--- the phase owner when this many shares are out
-abbrev pub with_out : ℕ → PhaseOwnerView → PhaseOwnerView
-with_out out phase_owner = record phase_owner { out = out }
+-- the places of a phase that are left: the slot, the phase, the number of the next place, and how many are left
+pub record PhasePlacesView : Type 0 where
+  pub slot : ℕ
+  pub agreed_phase : AgreedPhase
+  pub next : ℕ
+  pub left : ℕ
 
--- this is the phase owner of the slot, and it has all shares
-abbrev pub KeepsWhole : ℕ → PhaseOwnerView → Type 0
-KeepsWhole slot phase_owner = (phase_owner.slot ≡ slot) × (phase_owner.out ≡ 0)
+abbrev pub phase_places_view : ℕ → AgreedPhase → ℕ → ℕ → PhasePlacesView
+phase_places_view slot phase next left = record { slot = slot; agreed_phase = phase; next = next; left = left }
 
--- ---- the seats
+-- the next place was handed out
+abbrev pub without_next : PhasePlacesView → PhasePlacesView
+without_next p = record p { next = p.next + 1; left = p.left - 1 }
 
--- the agreement on an agreed phase: one share for each action that a transaction may have, and one more
-abbrev pub agreed_phase_agreement : TableId → Agreement
-agreed_phase_agreement table = record { table = table; count = MOST_ACTIONS + 1 }
+-- this is the phase owner of the slot
+abbrev pub OwnsPhaseOf : ℕ → PhaseOwnerView → Type 0
+OwnsPhaseOf slot phase_owner = phase_owner.slot ≡ slot
 
--- a seat that records this agreed phase, with this many shares
-abbrev pub agreed_phase_seat : TableId → AgreedPhase → ℕ → SeatView AgreedPhase
-agreed_phase_seat table recorded share = seat_view (agreed_phase_agreement table) recorded share
+-- ---- what is kept
 
--- seats without a share
-abbrev pub AreSpent : TableId → List (SeatView AgreedPhase) → Type 0
-AreSpent table [] = Unit {0}
-AreSpent table (seat ∷ seats) = IsSpent (agreed_phase_agreement table) seat × AreSpent table seats
+-- the convener is that of the meeting, which has room for all actions of a phase
+pub record IsOwnerOf (meeting : TableId) (convener : ConvenerView) : Type 0 where
+  pub here : convener.meeting ≡ meeting
+  pub room : meeting.slots ≡ MOST_ACTIONS
 
--- What a phase owner has: all shares that are not out, and a spent seat for each of them but its own. There is room for all spent
--- seats.
-pub record IsPhaseOwner (table : TableId) (seat : SeatView AgreedPhase) (spare : List (SeatView AgreedPhase)) (room : ℕ) : Type 0 where
-  pub seat_is : seat ≡ agreed_phase_seat table seat.value (length spare + 1)
-  pub few : length spare ≤ MOST_ACTIONS
-  pub room_is : MOST_ACTIONS ≤ room
-  pub spent : AreSpent table spare
+-- the round is about a phase of the slot, and has a place for each of its actions
+pub record IsOfPhase (slot places : ℕ) (topic : Option AgreedPhase) : Type 0 where
+  pub about : topic ≡ Some (phase_in topic)
+  pub slot_is : (phase_in topic).slot ≡ slot
+  pub places_are : places ≡ length (works_of (phase_in topic).progress)
 
--- a phase owner at the opening: it has all shares
-pub record IsOpened (table : TableId) (seat : SeatView AgreedPhase) (spare : List (SeatView AgreedPhase)) (room : ℕ) : Type 0 where
-  pub recorded : seat.value ≡ no_agreed_phase
-  pub all : length spare ≡ MOST_ACTIONS
-  pub phase_owner : IsPhaseOwner table seat spare room
+-- the place is of the meeting, and of a phase of the slot
+pub record IsPlaceIn (meeting : TableId) (slot : ℕ) (place : PlaceView AgreedPhase) : Type 0 where
+  pub here : place.of_round.meeting ≡ meeting
+  pub room : meeting.slots ≡ MOST_ACTIONS
+  pub phase : IsOfPhase slot place.of_round.places place.of_round.topic
+
+-- each of these is the meeting
+abbrev pub AreHandles : {X : Type 0} → (X → TableId) → TableId → List X → Type 0
+AreHandles value_of meeting [] = Unit {0}
+AreHandles value_of meeting (handle ∷ handles) = (value_of handle ≡ meeting) × AreHandles value_of meeting handles
+
+-- The places are of the meeting, and of a phase of the slot; the meeting is there once more for each of them.
+pub record ArePlacesIn {X : Type 0} (value_of : X → TableId) (meeting : X) (handles : List X) (slot : ℕ) (places : PlacesView AgreedPhase) : Type 0 where
+  pub here : places.of_round.meeting ≡ value_of meeting
+  pub room : (value_of meeting).slots ≡ MOST_ACTIONS
+  pub phase : IsOfPhase slot places.of_round.places places.of_round.topic
+  pub many : length handles ≡ places.left
+  pub each : AreHandles value_of (value_of meeting) handles

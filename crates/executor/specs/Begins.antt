@@ -1,11 +1,10 @@
 -- The actions of a phase that begins.
-use Rattle.std.specs.Prelude.{◌+◌, ℕ, List, [], ◌∷◌, Option, Some, None, length, replicate}
+use Rattle.std.specs.Prelude.{◌+◌, ℕ, List, [], ◌∷◌, Option, Some, None}
 use Rattle.transactions.specs.declared.work.Work.{Work}
 use Rattle.transactions.specs.Progresses.{works_of}
-use Rattle.executor.specs.declared.agreed_phase.AgreedPhase.{AgreedPhase}
+use Rattle.executor.specs.declared.phase_owner.AgreedPhase.{AgreedPhase}
 use Rattle.executor.specs.Carrying.{ActView, action_at, agreed_phase_of}
 use Rattle.executor.specs.Flows.{FlowView}
-use Rattle.executor.specs.Phases.{PhaseView}
 
 -- the action of this number, with the transaction if it carries it
 abbrev pub act_at : ℕ → AgreedPhase → ℕ → Option FlowView → Work → ActView
@@ -19,7 +18,3 @@ acts_from slot recorded number carried (work ∷ works) = act_at slot recorded n
 -- the actions of a transaction's phase: the first carries the transaction
 abbrev pub acts_of : FlowView → List ActView
 acts_of j = acts_from j.slot (agreed_phase_of j) 0 (Some j) (works_of j.progress)
-
--- the phase before any action has reported
-abbrev pub awaiting_all : {J : Type 0} → FlowView → PhaseView J
-awaiting_all j = record { slot = j.slot; agreed_phase = agreed_phase_of j; flow = None; rans = replicate (length (works_of j.progress)) None }

@@ -13,7 +13,7 @@ use Rattle.commit_log.specs.declared.log_book.AppendFault.TheVariants as fault
 use Rattle.commit_log.specs.Claimed.{IsCarriedOut, claims_logged}
 use Rattle.commit_log.specs.Items.{entry_of, item}
 use Rattle.commit_log.specs.PassView.{PassView, after_item, after_refusal}
-use Rattle.executor.specs.AgreedPhases.{PhaseOwnerView, KeepsWhole}
+use Rattle.executor.specs.AgreedPhases.{PhaseOwnerView, OwnsPhaseOf}
 use Rattle.executor.specs.Flows.{IsAskedBy}
 use Rattle.transactions.specs.Acting.{AreUndoneBy}
 use Rattle.transactions.specs.Logged.{is_settled, why_refused}
@@ -37,13 +37,13 @@ commit_view phase_owner t held shown =
     record { phase_owner = phase_owner; age = t.age; slot = t.slot; number = t.number; request = t.request; pass = t.pass; held = held; shown = shown }
 
 -- Its session has asked it with this pass; the check accepts the request; the request was carried out under these claims with
--- this reply; all that was done under them can be undone; and its phase owner has all shares.
+-- this reply; all that was done under them can be undone; and its phase owner is that of its slot.
 pub record CarriesCommit (opening : Database) (c : CommitView) : Type 0 where
   pub asked : IsAskedBy c.number c.request c.pass
   pub accepted : IsAccepted opening.scale c.request
   pub carried_out : IsCarriedOut opening c.request (all_claims c.held) c.shown
   pub undone : All (AreUndoneBy c.age) c.held
-  pub whole : KeepsWhole c.slot c.phase_owner
+  pub whole : OwnsPhaseOf c.slot c.phase_owner
 
 -- its entry
 abbrev pub entry_committed : CommitView → Entry

@@ -8,13 +8,13 @@ use Rattle.transactions.specs.declared.shard.Parked.{Parked}
 use Rattle.transactions.specs.declared.shard.Turned.{Turned}
 use Rattle.transactions.specs.Shards.{ActsAs, OneTurn, ShardView}
 use Rattle.executor.specs.declared.act.Carried.{Carried}
-use Rattle.executor.specs.AgreedPhases.{share_view}
+use Rattle.executor.specs.AgreedPhases.{phase_place_view}
 use Rattle.executor.specs.Carrying.{CarriesAct, ActView, ReportView, act_view, report_view}
 
 module _ {J : Type 0} where
   -- a waiting action, as it was when it asked
   abbrev pub waiting_act : Parked (Carried J) → ActView
-  waiting_act p = act_view p.by p.carried.number p.work p.carried.share p.carried.flow
+  waiting_act p = act_view p.by p.work p.carried.place p.carried.flow
 
   -- a waiting action carries what an action in flight carries
   abbrev pub CarriesWaiting : SharedTables → Parked (Carried J) → Type 0
@@ -31,15 +31,15 @@ module _ {J : Type 0} where
 
   -- what an action keeps beside its work
   abbrev pub carried_by : ActView → Carried J
-  carried_by e = record { number = e.number; share = share_view e.slot e.agreed_phase; flow = e.flow }
+  carried_by e = record { place = phase_place_view e.slot e.number e.agreed_phase; flow = e.flow }
 
   -- the report of an action with this result
   abbrev pub report_by : ActView → Ran J → ReportView J
-  report_by e ran = report_view e.number ran (share_view e.slot e.agreed_phase) e.flow
+  report_by e ran = report_view ran (phase_place_view e.slot e.number e.agreed_phase) e.flow
 
   -- the report of an action that has had its turn
   abbrev pub report_turned : Turned J (Carried J) → ReportView J
-  report_turned t = report_view t.carried.number t.ran t.carried.share t.carried.flow
+  report_turned t = report_view t.ran t.carried.place t.carried.flow
 
   -- An action asks at its shard. It reports that it has done its work, or that it died of a conflicting holder that is not
   -- younger, or that an allocation failed; or it waits there, and all conflicting holders are younger (`ActsAs` of transactions).

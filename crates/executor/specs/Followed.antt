@@ -1,5 +1,5 @@
 -- The step after a phase of which all actions have reported.
-use Rattle.std.specs.Prelude.{◌≡◌, List, ◌++◌, Option, Some, None}
+use Rattle.std.specs.Prelude.{◌≡◌, ℕ, List, ◌++◌, Option, Some, None}
 use Rattle.partitions.specs.Parts.{SharedTables}
 use Rattle.requests.specs.declared.request.Request.{Request}
 use Rattle.requests.specs.declared.refusal.Refusal.{Refusal}
@@ -12,11 +12,11 @@ use Rattle.transactions.specs.Works.{HaveAllDone}
 use Rattle.transactions.specs.Progresses.{FollowsFrom, IsReached, works_of}
 use Rattle.executor.specs.declared.following.Following.{Following}
 use Rattle.executor.specs.declared.following.Following.TheVariants as following
-use Rattle.executor.specs.AgreedPhases.{PhaseOwnerView, KeepsWhole}
+use Rattle.executor.specs.AgreedPhases.{PhaseOwnerView, OwnsPhaseOf}
 use Rattle.executor.specs.Flows.{FlowView}
 use Rattle.executor.specs.Transactions.{TransactionView}
 use Rattle.executor.specs.PausedView.{paused_view}
-use Rattle.executor.specs.Phases.{MetView}
+use Rattle.executor.specs.Phases.{CarriesMeeting, MetView}
 use Rattle.transactions.specs.SortedOut.{found_in, held_in, refusal_of}
 use Rattle.executor.specs.Released.{refused}
 use Rattle.executor.specs.Commits.{commit_view}
@@ -57,8 +57,12 @@ module _ {J : Type 0} where
   FollowsUnless (Some why) phase_owner j found after = after ≡ following.Over (refused phase_owner (transaction_of j) j.held why)
   FollowsUnless None phase_owner j found after = Gathers phase_owner j found after
 
-  -- The step after these reports; the phase owner is that of the transaction's slot and has all shares.
+  -- The step after these reports; the phase owner is that of the transaction's slot.
   abbrev pub Follows : MetView J → Following J → Type 0
   Follows m after =
-      (phase_owner : PhaseOwnerView) × (KeepsWhole m.flow.slot phase_owner
+      (phase_owner : PhaseOwnerView) × (OwnsPhaseOf m.flow.slot phase_owner
       × FollowsUnless (refusal_of None m.rans) phase_owner (under_claims (m.flow.held ++ held_in m.rans) m.flow) (found_in m.rans) after)
+
+  -- the step after the reports of all actions of a phase of this slot
+  abbrev pub FollowsMeeting : SharedTables → ℕ → Following J → Type 0
+  FollowsMeeting shared slot after = (m : MetView J) × CarriesMeeting shared slot m × Follows m after

@@ -3,12 +3,12 @@ pub mod Flows
 pub mod Transactions
 pub mod Carrying
 pub mod Phases
-pub mod Reports
 pub mod Begins
 pub mod ExecutorShards
 pub mod GivenBackViews
 pub mod Answers
 pub mod Released
+pub mod Completions
 pub mod Commits
 pub mod PausedView
 pub mod Followed

@@ -4,15 +4,15 @@ ghost use Rattle.requests.specs.Check.{IsAccepted};
 ghost use Rattle.tickets.specs.Claims.{all_claims};
 ghost use Rattle.commit_log.specs.Claimed.{IsCarriedOut};
 ghost use Rattle.executor.specs.Commits.{Commits, commit_view};
-ghost use Rattle.executor.specs.AgreedPhases.{KeepsWhole};
+ghost use Rattle.executor.specs.AgreedPhases.{OwnsPhaseOf};
 ghost use Rattle.executor.specs.Flows.{IsAskedBy};
 ghost use Rattle.transactions.specs.Acting.{AreUndoneBy};
 ghost use Rattle.executor.specs.Transactions.{transaction_view};
 
 use crate::flow::Transaction;
 use crate::release::Returns;
-use crate::{PhaseNames, PhaseOwner, Release, SessionAnswer};
-use commit_log::{Entry, Log};
+use crate::{PhaseOwner, Release, SessionAnswer};
+use commit_log::{Entry, Log, Names};
 use requests::Request;
 use std::marker::Model;
 use transactions::{HeldClaims, Logged};
@@ -22,15 +22,15 @@ use transactions::{HeldClaims, Logged};
 /// Contracts see the transaction's age, its slot, the number of its request in its session, the request, the pass, the claims of
 /// its actions, by place, the reply, and the phase owner. Invariant: its session has asked it with this pass, and the pass is
 /// unchanged since; the check accepts the request; the request was carried out under these claims with this reply; all that was
-/// done under them can be undone; and the phase owner is that of the transaction's slot and has all shares.
+/// done under them can be undone; and the phase owner is that of the transaction's slot.
 #[derive(Drop)]
-pub struct Commit<J: PhaseNames> {
+pub struct Commit<J: Names> {
     transaction: Transaction<J>,
     held: HeldClaims<J>,
     phase_owner: PhaseOwner<J>,
 }
 
-impl<J: PhaseNames> Model for Commit<J> {
+impl<J: Names> Model for Commit<J> {
     ghost use Rattle.std.specs.Coded.{codes};
     ghost use Rattle.groups.specs.contracts.content.Content as content;
     ghost use Rattle.executor.specs.Commits.{CommitView};
@@ -47,7 +47,7 @@ impl<J: PhaseNames> Model for Commit<J> {
     ghost invariant = { λ c. CarriesCommit J.opening (commit_view c.phase_owner (transaction_view c.transaction) c.held c.transaction.body.value.reply) };
 }
 
-impl<J: PhaseNames> Commit<J> {
+impl<J: Names> Commit<J> {
     // Makes the commit of a transaction that was carried out under these claims.
     pub(crate) fn new(
         phase_owner: PhaseOwner<J>,
@@ -60,7 +60,7 @@ impl<J: PhaseNames> Commit<J> {
         requires carried_out { IsCarriedOut J.opening transaction.body.value.request
             (all_claims held) transaction.body.value.reply }
         requires undone { All (AreUndoneBy transaction.age) held }
-        requires whole { KeepsWhole transaction.slot phase_owner }
+        requires whole { OwnsPhaseOf transaction.slot phase_owner }
         ensures { result ≡ commit_view phase_owner (transaction_view transaction) held
             transaction.body.value.reply }
     {

@@ -8,7 +8,8 @@ ghost use Rattle.transactions.specs.Acting.{IsRanBy};
 ghost use Rattle.executor.specs.ExecutorShards.{TurnsAt, WorksAt};
 ghost use Rattle.executor.specs.Released.{giving_of};
 
-use crate::{Act, Carried, GivenBack, PhaseNames, Report, Settle, Undo};
+use crate::{Act, Carried, GivenBack, Report, Settle, Undo};
+use commit_log::Names;
 use slices::Slice;
 use std::alloc::Global;
 use std::marker::Model;
@@ -20,13 +21,13 @@ use wait_die::Holder;
 /// Contracts see the slice and the waiting actions. Invariant: the slice has the scale and the items of the tables at J's
 /// opening, and each waiting action carries what an `Act` carries.
 #[derive(Drop)]
-pub struct CountedShard<J: PhaseNames> {
+pub struct CountedShard<J: Names> {
     shard: Shard<J, Carried<J>>,
     // An upper bound of the number of waiting actions, unless it is the largest `usize`.
     waiting: usize,
 }
 
-impl<J: PhaseNames> Model for CountedShard<J> {
+impl<J: Names> Model for CountedShard<J> {
     ghost use Rattle.std.specs.Coded.{codes};
     ghost use Rattle.groups.specs.contracts.content.Content as content;
     ghost use Rattle.schema.specs.contracts.tables.Tables as tables_kind;
@@ -45,7 +46,7 @@ impl<J: PhaseNames> Model for CountedShard<J> {
     ghost invariant = { λ p. CarriesCountedShard (shared_of J.opening) p.shard × AreAtMost p.waiting p.shard.parked };
 }
 
-impl<J: PhaseNames> CountedShard<J> {
+impl<J: Names> CountedShard<J> {
     /// The shard of a slice that has no waiting action.
     pub fn new(alloc: Global, slice: Slice<J>) -> CountedShard<J>
         requires shared { shared_of slice.tables ≡ shared_of J.opening }
@@ -90,29 +91,15 @@ impl<J: PhaseNames> CountedShard<J> {
         works_are_done_at_home();
         let Act {
             by,
-            number,
             work,
-            share,
+            place,
             flow,
         } = act;
-        let carried = Carried {
-            number,
-            share,
-            flow,
-        };
+        let carried = Carried { place, flow };
         match self.shard.try_action(alloc, by, work, carried) {
             Acted::Ran(ran, carried) => {
-                let Carried {
-                    number,
-                    share,
-                    flow,
-                } = carried;
-                Some(Report {
-                    number,
-                    ran,
-                    share,
-                    flow,
-                })
+                let Carried { place, flow } = carried;
+                Some(Report { ran, place, flow })
             }
             Acted::Waits => {
                 self.waiting = one_more(self.waiting);
@@ -149,17 +136,8 @@ impl<J: PhaseNames> CountedShard<J> {
             ran,
             carried,
         } = turned;
-        let Carried {
-            number,
-            share,
-            flow,
-        } = carried;
-        Some(Report {
-            number,
-            ran,
-            share,
-            flow,
-        })
+        let Carried { place, flow } = carried;
+        Some(Report { ran, place, flow })
     }
 
     /// Takes the claims of an action back: settles them, or undoes what the action did under them. Requires that they are of this

@@ -5,13 +5,13 @@ ghost use Rattle.transactions.specs.Progresses.{IsStartOf};
 ghost use Rattle.executor.specs.Flows.{HasBegun, IsAskedBy};
 ghost use Rattle.executor.specs.Transactions.{transaction_view};
 
-use crate::PhaseNames;
-use commit_log::Pass;
+use commit_log::{LogNames, Names, Pass};
 use requests::{Fault, Reply, Request, StockLevel};
 use schema::{DistrictKey, NoMemory};
 use std::alloc::Global;
 use std::marker::Model;
 use std::mem;
+use tickets::GroupNames;
 use transactions::{HeldClaims, Progress, stock_level};
 
 /// The large parts of a transaction, in a box. The box is made as the transaction begins and dropped when its entry or its
@@ -27,7 +27,7 @@ pub(crate) struct FlowBody {
 
 /// The identity of a transaction, its body, and its session's pass.
 #[derive(Drop)]
-pub(crate) struct Transaction<J: PhaseNames> {
+pub(crate) struct Transaction<J: LogNames + GroupNames> {
     pub(crate) age: u64,
     pub(crate) slot: usize,
     pub(crate) number: u32,
@@ -41,13 +41,13 @@ pub(crate) struct Transaction<J: PhaseNames> {
 /// how far it has come. Invariant: its session has asked the request with this pass, and the pass is unchanged since; the request
 /// has come so far under these claims; and all that was done under them can be undone.
 #[derive(Drop)]
-pub struct Flow<J: PhaseNames> {
+pub struct Flow<J: LogNames + GroupNames> {
     pub(crate) transaction: Transaction<J>,
     // The claims of the actions of earlier phases, by place.
     pub(crate) held: HeldClaims<J>,
 }
 
-impl<J: PhaseNames> Model for Flow<J> {
+impl<J: LogNames + GroupNames> Model for Flow<J> {
     ghost use Rattle.std.specs.Coded.{codes};
     ghost use Rattle.groups.specs.contracts.content.Content as content;
     ghost use Rattle.executor.specs.Flows.{FlowView};
@@ -64,7 +64,7 @@ impl<J: PhaseNames> Model for Flow<J> {
     ghost invariant = { λ j. CarriesFlow (shared_of J.opening) (flow_view j.transaction j.held) };
 }
 
-impl<J: PhaseNames> Flow<J> {
+impl<J: Names> Flow<J> {
     /// Begins a transaction of this age in this slot. Requires that its session has asked the request with this pass and that the
     /// check accepts the request. If an allocation fails, returns the pass.
     pub fn begin(
@@ -149,7 +149,7 @@ impl FlowBody {
     }
 }
 
-impl<J: PhaseNames> Transaction<J> {
+impl<J: Names> Transaction<J> {
     // Moves the progress out. A placeholder is left.
     pub(crate) fn take_progress(&mut self) -> Progress
         ensures progress { result ≡ self.old.body.value.progress }

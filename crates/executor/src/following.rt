@@ -1,24 +1,27 @@
 //! The step after a phase.
-ghost use Rattle.std.specs.Prelude.{◌≡◌, ◌≤◌, ◌+◌, ◌++◌, All, IfSome, None, length};
+ghost use Rattle.std.specs.Prelude.{◌≡◌, ◌≤◌, ◌+◌, ◌++◌, [], ◌∷◌, All, IfSome, None, length};
 ghost use Rattle.partitions.specs.Parts.{shared_of};
 ghost use Rattle.executor.specs.Flows.{IsAskedBy, flow_view};
 ghost use Rattle.transactions.specs.Acting.{AreUndoneBy};
 ghost use Rattle.executor.specs.Answers.{MayBeRefused};
-ghost use Rattle.executor.specs.Followed.{Follows, FollowsUnless, HasMetUnder};
+ghost use Rattle.executor.specs.Followed.{FollowsMeeting, FollowsUnless, HasMetUnder};
+ghost use Rattle.executor.specs.Carrying.{AreSaidIn};
+ghost use Rattle.executor.specs.Phases.{last_report_view, rans_said};
 ghost use Rattle.transactions.specs.SortedOut.{IsReadyFor, found_in, held_in, refusal_of};
 
 use crate::flow::Transaction;
-use crate::{Commit, Flow, Met, Paused, PhaseNames, PhaseOwner, Release};
-use rendezvous::Results;
+use crate::phase_owner::{LastReport, Said};
+use crate::{Commit, Flow, Paused, PhaseOwner, Release, Report};
+use commit_log::Names;
 use std::alloc::Global;
 use transactions::{
     Gathered, HeldClaims, MOST_ACTIONS, Ran, Sorted, claims_are_of_the_footprint,
-    reached_requests_are_accepted, transactions_have_few_actions,
+    phases_have_actions, reached_requests_are_accepted, transactions_have_few_actions,
 };
 
 /// The step after a phase of which all actions have reported.
 #[derive(Drop)]
-pub enum Following<J: PhaseNames> {
+pub enum Following<J: Names> {
     /// The next phase is to begin.
     Next(Paused<J>),
     /// It was carried out and is to be logged.
@@ -27,48 +30,74 @@ pub enum Following<J: PhaseNames> {
     Over(Release<J>),
 }
 
-impl<J: PhaseNames> Met<J> {
-    /// The step after the phase. If an action died, the transaction is refused for the first death by place; else, if an action
-    /// found no memory, it is refused with NoMemory. Else the results are gathered: the next phase begins or the transaction is
-    /// to be logged, or it is refused with NoMemory if an allocation fails.
-    pub fn follow(self, alloc: Global) -> Following<J>
-        ensures { Follows self result }
+impl<J: Names> Report<J> {
+    /// Reports to the meeting of its phase, without a lock. If another action of the phase has not reported yet, returns `None`. The
+    /// last report returns the step after the phase. If an action died, the transaction is refused for the first death by place;
+    /// else, if an action found no memory, it is refused with NoMemory. Else the results are gathered: the next phase begins or the
+    /// transaction is to be logged, or it is refused with NoMemory if an allocation fails. Never waits.
+    pub fn report(self, alloc: Global) -> Option<Following<J>>
+        ensures { IfSome result (FollowsMeeting (shared_of J.opening) self.slot) }
     {
+        let Report { ran, place, flow } = self;
+        let last = place.report(Said { ran, flow })?;
+        Some(last.follow(alloc))
+    }
+}
+
+impl<J: Names> LastReport<J> {
+    // The step after the phase.
+    fn follow(self, alloc: Global) -> Following<J>
+        requires all { AreSaidIn (shared_of J.opening) self.slot self.items }
+        ensures { FollowsMeeting (shared_of J.opening) self.slot result }
+    {
+        phases_have_actions();
         transactions_have_few_actions();
         claims_are_of_the_footprint();
-        let Met {
-            phase_owner,
-            flow,
-            rans,
-        } = self;
+        let mut last = self;
+        let start = Sorted::start(alloc, last.len());
+        let Some(Said { ran, flow }) = last.next() else {
+            unreachable!()
+        };
+        let Some(flow) = flow else { unreachable!() };
         let Flow { transaction, held } = flow;
-        let start = Sorted::start(alloc, rans.len());
-        let (held, sorted) = sort_out(rans, held, start);
-        following_of(alloc, phase_owner, transaction, held, sorted)
+        let (held, sorted) = sort_out(&mut last, ran, held, start);
+        following_of(alloc, last.finish(), transaction, held, sorted)
     }
 }
 
 // Adds the claims of the actions to those of the transaction, and collects what they found in order, unless the transaction is
-// refused.
-fn sort_out<J: PhaseNames>(
-    mut rans: Results<Ran<J>>,
+// refused. The first action's result was taken out.
+fn sort_out<J: Names>(
+    rest: &mut LastReport<J>,
+    first: Ran<J>,
     mut held: HeldClaims<J>,
     mut sorted: Sorted,
 ) -> (HeldClaims<J>, Sorted)
-    requires room { length held + length rans ≤ MOST_ACTIONS }
-    requires found { IsReadyFor (length rans) sorted }
-    ensures held { result.0 ≡ held ++ held_in rans }
-    ensures refusal { result.1.refusal ≡ refusal_of sorted.refusal rans }
-    ensures found { result.1.refusal ≡ None → result.1.found.items ≡ found_in rans }
+    requires room { length held + (length rest.old.items + 1) ≤ MOST_ACTIONS }
+    requires found { IsReadyFor (length rest.old.items + 1) sorted }
+    ensures same { rest.new ≡ last_report_view rest.old.slot [] }
+    ensures held { result.0 ≡ held ++ held_in (first ∷ rans_said rest.old.items) }
+    ensures refusal { result.1.refusal
+        ≡ refusal_of sorted.refusal (first ∷ rans_said rest.old.items) }
+    ensures found { result.1.refusal ≡ None
+        → result.1.found.items ≡ found_in (first ∷ rans_said rest.old.items) }
 {
-    while let Some(ran) = rans.next() {
-        sorted.sort_one(ran, &mut held);
+    sorted.sort_one(first, &mut held);
+    while let Some(said) = rest.next() {
+        sorted.sort_one(ran_of(said), &mut held);
     }
     (held, sorted)
 }
 
+// The result of an action that is not the first of its phase. It carries no transaction.
+fn ran_of<J: Names>(said: Said<J>) -> Ran<J>
+    ensures { result ≡ said.ran }
+{
+    said.ran
+}
+
 // The step after a phase whose actions hold the last of these claims.
-pub(crate) fn following_of<J: PhaseNames>(
+pub(crate) fn following_of<J: Names>(
     alloc: Global,
     phase_owner: PhaseOwner<J>,
     mut transaction: Transaction<J>,
@@ -76,7 +105,6 @@ pub(crate) fn following_of<J: PhaseNames>(
     sorted: Sorted,
 ) -> Following<J>
     requires slot { transaction.slot ≡ phase_owner.slot }
-    requires all { phase_owner.out ≡ 0 }
     requires asked { IsAskedBy transaction.number transaction.body.value.request
         transaction.pass }
     requires undone { All (AreUndoneBy transaction.age) held }

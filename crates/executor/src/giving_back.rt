@@ -2,7 +2,7 @@
 ghost use Rattle.std.specs.Prelude.{◌≡◌};
 ghost use Rattle.transactions.specs.Works.{home_of_claims};
 
-use crate::PhaseNames;
+use commit_log::Names;
 use std::marker::Model;
 use tickets::Claims;
 
@@ -10,13 +10,13 @@ use tickets::Claims;
 ///
 /// Contracts see the slot and the claims.
 #[derive(Drop)]
-pub struct Settle<J: PhaseNames> {
+pub struct Settle<J: Names> {
     /// The slot of its transaction.
     pub(crate) slot: usize,
     pub(crate) claims: Claims<J>,
 }
 
-impl<J: PhaseNames> Model for Settle<J> {
+impl<J: Names> Model for Settle<J> {
     ghost use Rattle.std.specs.Coded.{codes};
     ghost use Rattle.groups.specs.contracts.content.Content as content;
     ghost use Rattle.executor.specs.GivenBackViews.{GivenBackView};
@@ -33,7 +33,7 @@ impl<J: PhaseNames> Model for Settle<J> {
     ghost invariant = { λ s. CanAllBeSettled s.claims };
 }
 
-impl<J: PhaseNames> Settle<J> {
+impl<J: Names> Settle<J> {
     /// The slot of its transaction.
     pub fn slot(&self) -> usize
         ensures { result ≡ self.now.slot }
@@ -54,13 +54,13 @@ impl<J: PhaseNames> Settle<J> {
 ///
 /// Contracts see the slot and the claims.
 #[derive(Drop)]
-pub struct Undo<J: PhaseNames> {
+pub struct Undo<J: Names> {
     /// The slot of its transaction.
     pub(crate) slot: usize,
     pub(crate) claims: Claims<J>,
 }
 
-impl<J: PhaseNames> Model for Undo<J> {
+impl<J: Names> Model for Undo<J> {
     ghost use Rattle.std.specs.Coded.{codes};
     ghost use Rattle.groups.specs.contracts.content.Content as content;
     ghost use Rattle.executor.specs.GivenBackViews.{GivenBackView};
@@ -77,7 +77,7 @@ impl<J: PhaseNames> Model for Undo<J> {
     ghost invariant = { λ u. CanAllBeUndone u.claims };
 }
 
-impl<J: PhaseNames> Undo<J> {
+impl<J: Names> Undo<J> {
     /// The slot of its transaction.
     pub fn slot(&self) -> usize
         ensures { result ≡ self.now.slot }

@@ -3,12 +3,13 @@ ghost use Rattle.std.specs.Prelude.{◌≡◌, ◌≤◌, ◌+◌, [], All, IfEr
 ghost use Rattle.partitions.specs.Parts.{shared_of};
 ghost use Rattle.transactions.specs.Works.{CanDo};
 ghost use Rattle.executor.specs.AtOnce.{HaveDoneAtOnce, RunsHere, phase_to_run};
-ghost use Rattle.executor.specs.AgreedPhases.{KeepsWhole};
+ghost use Rattle.executor.specs.AgreedPhases.{OwnsPhaseOf};
 ghost use Rattle.transactions.specs.Acting.{AreUndoneBy, CanAllBeUndone};
 ghost use Rattle.executor.specs.PausedView.{paused_view};
 
 use crate::following::following_of;
-use crate::{ExecutorShards, Flow, Following, GivenBack, PhaseNames, PhaseOwner, Undo};
+use crate::{CompletionOwner, ExecutorShards, Flow, Following, GivenBack, PhaseOwner, Undo};
+use commit_log::Names;
 use std::alloc::Global;
 use std::marker::Model;
 use transactions::{
@@ -17,17 +18,16 @@ use transactions::{
 };
 use wait_die::{Age, Holder};
 
-/// A transaction between two phases: no action of it is in flight, and its phase owner has all shares of its agreed phase.
+/// A transaction between two phases: no action of it is in flight, and its phase owner has all places of its meeting.
 ///
-/// Contracts see the transaction and its phase owner. Invariant: the phase owner is that of the transaction's slot and has all
-/// shares.
+/// Contracts see the transaction and its phase owner. Invariant: the phase owner is that of the transaction's slot.
 #[derive(Drop)]
-pub struct Paused<J: PhaseNames> {
+pub struct Paused<J: Names> {
     flow: Flow<J>,
     phase_owner: PhaseOwner<J>,
 }
 
-impl<J: PhaseNames> Model for Paused<J> {
+impl<J: Names> Model for Paused<J> {
     ghost use Rattle.std.specs.Coded.{codes};
     ghost use Rattle.groups.specs.contracts.content.Content as content;
     ghost use Rattle.executor.specs.PausedView.{PausedView};
@@ -36,30 +36,35 @@ impl<J: PhaseNames> Model for Paused<J> {
 
     ghost coded = { Prim.hlevel (codes, content.the_row.coded) };
 
-    ghost use Rattle.executor.specs.AgreedPhases.{KeepsWhole};
+    ghost use Rattle.executor.specs.AgreedPhases.{OwnsPhaseOf};
     ghost use Rattle.executor.specs.PausedView.{paused_view};
 
     ghost view = { λ p. paused_view p.phase_owner p.flow };
 
-    ghost invariant = { λ p. KeepsWhole p.flow.slot p.phase_owner };
+    ghost invariant = { λ p. OwnsPhaseOf p.flow.slot p.phase_owner };
 }
 
 /// The result of `Paused::run_here`.
 #[derive(Drop)]
-pub enum Tried<J: PhaseNames> {
+pub enum Tried<J: Names> {
     /// All actions have done their work; this is the next step.
     Done(Following<J>),
     /// A shard is at another executor, or a holder conflicts, or an allocation failed: nothing was done.
     Apart(Paused<J>),
 }
 
-impl<J: PhaseNames> Paused<J> {
-    /// A transaction before its first phase, with its phase owner. Returns `None` if the phase owner is of another slot or has
-    /// not all shares.
-    pub fn new(flow: Flow<J>, phase_owner: PhaseOwner<J>) -> Option<Paused<J>>
-        ensures { IfSome result (λ paused. paused ≡ paused_view phase_owner flow) }
+impl<J: Names> Paused<J> {
+    /// A transaction before its first phase, with its phase owner. The owner of the completion meeting is there: no claims of an
+    /// earlier transaction in the slot are on their way back by messages. Returns `None` if an owner is of another slot.
+    pub fn new(
+        flow: Flow<J>,
+        phase_owner: PhaseOwner<J>,
+        completion: &CompletionOwner,
+    ) -> Option<Paused<J>>
+        ensures paused { IfSome result (λ paused. paused ≡ paused_view phase_owner flow) }
+        ensures free { IfSome result (λ _. completion.now.slot ≡ flow.slot) }
     {
-        if phase_owner.slot() != flow.slot() || !phase_owner.is_whole() {
+        if phase_owner.slot() != flow.slot() || completion.slot() != flow.slot() {
             return None;
         }
         Some(Paused::between(flow, phase_owner))
@@ -67,7 +72,7 @@ impl<J: PhaseNames> Paused<J> {
 
     // A transaction between two phases.
     pub(crate) fn between(flow: Flow<J>, phase_owner: PhaseOwner<J>) -> Paused<J>
-        requires { KeepsWhole flow.slot phase_owner }
+        requires { OwnsPhaseOf flow.slot phase_owner }
         ensures { result ≡ paused_view phase_owner flow }
     {
         Paused { flow, phase_owner }
@@ -77,13 +82,13 @@ impl<J: PhaseNames> Paused<J> {
     pub(crate) fn into_parts(self) -> (Flow<J>, PhaseOwner<J>)
         ensures flow { result.0 ≡ self.flow }
         ensures phase_owner { result.1 ≡ self.phase_owner }
-        ensures whole { KeepsWhole self.flow.slot self.phase_owner }
+        ensures whole { OwnsPhaseOf self.flow.slot self.phase_owner }
     {
         (self.flow, self.phase_owner)
     }
 
     /// Fast path. If all shards of the next phase are here and no holder conflicts, it runs the actions of the phase inline, by
-    /// place, without messages; no share of the agreed phase goes out. Else, or if an allocation fails before all are done, it
+    /// place, without messages and without the meeting. Else, or if an allocation fails before all are done, it
     /// returns the transaction unchanged.
     pub fn run_here(self, alloc: Global, shards: &mut ExecutorShards<J>) -> Tried<J>
         ensures { RunsHere (shared_of J.opening) self result }
@@ -126,7 +131,7 @@ impl<J: PhaseNames> Paused<J> {
 }
 
 // Does these works one after another. If one can't be done, undoes the others' work and returns the claims that were held before.
-fn do_all<J: PhaseNames>(
+fn do_all<J: Names>(
     alloc: Global,
     shards: &mut ExecutorShards<J>,
     age: Age,
@@ -161,7 +166,7 @@ fn do_all<J: PhaseNames>(
 }
 
 // Undoes what was done under all claims but the `first` ones, and gives these claims back to their shards.
-fn take_back<J: PhaseNames>(
+fn take_back<J: Names>(
     shards: &mut ExecutorShards<J>,
     slot: usize,
     first: usize,

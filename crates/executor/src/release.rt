@@ -3,14 +3,14 @@ ghost use Rattle.std.specs.Prelude.{◌≡◌, [], All, IfNone, IfSome, length};
 ghost use Rattle.executor.specs.Flows.{IsAskedBy};
 ghost use Rattle.transactions.specs.Acting.{AreUndoneBy};
 ghost use Rattle.executor.specs.Answers.{AreGiven, IsGiven, IsRecordedBy, MayBeRefused, returns_view};
-ghost use Rattle.executor.specs.AgreedPhases.{KeepsWhole};
+ghost use Rattle.executor.specs.AgreedPhases.{OwnsPhaseOf};
 ghost use Rattle.transactions.specs.Works.{home_of_claims};
 ghost use Rattle.executor.specs.Released.{IsGivenBack, IsGivenFor, giving_of, refused};
 ghost use Rattle.executor.specs.Transactions.{transaction_view};
 
 use crate::flow::Transaction;
-use crate::{PhaseNames, PhaseOwner, Settle, Undo};
-use commit_log::Pass;
+use crate::{PhaseOwner, Settle, Undo};
+use commit_log::{Names, Pass};
 use requests::Refusal;
 use std::marker::Model;
 use tickets::Claims;
@@ -22,14 +22,14 @@ use transactions::HeldClaims;
 /// Contracts see the transaction's age, the number of the request in its session, the pass, and the answer. Invariant: the pass
 /// has seen and logged what it had when the session asked, and this answer; and a refused request may be refused for this reason.
 #[derive(Drop)]
-pub struct SessionAnswer<J: PhaseNames> {
+pub struct SessionAnswer<J: Names> {
     pub(crate) age: u64,
     pub(crate) number: u32,
     pub(crate) pass: Pass<J>,
     pub(crate) answer: Result<u32, Refusal>,
 }
 
-impl<J: PhaseNames> Model for SessionAnswer<J> {
+impl<J: Names> Model for SessionAnswer<J> {
     ghost use Rattle.executor.specs.Answers.{AnswerView};
 
     ghost Value = { AnswerView };
@@ -41,7 +41,7 @@ impl<J: PhaseNames> Model for SessionAnswer<J> {
     ghost invariant = { λ t. CarriesAnswer (answer_view t.age t.number t.pass t.answer) };
 }
 
-impl<J: PhaseNames> SessionAnswer<J> {
+impl<J: Names> SessionAnswer<J> {
     /// The session to which it goes.
     pub fn session(&self) -> u32
         ensures { result ≡ self.now.pass.session }
@@ -71,13 +71,13 @@ impl<J: PhaseNames> SessionAnswer<J> {
 /// Contracts see the slot of the transaction, whether the claims are settled, and the claims of each action, by place. Invariant:
 /// if they are settled, what they left is committed; else all that was done under them can be undone.
 #[derive(Drop)]
-pub struct Returns<J: PhaseNames> {
+pub struct Returns<J: Names> {
     slot: usize,
     is_settled: bool,
     held: HeldClaims<J>,
 }
 
-impl<J: PhaseNames> Model for Returns<J> {
+impl<J: Names> Model for Returns<J> {
     ghost use Rattle.std.specs.Coded.{codes};
     ghost use Rattle.groups.specs.contracts.content.Content as content;
     ghost use Rattle.executor.specs.Answers.{ReturnsView};
@@ -95,12 +95,12 @@ impl<J: PhaseNames> Model for Returns<J> {
 
 /// The claims of an action on their way back.
 #[derive(Drop)]
-pub enum GivenBack<J: PhaseNames> {
+pub enum GivenBack<J: Names> {
     Settle(Settle<J>),
     Undo(Undo<J>),
 }
 
-impl<J: PhaseNames> GivenBack<J> {
+impl<J: Names> GivenBack<J> {
     /// The slot of their transaction.
     pub fn slot(&self) -> usize
         ensures { result ≡ (giving_of self.now).slot }
@@ -122,7 +122,7 @@ impl<J: PhaseNames> GivenBack<J> {
     }
 }
 
-impl<J: PhaseNames> Returns<J> {
+impl<J: Names> Returns<J> {
     pub(crate) fn new(slot: usize, is_settled: bool, held: HeldClaims<J>) -> Returns<J>
         requires { AreGiven is_settled held }
         ensures { result ≡ returns_view slot is_settled held }
@@ -132,6 +132,13 @@ impl<J: PhaseNames> Returns<J> {
             is_settled,
             held,
         }
+    }
+
+    /// The slot of the transaction.
+    pub fn slot(&self) -> usize
+        ensures { result ≡ self.now.slot }
+    {
+        self.slot
     }
 
     /// The number of actions whose claims are still to give back.
@@ -154,7 +161,7 @@ impl<J: PhaseNames> Returns<J> {
 }
 
 // Makes the message that gives the claims of an action back.
-fn given_back<J: PhaseNames>(slot: usize, is_settled: bool, claims: Claims<J>) -> GivenBack<J>
+fn given_back<J: Names>(slot: usize, is_settled: bool, claims: Claims<J>) -> GivenBack<J>
     requires { IsGiven is_settled claims }
     ensures { IsGivenFor slot is_settled claims result }
 {
@@ -168,15 +175,15 @@ fn given_back<J: PhaseNames>(slot: usize, is_settled: bool, claims: Claims<J>) -
 /// A finished transaction.
 ///
 /// Contracts see its answer, the claims to give back, and its phase owner. Invariant: the phase owner is that of the
-/// transaction's slot and has all shares. The next transaction may take the slot once all claims are given back.
+/// transaction's slot. The next transaction may take the slot once all claims are given back.
 #[derive(Drop)]
-pub struct Release<J: PhaseNames> {
+pub struct Release<J: Names> {
     pub(crate) recorded: SessionAnswer<J>,
     pub(crate) returns: Returns<J>,
     pub(crate) phase_owner: PhaseOwner<J>,
 }
 
-impl<J: PhaseNames> Model for Release<J> {
+impl<J: Names> Model for Release<J> {
     ghost use Rattle.std.specs.Coded.{codes};
     ghost use Rattle.groups.specs.contracts.content.Content as content;
     ghost use Rattle.executor.specs.Answers.{ReleaseView};
@@ -186,14 +193,14 @@ impl<J: PhaseNames> Model for Release<J> {
     ghost coded = { Prim.hlevel (codes, content.the_row.coded) };
 
     ghost use Rattle.executor.specs.Answers.{release_view};
-    ghost use Rattle.executor.specs.AgreedPhases.{KeepsWhole};
+    ghost use Rattle.executor.specs.AgreedPhases.{OwnsPhaseOf};
 
     ghost view = { λ r. release_view r.recorded r.returns r.phase_owner };
 
-    ghost invariant = { λ r. KeepsWhole r.returns.slot r.phase_owner };
+    ghost invariant = { λ r. OwnsPhaseOf r.returns.slot r.phase_owner };
 }
 
-impl<J: PhaseNames> Release<J> {
+impl<J: Names> Release<J> {
     // Refuses a transaction whose actions hold these claims.
     pub(crate) fn refused(
         phase_owner: PhaseOwner<J>,
@@ -205,7 +212,7 @@ impl<J: PhaseNames> Release<J> {
             transaction.pass }
         requires may { MayBeRefused transaction.pass.reached transaction.body.value.request why }
         requires undone { All (AreUndoneBy transaction.age) held }
-        requires whole { KeepsWhole transaction.slot phase_owner }
+        requires whole { OwnsPhaseOf transaction.slot phase_owner }
         ensures { result ≡ refused phase_owner (transaction_view transaction) held why }
     {
         let Transaction {
@@ -228,13 +235,12 @@ impl<J: PhaseNames> Release<J> {
         }
     }
 
-    /// Its parts: the answer, the claims to give back, and the phase owner, which is that of the transaction's slot and has all
-    /// shares.
+    /// Its parts: the answer, the claims to give back, and the phase owner, which is that of the transaction's slot.
     pub fn into_parts(self) -> (SessionAnswer<J>, Returns<J>, PhaseOwner<J>)
         ensures recorded { result.0 ≡ self.recorded }
         ensures returns { result.1 ≡ self.returns }
         ensures phase_owner { result.2 ≡ self.phase_owner }
-        ensures whole { KeepsWhole self.returns.slot self.phase_owner }
+        ensures whole { OwnsPhaseOf self.returns.slot self.phase_owner }
     {
         (self.recorded, self.returns, self.phase_owner)
     }

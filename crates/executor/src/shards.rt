@@ -4,7 +4,8 @@ ghost use Rattle.partitions.specs.Parts.{shared_of};
 ghost use Rattle.transactions.specs.Works.{CanDo, HasDone};
 ghost use Rattle.transactions.specs.Acting.{AreUndoneBy};
 
-use crate::{CountedShard, GivenBack, PhaseNames};
+use crate::{CountedShard, GivenBack};
+use commit_log::Names;
 use schema::NoMemory;
 use std::alloc::Global;
 use tickets::Claims;
@@ -13,12 +14,12 @@ use wait_die::Holder;
 
 /// The shards that an executor has, of those of all warehouses.
 #[derive(Drop)]
-pub struct ExecutorShards<J: PhaseNames> {
+pub struct ExecutorShards<J: Names> {
     // The shard of a warehouse is at its W_ID less one; it is None if another executor has it.
     places: Vec<Option<Box<CountedShard<J>>>>,
 }
 
-impl<J: PhaseNames> ExecutorShards<J> {
+impl<J: Names> ExecutorShards<J> {
     /// Opens an empty set with room for the shards of this many warehouses. Returns NoMemory if an allocation fails; nothing is
     /// left then.
     pub fn open(alloc: Global, warehouses: u32) -> Result<ExecutorShards<J>, NoMemory> {

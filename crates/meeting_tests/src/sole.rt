@@ -1,7 +1,7 @@
 //! A meeting of which one owner has all places.
 ghost use Rattle.std.specs.Prelude.{◌≡◌, ◌≤◌, ◌+◌, [], ◌∷◌};
 
-use rendezvous::shared::{SoleConvener, SoleReported, SoleResults};
+use rendezvous::{SoleConvener, SoleReported, SoleResults};
 use std::test::*;
 
 // A round of three places, which report out of order.

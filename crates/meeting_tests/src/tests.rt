@@ -1,6 +1,6 @@
 ghost use Rattle.std.specs.Prelude.{◌≡◌, ◌≤◌};
 
-use rendezvous::shared::{Anything, Convener, Meeting, Place, Reported};
+use rendezvous::{Anything, Convener, Meeting, Place, Reported};
 use std::alloc::Global;
 use std::marker::Brand;
 use std::sync::{Mutex, Wait};

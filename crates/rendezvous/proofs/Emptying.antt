@@ -1,5 +1,5 @@
 -- Who reports last takes all results, the last one first; who convenes gives all slots back.
-use Rattle.std.proofs.Common.{◌≡◌, ℕ, zero, suc, ◌+◌, List, [], ◌∷◌, ◌++◌, map, length, set, replicate, Option, Some, None, refl, sym, ap, ◌∙◌, arith}
+use Rattle.std.proofs.Common.{◌≡◌, ℕ, zero, suc, ◌+◌, List, [], ◌∷◌, ◌++◌, map, length, set, replicate, Option, Some, None, refl, ap, ◌∙◌, arith}
 use mathlib.Core.Option.{some, none}
 use mathlib.Core.Option as found
 use lib.ListN.{get_elem?}

@@ -1,7 +1,7 @@
 -- Each step keeps the rule of a meeting.
-use Rattle.std.proofs.Common.{◌≡◌, ◌≢◌, ◌⊎◌, ℕ, zero, suc, ◌+◌, ◌-◌, ◌*◌, ◌%◌, ◌^◌, ◌<◌, ◌≤◌, List, [], ◌∷◌, ◌++◌, map, length, set, replicate, drop, cond, eqb, eq-eqb, ne_eqb, Bool, true, false, true≢false, Option, Some, None, slice_get, refl, sym, ap, ◌∙◌, subst, inl, inr, ⊎_elim, arith, length-set}
+use Rattle.std.proofs.Common.{◌≡◌, ◌≢◌, ◌⊎◌, ℕ, zero, suc, ◌+◌, ◌-◌, ◌*◌, ◌%◌, ◌^◌, ◌<◌, ◌≤◌, List, [], ◌∷◌, ◌++◌, map, length, set, replicate, drop, cond, eqb, eq-eqb, ne_eqb, true, true≢false, Option, Some, None, slice_get, refl, sym, ap, ◌∙◌, subst, inl, inr, ⊎_elim, arith, length-set}
 use Rattle.std.specs.Prelude.{slice_index}
-use Rattle.std.proofs.lemmas.List.{map-set, length-map, append-nil}
+use Rattle.std.proofs.lemmas.List.{map-set, length-map}
 use Rattle.std.proofs.lemmas.Nat.{mod-mul-add}
 use mathlib.Core.Option.{some, none, some-ne-none, some-injective}
 use mathlib.Core.Option as found
@@ -11,8 +11,8 @@ use lib.ListN.{get_elem?}
 use Rattle.atomic_table.specs.Table.{State, Me, Act, keeps, takes, gives, chain, Valid, Allows, Splits, Joins, opening, put_back, rest, stepped, carried_after, homes_after}
 use Rattle.atomic_table.proofs.Lists.{at_set, set_else, set_again, at_map}
 use Rattle.rendezvous.specs.Stages.{RoundView, Stage, waits, sits, gave, took}
-use Rattle.rendezvous.specs.Rule.{IsOpen, reported_at, awaited, takers, home, homes_at, homes_spare, empty_slots, in_slots, SuitsAt, IsFinished, round_of, Rounds, Owners, Fits, Meets, convening, having, at_first, at_stage, at_last, first_one, first_of, others, nowhere, both, IsWhole, IsConvened, IsSeated, IsSettled, IsReported, Reports}
-use Rattle.rendezvous.proofs.PlaceStages.{set_there, there_within, same_lists, awaited_set, takers_set, awaited_there, taker_there, awaited_first, takers_first, homes_first, no_one_took, all_reported_at, homes_open, homes_shut, length_homes, same_some, homes_full, result_there}
+use Rattle.rendezvous.specs.Rule.{IsOpen, reported_at, awaited, takers, home, homes_at, homes_spare, empty_slots, SuitsAt, IsFinished, round_of, Rounds, Owners, Fits, Meets, having, at_first, at_stage, at_last, first_one, first_of, others, nowhere, both, IsWhole, IsConvened, IsSeated, IsSettled, IsReported, Reports}
+use Rattle.rendezvous.proofs.PlaceStages.{set_there, same_lists, awaited_set, takers_set, awaited_there, taker_there, awaited_first, takers_first, no_one_took, all_reported_at, homes_open, homes_shut, same_some, homes_full, result_there}
 use Rattle.rendezvous.proofs.Emptying.{takes_from, carried_all, homes_emptied, all_valid, none_at_home, gives_all, given_valid, none_carried, homes_given}
 
 -- one less, as a word counts

@@ -1,10 +1,8 @@
 pub mod Awaiting
-pub mod Sendable
 pub mod PlaceStages
 pub mod Emptying
 pub mod Keeping
 pub mod Hands
 pub mod SharedPlaces
-pub mod SharedSendable
+pub mod Sendable
 pub mod SolePlaces
-pub mod SoleSendable

@@ -1,5 +1,5 @@
 -- What a place was answered that has reported, and what the receipts of all places say together.
-use Rattle.std.proofs.Common.{◌≡◌, ℕ, zero, suc, ◌+◌, ◌-◌, ◌^◌, ◌<◌, ◌≤◌, List, [], ◌∷◌, ◌++◌, map, length, replicate, drop, Option, Some, None, true, slice_get, refl, sym, ap, ◌∙◌, subst, arith}
+use Rattle.std.proofs.Common.{◌≡◌, ℕ, zero, suc, ◌+◌, ◌-◌, ◌^◌, ◌<◌, List, [], ◌∷◌, ◌++◌, map, length, replicate, drop, Option, Some, None, true, slice_get, refl, sym, ap, ◌∙◌, subst, arith}
 use mathlib.Core.Option.{some}
 use lib.ListN.{get_elem?}
 use Rattle.atomic_table.specs.Table.{Me}
@@ -9,7 +9,7 @@ use Rattle.rendezvous.specs.Stages.{RoundView, Stage, waits, sits, gave, took}
 use Rattle.rendezvous.specs.Hands.{held, IsInHand}
 use Rattle.rendezvous.specs.Rule.{reported_at, awaited, takers, both, having, others, first_of, in_slots, IsReported, IsSettled}
 use Rattle.rendezvous.specs.Seats.{IsAt}
-use Rattle.rendezvous.specs.Meetings.{ReceiptView, receipt_view, first_stage, stage_of, AllSuit, AreOfAll, GotAll, HasPlaces, HasResults, IsPlaceOf, ArePlacesOf}
+use Rattle.rendezvous.specs.Meetings.{ReceiptView, stage_of, AllSuit, AreOfAll, GotAll, HasPlaces, HasResults, IsPlaceOf, ArePlacesOf}
 use Rattle.rendezvous.proofs.Hands.{all_in_hand}
 
 -- a seat is at its own table

@@ -1,6 +1,6 @@
 -- What holds where one owner has all places of a round.
 use Rattle.std.proofs.Common.{◌≡◌, ◌≢◌, ◌↔◌, ◌^◌, ◌<◌, ℕ, zero, suc, ◌+◌, List, [], ◌∷◌, map, length, set, replicate, Option, Some, None, IfSome, slice_get, refl, sym, ap, ◌∙◌, subst, arith, length-set}
-use Rattle.std.proofs.lemmas.List.{map-set, nil_from_length}
+use Rattle.std.proofs.lemmas.List.{length-replicate, map-set, nil_from_length, set-set}
 use mathlib.Core.Option.{some}
 use lib.ListN.{get_elem?}
 use Rattle.atomic_table.specs.Table.{Me}
@@ -14,6 +14,7 @@ use Rattle.rendezvous.specs.Hands.{held, IsInHand}
 use Rattle.rendezvous.specs.Sole.{stage_from, reports_of, HasRound, HasRoundResults}
 use Rattle.rendezvous.proofs.PlaceStages.{set_there, awaited_set}
 use Rattle.rendezvous.proofs.Hands.{all_in_hand}
+use Rattle.rendezvous.proofs.SharedPlaces.{at_own}
 
 reported_first : (R : Type 0) (n : ℕ) → map (reported_at {R = R}) (replicate n waits) ≡ replicate n None
 reported_first R zero = refl
@@ -23,16 +24,7 @@ stages_first : (R : Type 0) (n : ℕ) → map (stage_from {R = R}) (replicate n 
 stages_first R zero = refl
 stages_first R (suc n) = ap (λ l. waits ∷ l) (stages_first R n)
 
-length_first : {A : Type 0} (n : ℕ) (x : A) → length (replicate n x) ≡ n
-length_first zero x = refl
-length_first (suc n) x = ap suc (length_first n x)
-
 module _ {A : Type 0} where
-  set_twice : (l : List A) (i : ℕ) (x y : A) → set (set l i x) i y ≡ set l i y
-  set_twice [] i x y = refl
-  set_twice (z ∷ l) zero x y = refl
-  set_twice (z ∷ l) (suc i) x y = ap (λ k. z ∷ k) (set_twice l i x y)
-
   mapped_there : {B : Type 0} (f : A → B) (l : List A) (i : ℕ) (x : A) → slice_get l i ≡ Some x → get_elem? (map f l) i ≡ some (f x)
   mapped_there f [] i x e = absurd (cc)
   mapped_there f (z ∷ l) zero x e = let same : z ≡ x = ap (λ (o : Option A). value_or x o) e in ap (λ (y : A). some (f y)) same
@@ -69,7 +61,7 @@ module _ {T R : Type 0} where
     no_slot = ap (λ (m : Me (Option R) (RoundView T R)). m.1) me;
     from = ap (λ (m : Me (Option R) (RoundView T R)). m.0.from) me;
     size = ap (λ (m : Me (Option R) (RoundView T R)). m.0.size) me;
-    long = ap length stages ∙ length_first places waits;
+    long = ap length stages ∙ length-replicate places waits;
     calm = stages ∙ sym (stages_first R places) ∙ ap (map stage_from) (sym (reported_first R places)) ∙ ap (λ (l : List (Stage R)). map stage_from (map reported_at l)) (sym stages);
   }
     where
@@ -107,7 +99,7 @@ module _ {T R : Type 0} where
     given = set seat.me.0.stages place (gave own)
 
     given_is : set seated.0.stages place (gave own) ≡ given
-    given_is = ap (λ (l : List (Stage R)). set l place (gave own)) stages_are ∙ set_twice seat.me.0.stages place sits (gave own)
+    given_is = ap (λ (l : List (Stage R)). set l place (gave own)) stages_are ∙ set-set seat.me.0.stages place sits (gave own)
 
     reported_is : map reported_at given ≡ set reports place (Some own)
     reported_is = map-set reported_at seat.me.0.stages place (gave own) ∙ ap (λ (l : List (Option R)). set l place (Some own)) seen
@@ -163,9 +155,12 @@ module _ {T R : Type 0} where
             record {
               at = at;
               slots = has.slots;
-              convenes = ap (λ (v : RoundView T R). v.convenes) view;
-              fits_word = subst (λ (n : ℕ). n < 2 ^ 64) (sym size) has.fits_word;
-              hand = subst (λ (n : ℕ). IsInHand after.me.0.size 0 n after.me.1) size all.0;
+              results = record {
+                at = at_own table after at;
+                convenes = ap (λ (v : RoundView T R). v.convenes) view;
+                fits_word = subst (λ (n : ℕ). n < 2 ^ 64) (sym size) has.fits_word;
+                hand = subst (λ (n : ℕ). IsInHand after.me.0.size 0 n after.me.1) size all.0;
+              };
             },
             ap (map Some) all.1 ∙ sym (last.4 whole) ∙ ap (map reported_at) given_is ∙ reported_is,
           )

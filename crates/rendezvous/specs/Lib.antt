@@ -1,12 +1,11 @@
 pub mod Awaited
 pub mod Laws
-pub mod Reports
 pub mod Stages
 pub mod Rule
 pub mod Picks
 pub mod Seats
 pub mod Hands
 pub mod Meetings
-pub mod SharedReports
+pub mod Reports
 pub mod Sole
 pub mod SoleReports

@@ -4,7 +4,7 @@ use Rattle.std.specs.Coded.{Coded, code_by, coded_list, coded_option, coded_ℕ,
 use Rattle.atomic_table.specs.Seated.{TableId, table_id_coded}
 use Rattle.atomic_table.specs.Table.{Me}
 use Rattle.atomic_table.specs.declared.shared.Seat.{Seat}
-use Rattle.rendezvous.specs.Stages.{RoundView, Stage, coded_stage, waits, sits, gave, took}
+use Rattle.rendezvous.specs.Stages.{RoundView, Stage, coded_stage, waits, sits, took}
 use Rattle.rendezvous.specs.Rule.{awaited, empty_slots, having, reported_at}
 use Rattle.rendezvous.specs.Hands.{IsInHand}
 use Rattle.rendezvous.specs.Seats.{IsAt}

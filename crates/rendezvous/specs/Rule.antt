@@ -1,5 +1,5 @@
 -- The rule of a meeting's table: its count word, the results at home, and the views of all seats.
-use Rattle.std.specs.Prelude.{◌≡◌, ◌≢◌, ℕ, zero, suc, ◌+◌, ◌-◌, ◌<◌, ◌≤◌, List, [], ◌∷◌, ◌++◌, map, length, replicate, drop, Option, Some, None, Bool, true, false, slice_set, slice_get}
+use Rattle.std.specs.Prelude.{◌≡◌, ◌≢◌, ℕ, zero, suc, ◌+◌, ◌<◌, List, [], ◌∷◌, ◌++◌, map, length, replicate, drop, Option, Some, None, true, false, slice_set, slice_get}
 use mathlib.Core.Option.{some, none}
 use mathlib.Core.Option as found
 use lib.ListN.{get_elem?}

@@ -1,11 +1,11 @@
 -- What is kept of the seat of a meeting of which one owner has all places.
-use Rattle.std.specs.Prelude.{◌≡◌, ◌^◌, ◌<◌, ℕ, List, [], length, map, Option, Some, None, true}
+use Rattle.std.specs.Prelude.{◌≡◌, ◌^◌, ◌<◌, ℕ, List, [], length, map, Option, Some, None}
 use Rattle.atomic_table.specs.Seated.{TableId}
 use Rattle.atomic_table.specs.declared.shared.Seat.{Seat}
 use Rattle.rendezvous.specs.Stages.{RoundView, Stage, waits, gave}
-use Rattle.rendezvous.specs.Rule.{reported_at, empty_slots}
-use Rattle.rendezvous.specs.Hands.{IsInHand}
+use Rattle.rendezvous.specs.Rule.{reported_at}
 use Rattle.rendezvous.specs.Seats.{IsAt}
+use Rattle.rendezvous.specs.Meetings.{HasResults, IsConvener}
 
 module _ {R : Type 0} where
   -- how far a place is that has no slot, if it has reported this
@@ -30,17 +30,14 @@ module _ {T R : Type 0} where
     pub long : length seat.me.0.stages ≡ places
     pub calm : seat.me.0.stages ≡ map stage_from (map reported_at seat.me.0.stages)
 
-  -- the seat may convene a round at this table of so many slots, and has the empty slots of the round before
+  -- the seat may convene a round at this table of so many slots
   pub record MayConvene (table : TableId) (most : ℕ) (seat : Seat (Option R) (RoundView T R)) : Type 0 where
     pub at : IsAt table seat
     pub slots : table.slots ≡ most
-    pub convenes : seat.me.0.convenes ≡ true
-    pub hand : seat.me.1 ≡ empty_slots 0 seat.me.0.size
+    pub convener : IsConvener seat
 
   -- the seat may convene a round at this table of so many slots, and has so many results, from a place on
   pub record HasRoundResults (table : TableId) (most next left : ℕ) (seat : Seat (Option R) (RoundView T R)) : Type 0 where
     pub at : IsAt table seat
     pub slots : table.slots ≡ most
-    pub convenes : seat.me.0.convenes ≡ true
-    pub fits_word : seat.me.0.size < 2 ^ 64
-    pub hand : IsInHand seat.me.0.size next left seat.me.1
+    pub results : HasResults next left seat

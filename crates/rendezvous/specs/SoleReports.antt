@@ -1,7 +1,7 @@
 -- The answer to a report to a meeting of which one owner has all places.
 use Rattle.std.specs.Prelude.{ℕ, List}
-use Rattle.rendezvous.specs.declared.shared.sole.SoleReported.{SoleReported}
-use Rattle.rendezvous.specs.declared.shared.sole.SoleReported.TheVariants.{NotLast, Last}
+use Rattle.rendezvous.specs.declared.sole.SoleReported.{SoleReported}
+use Rattle.rendezvous.specs.declared.sole.SoleReported.TheVariants.{NotLast, Last}
 
 module _ {R : Type 0} {most : ℕ} where
   -- the report was the last one

@@ -1,45 +1,58 @@
-ghost use Rattle.std.specs.Prelude.{◌≡◌, ◌<◌, ◌++◌, ◌↔◌, length, IsSome, option_to_list};
+ghost use Rattle.std.specs.Prelude.{◌≡◌, [], length};
+ghost use Rattle.rendezvous.specs.Meetings.{convener_view};
 
+use crate::meeting::Convener;
+use crate::rule::Topic;
+use crate::steps::Chair;
 use std::marker::Model;
 
-/// The reports of all places of a meeting.
+/// What all places of a round have reported. `Meeting::next_result` takes the results out.
 ///
-/// In contracts: the results that are left, by place.
+/// In contracts: the meeting, the number of the round, and the results that are left, by place.
 #[derive(Drop)]
-pub struct Results<R> {
-    // Each place has a result. The first place's is at the end, and is returned next.
-    pub(crate) reports: Vec<Option<R>>,
+pub struct Results<R: Drop, T: Topic<R>> {
+    pub(crate) seat: Chair<R, T>,
+    // The place whose result is the next to go, and how many are left.
+    pub(crate) next: usize,
+    pub(crate) left: usize,
 }
 
-impl<R> Model for Results<R> {
-    ghost use Rattle.std.specs.Prelude.{List};
-    ghost use Rattle.std.specs.Coded.{coded_list};
+impl<R: Drop, T: Topic<R>> Model for Results<R, T> {
+    ghost use Rattle.rendezvous.specs.Hands.{held};
+    ghost use Rattle.rendezvous.specs.Meetings.{ResultsView, coded_results, results_view, HasResults};
 
-    ghost Value = { List R };
+    ghost Value = { ResultsView R };
 
-    ghost coded = { coded_list R.code };
+    ghost coded = { coded_results R.code };
 
-    ghost use Rattle.std.specs.Prelude.{◌≡◌, map, reverse, Some};
-    ghost use Rattle.rendezvous.specs.Awaited.{reported};
+    ghost view = { λ r. results_view r.seat.table_id r.seat.me.0.round (held r.seat.me.1) };
 
-    ghost view = { λ r. reported (reverse r.reports.items) };
-
-    ghost invariant = { λ r. map Some (reported (reverse r.reports.items)) ≡ reverse r.reports.items };
+    ghost invariant = { λ r. HasResults r.next r.left r.seat };
 }
 
-impl<R> Results<R> {
+/// The answer to a report.
+#[derive(Drop)]
+pub enum Reported<R: Drop, T: Topic<R>> {
+    /// Another place has not reported yet.
+    NotLast,
+    /// All places have reported. The round is over.
+    Last(Results<R, T>),
+}
+
+impl<R: Drop, T: Topic<R>> Results<R, T> {
     /// Returns the number of results that are left.
     pub fn len(&self) -> usize
-        ensures { result ≡ length self.now }
+        ensures { result ≡ length self.now.items }
     {
-        self.reports.len()
+        self.left
     }
 
-    /// Removes and returns the result of the first place that has one left. Never allocates.
-    pub fn next(&mut self) -> Option<R>
-        ensures results { self.old ≡ option_to_list result ++ self.new }
-        ensures some { IsSome result ↔ (0 < length self.old) }
+    /// Returns the right to convene the next round. All results were taken out.
+    pub fn finish(self) -> Convener<R, T>
+        requires { self.items ≡ [] }
+        ensures { result ≡ convener_view self.meeting self.round }
     {
-        self.reports.pop().flatten()
+        let Results { seat, .. } = self;
+        Convener { seat }
     }
 }

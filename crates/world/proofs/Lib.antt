@@ -59,3 +59,4 @@ pub mod Alone
 pub mod Schedules
 pub mod Changing
 pub mod Changed
+pub mod Completions

@@ -238,16 +238,16 @@ module _ {J : Type 0} where
 
         commits : (shown : Reply) → ((opening : Database) → shared_of opening ≡ shared → IsCarriedOut opening u.request (all_claims t.held) shown) → GoesOn shared (part_report r) w (committing t shown w)
         commits shown carried =
-            let one : Item J = item.Commit (record { transaction = t; reply = shown }) in
-            let sound : IsSoundCommit shared u (record { transaction = t; reply = shown }) = record {
+            let one : Item J = item.Commit (record { transaction = t; reply = shown; completion = tt }) in
+            let sound : IsSoundCommit shared u (record { transaction = t; reply = shown; completion = tt }) = record {
               asked = asked;
               accepted = subst (λ q. IsAccepted shared.scale q) (sym sound_flow.request) (accepted shared u.request u.progress u.held at.reached);
               carried_out = λ opening same. subst (λ q. IsCarriedOut opening q (all_claims t.held) shown) (sym sound_flow.request) (carried opening same);
               undo = undo;
               few = few;
             } in
-            let sound_there : IsSoundCommit shared (h.in_flight t.slot) (record { transaction = t; reply = shown }) =
-            subst (λ n. IsSoundCommit shared (h.in_flight n) (record { transaction = t; reply = shown })) (sym sound_flow.slot_is) sound in
+            let sound_there : IsSoundCommit shared (h.in_flight t.slot) (record { transaction = t; reply = shown; completion = tt }) =
+            subst (λ n. IsSoundCommit shared (h.in_flight n) (record { transaction = t; reply = shown; completion = tt })) (sym sound_flow.slot_is) sound in
             record {
               sound = puts_sound shared h.in_flight t.slot w hand (one ∷ []) (Some active.Committing) rests was refl
                   (All-cons (IsSoundItem shared h.in_flight) one [] sound_there (All-nil (IsSoundItem shared h.in_flight))) tt

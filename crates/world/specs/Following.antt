@@ -97,14 +97,14 @@ module _ {J : Type 0} where
 
   -- The transaction was carried out with this reply and is to be logged.
   abbrev pub committing : Transaction J → Reply → Parts J → Parts J
-  committing t shown w = putting (item.Commit (record { transaction = t; reply = shown }) ∷ []) t.slot (Some Committing) w
+  committing t shown w = putting (item.Commit (record { transaction = t; reply = shown; completion = tt }) ∷ []) t.slot (Some Committing) w
 
   -- ---- a transaction that is over
 
   -- What a transaction that is over gives back: its pass, its answer, which is the place of its entry or why it was refused,
   -- and the claims of its actions.
   abbrev pub release : Transaction J → PassView → Result ℕ Refusal → List (List ClaimView) → Release J
-  release t pass answer held = record { age = t.age; slot = t.slot; number = t.number; pass = pass; answer = answer; held = held }
+  release t pass answer held = record { age = t.age; slot = t.slot; number = t.number; pass = pass; answer = answer; held = held; completion = tt }
 
   -- The same for a refused transaction.
   abbrev pub refused : Transaction J → Refusal → Release J

@@ -6,6 +6,7 @@ pub mod Shards
 pub mod Parted
 pub mod Sound
 pub mod Following
+pub mod Completions
 pub mod Events
 pub mod Together
 pub mod InHand

@@ -1,20 +1,21 @@
 //! A session submits a request.
 ghost use Rattle.std.specs.Prelude.{◌≡◌, ◌<◌, [], Err, IfOk, IfSome, OnOk, OnErr, IsTrue, is_some, None, Some, slice_get};
 ghost use Rattle.commit_log.specs.Asks.{asking};
+ghost use Rattle.requests.specs.Check.{IsAccepted};
 ghost use Rattle.commit_log.specs.PassView.{session_seat_view, with_asks};
 ghost use Rattle.world.specs.Happening.{AdmitsAt, CanAsk, CanSubmit, SubmitsAt, submission};
 
-use crate::beginning::Phase;
 use crate::desk::{Active, SessionDesk};
 use crate::flight::{Flow, Message, Transaction};
 use crate::slots::MOST_ACTIVE;
+use crate::transaction_meetings::Meetings;
 use crate::world::Parts;
 use commit_log::{Names, Pass};
 use history::EventAnswer;
 use requests::{Refusal, Request, check};
 use schema::NoMemory;
 use std::alloc::Global;
-use transactions::{HeldClaims, Progress};
+use transactions::{HeldClaims, Progress, phases_have_actions};
 
 impl<J: Names> Parts<J> {
     // A session submits a request. `has_room`: whether the inbox of the executor where the request begins has room.
@@ -52,7 +53,7 @@ impl<J: Names> Parts<J> {
         }
     }
 
-    // Admits a request to a free slot and puts its first actions. An error changes nothing.
+    // Admits a request to a free slot: opens its meetings and puts its first actions. An error changes nothing.
     fn admit(
         &mut self,
         alloc: Global,
@@ -66,6 +67,7 @@ impl<J: Names> Parts<J> {
         requires hand { self.old.inbox ≡ [] }
         requires age { self.old.desk.admitted < 18446744073709551615 }
         requires sessions { CanSubmit self.old }
+        requires accepted { IsAccepted self.old.catalog.scale request.now }
         requires here { CanAsk (slice_get self.old.desk.sessions.items session) }
         ensures age { IfOk result (λ age. age ≡ self.old.desk.admitted) }
         ensures admitted { OnOk result (AdmitsAt session number request.now self.old self.new) }
@@ -73,8 +75,11 @@ impl<J: Names> Parts<J> {
     {
         let own = request.try_clone()?;
         let progress = Progress::begin(request.try_clone()?);
-        let Phase { works, meeting } = Phase::begin(alloc, &progress)?;
+        let works = progress.works(alloc)?;
         let held = HeldClaims::open(alloc)?;
+        let meetings = Meetings::open(alloc)?;
+        phases_have_actions();
+        let meeting = meetings.convene(works.len());
         let age = self.desk.admitted;
         let pass = ask(&mut self.desk.sessions[session as usize], number, request);
         let transaction = Transaction {

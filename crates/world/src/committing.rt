@@ -18,7 +18,11 @@ impl<J: Names> Parts<J> {
         requires can { CanCommit J.opening commit }
         ensures { Commits commit self.old result self.new }
     {
-        let Commit { transaction, reply } = commit;
+        let Commit {
+            transaction,
+            reply,
+            completion,
+        } = commit;
         let Transaction {
             age,
             slot,
@@ -45,6 +49,7 @@ impl<J: Names> Parts<J> {
             pass,
             answer,
             held,
+            completion,
         };
         self.release(over, is_settled);
         recorded_of(answer)

@@ -1,8 +1,7 @@
 //! The admission desk: which sessions have a transaction in flight, and the active transactions.
-use crate::Report;
 use crate::slots::Slots;
+use crate::transaction_meetings::{Completion, PhaseMeeting};
 use commit_log::{Names, Pass, SessionSeat};
-use rendezvous::Meeting;
 
 /// A session at the desk.
 #[derive(Drop)]
@@ -19,12 +18,12 @@ pub enum Active<J: Names> {
     /// the phase's first action.
     Acting {
         first: usize,
-        meeting: Meeting<Report<J>>,
+        meeting: PhaseMeeting<J>,
     },
     /// The transaction is about to be logged.
     Committing,
-    /// The number of actions that have yet to give their claims back.
-    Ending(usize),
+    /// The transaction is over, and some of its actions have yet to give their claims back.
+    Ending(Completion),
 }
 
 /// The desk: the sessions, the number of transactions admitted, and the active transactions.

@@ -1,4 +1,5 @@
 //! What is in flight: the messages in inboxes and the items in outboxes.
+use crate::transaction_meetings::CompletionConvener;
 use commit_log::{Names, Pass};
 use range_moves::Moving;
 use requests::{Refusal, Reply, Request};
@@ -75,6 +76,7 @@ pub struct Report<J: Names> {
 pub struct Commit<J: Names> {
     pub transaction: Transaction<J>,
     pub reply: Reply,
+    pub completion: CompletionConvener,
 }
 
 /// An answer to a session, with the session's pass: the place of the entry in the log, or why the request was refused.

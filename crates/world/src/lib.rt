@@ -25,6 +25,7 @@ mod sending;
 mod shards;
 mod simulating;
 mod slots;
+mod transaction_meetings;
 mod working;
 mod world;
 
@@ -39,4 +40,7 @@ pub use queues::Queues;
 pub use sending::Release;
 pub use simulating::{Simulation, simulate};
 pub use slots::{MOST_ACTIVE, Slots};
+pub use transaction_meetings::{
+    Completion, CompletionConvener, PhaseConvener, PhaseMeeting, PhaseResults,
+};
 pub use world::{Core, GatherFault, Parts, World};

@@ -8,10 +8,11 @@ ghost use Rattle.world.specs.Envelopes.{IsNoPush};
 use crate::desk::Active;
 use crate::flight::{Item, Message, Report, SessionAnswer, Transaction};
 use crate::slots::MOST_ACTIVE;
+use crate::transaction_meetings::{Completion, CompletionConvener, PhaseMeeting};
 use crate::world::Parts;
 use commit_log::{Names, Pass};
 use history::EventAnswer;
-use rendezvous::{Meeting, Reported};
+use rendezvous::SoleReported;
 use requests::Refusal;
 use std::alloc::Global;
 use transactions::{HeldClaims, MOST_ACTIONS};
@@ -27,11 +28,16 @@ pub struct Release<J: Names> {
     pub pass: Pass<J>,
     pub answer: Result<u32, Refusal>,
     pub held: HeldClaims<J>,
+    pub completion: CompletionConvener,
 }
 
 impl<J: Names> Release<J> {
     // A refused transaction.
-    pub(crate) fn refused(transaction: Transaction<J>, why: Refusal) -> Release<J>
+    pub(crate) fn refused(
+        transaction: Transaction<J>,
+        why: Refusal,
+        completion: CompletionConvener,
+    ) -> Release<J>
         ensures { result ≡ spec.refused transaction why }
     {
         let Transaction {
@@ -49,6 +55,7 @@ impl<J: Names> Release<J> {
             pass,
             answer: Err(why),
             held,
+            completion,
         }
     }
 }
@@ -76,7 +83,7 @@ impl<J: Names> Parts<J> {
         }
     }
 
-    // Brings a report to the rendezvous of its phase.
+    // Brings a report to the meeting of its phase.
     fn meet(&mut self, alloc: Global, report: Report<J>)
         requires room { length self.old.outbox + (MOST_ACTIONS + 1) ≤ 4096 }
         requires awaited { CanSend J.opening (Item.Report report) self.old }
@@ -86,14 +93,22 @@ impl<J: Names> Parts<J> {
         let Some(active) = self.desk.active.take(slot) else {
             unreachable!()
         };
-        let (first, mut meeting) = meeting_of(active);
+        let (first, meeting) = meeting_of(active);
+        let PhaseMeeting {
+            mut reports,
+            completion,
+        } = meeting;
         let place = report.place - first;
-        match meeting.report(place, report) {
-            Reported::NotLast => {
+        match reports.report(place, report) {
+            SoleReported::NotLast => {
+                let meeting = PhaseMeeting {
+                    reports,
+                    completion,
+                };
                 let acting = Active::Acting { first, meeting };
                 self.desk.active.put(slot, Some(acting));
             }
-            Reported::Last(results) => self.follow(alloc, results),
+            SoleReported::Last(results) => self.follow(alloc, results, completion),
         }
     }
 
@@ -101,6 +116,7 @@ impl<J: Names> Parts<J> {
     pub(crate) fn release(&mut self, over: Release<J>, settle: bool)
         requires room { length self.old.outbox + (length over.held + 1) ≤ 4096 }
         requires slot { over.slot < MOST_ACTIVE }
+        requires few { length over.held ≤ MOST_ACTIONS }
         ensures { self.new ≡ releasing settle over self.old }
     {
         let Release {
@@ -110,9 +126,10 @@ impl<J: Names> Parts<J> {
             pass,
             answer,
             held,
+            completion,
         } = over;
         let count = held.len();
-        self.desk.active.put(slot, ending(count));
+        self.desk.active.put(slot, ending(completion, count));
         self.outbox.put(Item::Reply(SessionAnswer {
             age,
             number,
@@ -154,27 +171,28 @@ impl<J: Names> Parts<J> {
         requires { CanSend J.opening (Item.Ended slot) self.old }
         ensures { SendsItem (Item.Ended slot) self.old EventAnswer.Sent self.new }
     {
-        let left = match self.desk.active.take(slot) {
-            Some(Active::Ending(left)) => left,
+        let completion = match self.desk.active.take(slot) {
+            Some(Active::Ending(completion)) => completion,
             _ => unreachable!(),
         };
-        self.desk.active.put(slot, ending(left - 1));
+        self.desk.active.put(slot, completion.report());
     }
 }
 
-// The state of a transaction whose last `left` actions have yet to give their claims back. With none left it is not active.
-fn ending<J: Names>(left: usize) -> Option<Active<J>>
-    ensures { result ≡ spec.ending left }
+// The state of a transaction that is over, of which this many actions hold claims. With none it is not active.
+fn ending<J: Names>(completion: CompletionConvener, holding: usize) -> Option<Active<J>>
+    requires { holding ≤ MOST_ACTIONS }
+    ensures { result ≡ spec.ending holding }
 {
-    if left == 0 {
+    if holding == 0 {
         None
     } else {
-        Some(Active::Ending(left))
+        Some(Active::Ending(Completion::begin(completion, holding)))
     }
 }
 
-// The place of the first action of the phase in flight, and the rendezvous of the phase.
-fn meeting_of<J: Names>(active: Active<J>) -> (usize, Meeting<Report<J>>)
+// The place of the first action of the phase in flight, and the meeting of the phase.
+fn meeting_of<J: Names>(active: Active<J>) -> (usize, PhaseMeeting<J>)
     requires { spec.IsActing active }
     ensures { active ≡ Active.Acting result.0 result.1 }
 {

@@ -6,16 +6,14 @@ use Rattle.schema.proofs.RowReads.{copied_item}
 use Rattle.requests.specs.declared.request.Request.{Request}
 use Rattle.commit_log.specs.PassView.{PassView, SessionSeatView}
 use Rattle.engine.specs.Interactive.{HasAskedNothing}
-use Rattle.engine.specs.Opening.{AreAgreedPhasesFrom}
 use Rattle.engine.specs.Sessions.{AreNewFrom}
-use Rattle.engine.proofs.AtOpening.{agreed_phases_next}
 use Rattle.engine.proofs.Sessions.{new_next}
 use Rattle.engine.proofs.opening.open_places.Goals as goal
-use Rattle.engine.proofs.opening.open_places.Goals.{in-Some-get+in_ok-open-in-Some-get, in-None+in_ok-outlets-in-None+in_ok-push-in-None}
+use Rattle.engine.proofs.opening.open_places.Goals.{in-Some-get+in_ok-ready-in-Some-get, in-None+in_ok-outlets-in-None+in_ok-push-in-None}
 
 -- the pass and the seat are those of this session, which has asked nothing and has this script
-pub open-requires-clause-script : goal.open-requires-clause-script
-open-requires-clause-script g c =
+pub open-requires-in-Some-get-clause-script : goal.open-requires-in-Some-get-clause-script
+open-requires-in-Some-get-clause-script g c =
     let slot = c.loop-slot.slot in
     let below = c.loop-slot-test.true in
     let most = c.requires.most in
@@ -25,8 +23,8 @@ open-requires-clause-script g c =
     ∙ ap (λ (l : List (List Request)). slice_get l slot) c.requires.scripts
     ∙ sym (copied_item c.args.scripts.now c.args.scripts.now refl slot (Some c.in-Some-get.script) c.in-Some-get.ensures.lookup)
 
-pub open-requires-clause-seat : goal.open-requires-clause-seat
-open-requires-clause-seat g c =
+pub open-requires-in-Some-get-clause-seat : goal.open-requires-in-Some-get-clause-seat
+open-requires-in-Some-get-clause-seat g c =
     let slot = c.loop-slot.slot in
     let below = c.loop-slot-test.true in
     let most = c.requires.most in
@@ -34,22 +32,14 @@ open-requires-clause-seat g c =
     let rest = new_next slot c.in-Some.pass c.in-Some.seat (into_iter_items c.next.new.self) (subst (AreNewFrom slot) next.0 c.loop-slot.invariant.new) (omega (arith, below, most)) in
     ap (λ (s : SessionSeatView). s.session) rest.1 ∙ sym (ap (λ (p : PassView). p.session) rest.0)
 
-pub open-requires-clause-nothing : goal.open-requires-clause-nothing
-open-requires-clause-nothing g c =
+pub open-requires-in-Some-get-clause-nothing : goal.open-requires-in-Some-get-clause-nothing
+open-requires-in-Some-get-clause-nothing g c =
     let slot = c.loop-slot.slot in
     let below = c.loop-slot-test.true in
     let most = c.requires.most in
     let next = c.in-Some.ensures.cases in
     let rest = new_next slot c.in-Some.pass c.in-Some.seat (into_iter_items c.next.new.self) (subst (AreNewFrom slot) next.0 c.loop-slot.invariant.new) (omega (arith, below, most)) in
     ap (λ (p : PassView). p.mine) rest.0
-
--- and its agreed phase is the one that was opened for it
-pub named-phase_owner-requires : goal.named-phase_owner-requires
-named-phase_owner-requires g c =
-    let slot = c.loop-slot.slot in
-    let next = c.in-Some-next.ensures.cases in
-    (agreed_phases_next g.J.PhaseNames.agreed_phase slot c.in-Some-next.agreed_phase (into_iter_items c.next-in-loop-slot.new.self)
-    (subst (AreAgreedPhasesFrom g.J.PhaseNames.agreed_phase slot) next.0 c.loop-slot.invariant.named)).0
 
 -- one place more
 pub loop-slot-preserved : goal.loop-slot-preserved
@@ -59,16 +49,12 @@ loop-slot-preserved g c =
     let below = c.loop-slot-test.true in
     let most = c.requires.most in
     let next = c.in-Some.ensures.cases in
-    let agreed_phase = c.in-Some-next.ensures.cases in
     let rest = new_next slot c.in-Some.pass c.in-Some.seat (into_iter_items c.next.new.self) (subst (AreNewFrom slot) next.0 known.new) (omega (arith, below, most)) in
     record {
       sessions = omega (arith, known.sessions, next.1);
       new = rest.2;
-      more = omega (arith, known.more, agreed_phase.1);
-      named = (agreed_phases_next g.J.PhaseNames.agreed_phase slot c.in-Some-next.agreed_phase (into_iter_items c.next-in-loop-slot.new.self)
-          (subst (AreAgreedPhasesFrom g.J.PhaseNames.agreed_phase slot) agreed_phase.0 known.named)).1;
       asked = elim c.match-get.branch [
-        | in-Some-get+in_ok-open-in-Some-get w ↦ rw w.sessions-is known.asked
+        | in-Some-get+in_ok-ready-in-Some-get w ↦ rw w.sessions-is known.asked
         | in-None+in_ok-outlets-in-None+in_ok-push-in-None w ↦
             rw w.sessions-is (subst (All HasAskedNothing) {x = c.loop-slot.sessions.items ++ w.new.result ∷ []} (sym w.in_ok-push-in-None.ensures.items) (All-push HasAskedNothing c.loop-slot.sessions.items w.new.result known.asked w.new.ensures))
       ];

@@ -1,10 +1,9 @@
--- The places so far are made, and the other sessions and agreed phases wait.
-use Rattle.std.proofs.Common.{◌≡◌, ◌+◌, vec_len}
+-- The places so far are made, and the other sessions wait.
+use Rattle.std.proofs.Common.{◌≡◌, ◌+◌}
 use Rattle.std.specs.Prelude.{All}
 use Rattle.std.specs.Vec.Iter.{into_iter_items, into_iter_len}
 use Rattle.rows.specs.declared.limits.TheConstants.{SESSIONS}
 use Rattle.engine.specs.Interactive.{HasAskedNothing}
-use Rattle.engine.specs.Opening.{AreAgreedPhasesFrom}
 use Rattle.engine.specs.Sessions.{AreNewFrom}
 use Rattle.engine.proofs.opening.open_places.Given as goal
 
@@ -12,7 +11,5 @@ abbrev pub invariant-loop-slot : goal.invariant-loop-slot
 invariant-loop-slot g l = record {
   sessions : into_iter_len l.lanes + l.slot ≡ SESSIONS;
   new : AreNewFrom l.slot (into_iter_items l.lanes);
-  more : into_iter_len l.agreed_phases + l.slot ≡ vec_len l.fn.agreed_phases;
-  named : AreAgreedPhasesFrom g.J.PhaseNames.agreed_phase l.slot (into_iter_items l.agreed_phases);
   asked : All HasAskedNothing l.sessions.items;
 }

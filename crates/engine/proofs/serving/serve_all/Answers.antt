@@ -1,7 +1,7 @@
 use Rattle.std.proofs.Common.{refl, arith}
 use Rattle.tickets.specs.Openings.{opened}
 use Rattle.tickets.specs.Unset.{no_table, nothing}
-use Rattle.engine.proofs.AtOpening.{agreements_named, agreed_phases_named}
+use Rattle.engine.proofs.AtOpening.{agreements_named}
 use Rattle.engine.proofs.serving.serve_all.Goals as goal
 
 -- the type parameter identifies what was opened for the tables and the scripts
@@ -16,7 +16,6 @@ serve_from-requires-clause-named g c = λ κs within.
       length_is = refl;
       mine = λ session small. refl;
       asks = λ session small. refl;
-      agreed_phases_are = agreed_phases_named opening.agreed_phases.items no_table;
-      enough = omega (arith, c.in_ok-opened.ensures.agreed_phases, c.in_ok-opened.opened.agreed_phases.ok.0);
+      enough = omega (arith, c.in_ok-opened.ensures.sessions);
       scripts_are = refl;
     }

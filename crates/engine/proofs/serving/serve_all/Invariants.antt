@@ -21,8 +21,5 @@ ghosts-serve_from-J-GroupNames g a = record {
   work = λ group. (slice_index_or a.opening.groups.items (place_of group) (opened no_table no_table nothing)).work;
 }
 
-abbrev pub ghosts-serve_from-J-PhaseNames : goal.ghosts-serve_from-J-PhaseNames
-ghosts-serve_from-J-PhaseNames g a = record { agreed_phase = λ slot. slice_index_or a.opening.agreed_phases.items slot no_table }
-
 abbrev pub ghosts-serve_from-J-ServeNames : goal.ghosts-serve_from-J-ServeNames
 ghosts-serve_from-J-ServeNames g a = record { scripts = a.scripts.now }

@@ -13,8 +13,7 @@ use Rattle.executor.specs.Commits.{CommitView, commit_view}
 use Rattle.executor.specs.Flows.{flow_view}
 use Rattle.executor.specs.Followed.{FollowsUnless}
 use Rattle.executor.specs.Transactions.{TransactionView, transaction_view}
-use Rattle.executor.proofs.Onward.{finished, has_found, next_reached}
-use Rattle.executor.proofs.Refusals.{may_in_the_end}
+use Rattle.executor.proofs.Onward.{finished, has_found}
 use Rattle.executor.proofs.following.following_of.Goals as goal
 
 pub follow-requires : goal.follow-requires

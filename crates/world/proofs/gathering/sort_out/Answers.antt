@@ -1,4 +1,4 @@
-use Rattle.std.proofs.Common.{ap, subst, ◌≡◌, ◌++◌, None}
+use Rattle.std.proofs.Common.{ap, subst, sym, ◌≡◌, ◌++◌, ◌∙◌, None, option_to_list}
 use Rattle.transactions.specs.declared.acting.Ran.{Ran}
 use Rattle.transactions.specs.SortedOut.{found_by, held_by, refused_by}
 use Rattle.world.specs.declared.flight.Flow.{Flow}
@@ -33,19 +33,25 @@ returns-clause-flow g c =
     let l = c.loop-report in
     let one = c.sort_one in
     let none = none_left l.results c.next-in-loop-report.result c.in_default-next.is c.next-in-loop-report.ensures.some in
-    carried_first c.in-Some.first c.next.new.self c.args.results c.in-Some-flow.flow l.flow one.new.held c.in-Some.ensures.results c.in-Some-flow.is one.ensures.held l.invariant.flow
+    carried_first c.in-Some.first c.next.new.self c.args.results.now c.in-Some-flow.flow l.flow one.new.held c.in-Some.ensures.results c.in-Some-flow.is one.ensures.held l.invariant.flow
     (subst (λ rs. l.flow.transaction.held ++ held_in rs ≡ one.new.held ++ held_in c.next.new.self) none l.invariant.held)
 
 pub returns-clause-refusal : goal.returns-clause-refusal
 returns-clause-refusal g c =
     let l = c.loop-report in
     let none = none_left l.results c.next-in-loop-report.result c.in_default-next.is c.next-in-loop-report.ensures.some in
-    refusal_all c.in-Some.first c.next.new.self c.args.results l.results c.args.sorted.refusal c.sort_one.new.self.refusal l.sorted.refusal c.in-Some.ensures.results none c.sort_one.ensures.refusal l.invariant.refusal
+    refusal_all c.in-Some.first c.next.new.self c.args.results.now l.results c.args.sorted.refusal c.sort_one.new.self.refusal l.sorted.refusal c.in-Some.ensures.results none c.sort_one.ensures.refusal l.invariant.refusal
 
 pub returns-clause-found : goal.returns-clause-found
 returns-clause-found g c =
     let l = c.loop-report in
     let one = c.sort_one in
     let none = none_left l.results c.next-in-loop-report.result c.in_default-next.is c.next-in-loop-report.ensures.some in
-    found_all c.in-Some.first c.next.new.self c.args.results l.results c.args.sorted.refusal one.new.self.refusal l.sorted.refusal c.args.sorted.found.items one.new.self.found.items l.sorted.found.items c.in-Some.ensures.results none
+    found_all c.in-Some.first c.next.new.self c.args.results.now l.results c.args.sorted.refusal one.new.self.refusal l.sorted.refusal c.args.sorted.found.items one.new.self.found.items l.sorted.found.items c.in-Some.ensures.results none
     one.ensures.refusal l.invariant.refusal (λ fresh. (c.requires.found fresh).0) one.ensures.found l.invariant.found
+
+pub returns-clause-all : goal.returns-clause-all
+returns-clause-all g c =
+    let l = c.loop-report in
+    let none = none_left l.results c.next-in-loop-report.result c.in_default-next.is c.next-in-loop-report.ensures.some in
+    sym (c.next-in-loop-report.ensures.results ∙ ap (λ o. option_to_list o ++ c.next-in-loop-report.new.self) c.in_default-next.is) ∙ none

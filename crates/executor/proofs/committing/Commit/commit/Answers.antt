@@ -4,7 +4,7 @@ use Rattle.commit_log.specs.Items.{entry_of}
 use Rattle.transactions.specs.Logged.{Logs, log_and_claims}
 use Rattle.executor.specs.Commits.{commit_view, entry_committed}
 use Rattle.executor.specs.Transactions.{transaction_view}
-use Rattle.executor.proofs.Logged.{answers, commits, gives}
+use Rattle.executor.proofs.Logged.{gives}
 use Rattle.executor.proofs.committing.Commit.commit.Goals as goal
 
 pub new-requires : goal.new-requires

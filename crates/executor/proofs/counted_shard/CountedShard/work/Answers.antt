@@ -7,7 +7,7 @@ use Rattle.executor.proofs.counted_shard.CountedShard.work.Goals.{After-try_acti
 
 -- the action
 abbrev act_of : (g : given.Over) → After-try_action g → ActView
-act_of g c = let e = c.act.inside in act_view e.by e.number e.work e.share e.flow
+act_of g c = let e = c.act.inside in act_view e.by e.work e.place e.flow
 
 pub invariant_of-result : goal.invariant_of-result
 invariant_of-result g c =

@@ -12,6 +12,7 @@ release-requires g c =
     record {
       room = omega (arith, c.requires.room, c.requires.can.few, as_many_hold entry t.pass (log_and_claims c.args.self.now.log t.held) (log_and_claims now.new.log now.new.self) now.result now.ensures);
       slot = c.requires.can.slot;
+      few = omega (arith, c.requires.can.few, as_many_hold entry t.pass (log_and_claims c.args.self.now.log t.held) (log_and_claims now.new.log now.new.self) now.result now.ensures);
     }
 
 pub returns : goal.returns

@@ -37,6 +37,7 @@ release-requires g c =
     record {
       room = omega (arith, c.requires.room, few, ap (λ r. length r.held) c.refused.ensures);
       slot = subst (λ n. n < MOST_ACTIVE) (sym (ap (λ r. r.slot) c.refused.ensures)) (sorted_slot c.args.results c.sort_out-flow.result.0 c.requires.can c.sort_out-flow.ensures.flow);
+      few = omega (arith, few, ap (λ r. length r.held) c.refused.ensures);
     }
 
 pub returns-in-Ok-Next : goal.returns-in-Ok-Next

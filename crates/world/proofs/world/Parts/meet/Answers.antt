@@ -2,6 +2,8 @@ use Rattle.std.proofs.Common.{◌≡◌, ◌≤◌, ◌-◌, ◌∙◌, ℕ, Lis
 use Rattle.std.specs.Prelude.{slice_set}
 use Rattle.world.specs.declared.desk.Active.{Active}
 use Rattle.world.specs.declared.desk.Active.TheVariants.{Acting}
+use Rattle.world.specs.declared.flight.Report.{Report}
+use Rattle.rendezvous.specs.Awaited.{awaited_from}
 use Rattle.world.specs.Events.{MeetsAs}
 use Rattle.world.specs.Following.{CarriesFirst, with_active}
 use Rattle.world.proofs.Sorting.{meets_active, put_twice}
@@ -17,13 +19,14 @@ returns-in-Last g c =
     let at = asked.1.1.0 in
     let first : asked.0 ≡ c.meeting_of-first.result.0 = cc in
     let reports : asked.1.0 ≡ c.meeting_of-first.result.1 = cc in
-    let all = c.in-Last.ensures.results ∙ (λ i. slice_set (sym reports i) (c.args.report.place - sym first i) (Some c.args.report)) in
+    let met = c.in-Last.ensures.results ∙ ap (λ (l : List (Option (Report J))). slice_set l (c.args.report.place - c.meeting_of-first.result.0) (Some c.args.report)) c.meeting.view_is in
+    let all = met ∙ (λ i. slice_set (sym reports i) (c.args.report.place - sym first i) (Some c.args.report)) in
     let own : CarriesFirst c.in-Last.results (λ f. f.transaction.slot ≡ slot) = (asked.1.1.1.1.1 c.in-Last.results all).1 in
     let follows = subst (λ (l : List (Option (Active J))). MeetsAs c.in-Last.results (record old { desk = record old.desk { active = l } }) c.follow.new.self) c.take.ensures.free c.follow.ensures in (
       c.meeting_of-first.result.0,
       (
         c.meeting_of-first.result.1,
-        (there, inr (c.in-Last.results, (c.in-Last.ensures.results, meets_active c.in-Last.results slot None old c.follow.new.self own follows))),
+        (there, inr (c.in-Last.results, (met, meets_active c.in-Last.results slot None old c.follow.new.self own follows))),
       ),
     )
 
@@ -36,6 +39,7 @@ returns-in-NotLast g c =
     let J = g.row.J.Denot in
     let old = c.args.self.now in
     let slot = c.args.report.slot in
+    let same = ap (λ (l : List (Option (Report J))). slice_set l (c.args.report.place - c.meeting_of-first.result.0) (Some c.args.report)) c.meeting.view_is in
     let there = c.take.ensures.out ∙ ap (λ (a : Option (Active J)). Some a) (c.in-Some.is ∙ ap (λ (a : Active J). Some a) c.meeting_of-first.ensures) in (
       c.meeting_of-first.result.0,
       (
@@ -43,10 +47,10 @@ returns-in-NotLast g c =
         (
           there,
           inl (
-            some_left _ c.in-NotLast.ensures.last.1,
+            some_left _ (λ none. c.in-NotLast.ensures.last.1 (ap (λ (l : List (Option (Report J))). awaited_from 0 l) same ∙ none)),
             ap (λ (l : List (Option (Active J))). record old { desk = record old.desk { active = l } })
                 (put_twice old.desk.active c.take.new.self c.put.new.self slot _ c.take.ensures.free c.put.ensures)
-                ∙ ap (λ m. with_active slot (Some (Acting c.meeting_of-first.result.0 m)) old) c.in-NotLast.ensures.meeting,
+                ∙ ap (λ m. with_active slot (Some (Acting c.meeting_of-first.result.0 m)) old) (c.in-NotLast.ensures.meeting ∙ same),
           ),
         ),
       ),

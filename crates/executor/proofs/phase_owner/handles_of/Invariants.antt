@@ -1,0 +1,12 @@
+-- So many handles are there, each of the meeting, and there is room for the others.
+use Rattle.std.proofs.Common.{◌≡◌, ◌≤◌, length, vec_capacity}
+use Rattle.std.specs.Arc.{arc_value}
+use Rattle.executor.specs.AgreedPhases.{AreHandles}
+use Rattle.executor.proofs.phase_owner.handles_of.Given as goal
+
+abbrev pub invariant-loop : goal.invariant-loop
+invariant-loop g l = record {
+  each : AreHandles arc_value (arc_value l.fn.meeting) l.handles.items;
+  many : length l.handles.items ≡ l.counter;
+  room : l.fn.count ≤ vec_capacity l.handles;
+}

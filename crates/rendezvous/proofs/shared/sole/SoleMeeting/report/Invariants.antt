@@ -1,9 +1,0 @@
-use Rattle.std.proofs.Common.{[], ◌∷◌}
-use Rattle.rendezvous.proofs.shared.sole.SoleMeeting.report.Given as goal
-
--- the place that sits down is the one that reports
-abbrev pub ghosts-sit_at : goal.ghosts-sit_at
-ghosts-sit_at g a = record { offset = a._place ∷ []; topic = [] }
-
-abbrev pub ghosts-tell : goal.ghosts-tell
-ghosts-tell g a = record { offset = a.slot ∷ []; topic = [] }

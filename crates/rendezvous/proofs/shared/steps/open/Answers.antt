@@ -1,5 +1,0 @@
-use Rattle.rendezvous.proofs.Keeping.{begins}
-use Rattle.rendezvous.proofs.shared.steps.open.Goals as goal
-
-pub vacant-requires : goal.vacant-requires
-vacant-requires g c = begins _ c.args.slots
