@@ -3,8 +3,8 @@
 First the gate compares the definitions that documents quote with the files, checks the order of crates.txt, and checks
 the form of every wrong program. Three parts follow:
 
-1. `rt ci` proves every crate and its tests from nothing, and runs the tests and the stored run. If it keeps its results
-   and memory suffices, the longest chain of crates goes first. Meanwhile the prover must refuse the wrong programs of
+1. `rt ci` proves every crate and its tests from nothing, and runs the tests and the stored run. The longest chain of
+   crates goes first, if memory suffices. Meanwhile the prover must refuse the wrong programs of
    must-fail/, each at the function that it names, over the libraries that are built by then.
 2. The proved program runs all scenarios.
 3. Each allocation of that program is made to fail in turn.
@@ -43,6 +43,8 @@ PROGRAM = "crates/tpcc/out/tpcc"
 # and get one processor. So a run of this crate and those below it goes first. Beside it, at a lower priority, goes a run of all crates
 # that do not stand on this one. The main run reuses what these two have proved, and proves the rest.
 TOP = "engine"
+# `rt ci` with a schedule for a toolchain that keeps nothing.
+SCHEDULED = [sys.executable, "-B", f"{ROOT}/gate/schedule.py"]
 # Two runs go side by side only with more free memory than this, in bytes.
 ENOUGH_FOR_TWO = 16_000_000_000
 VERDICT = re.compile(r"(\d+) passed, (\d+) failed")
@@ -111,9 +113,9 @@ class Progress:
 class Run:
     """A run of `rt ci` in a folder, as a context manager. Leaving it early ends the run and the provers that it has started."""
 
-    def __init__(self, folder, words, progress, priority=0):
+    def __init__(self, folder, progress, *words, priority=0, command=("rt", "ci")):
         self.folder, self.progress, self.verdict = folder, progress, (0, 1)
-        self.words = ["nice", "-n", str(priority), "rt", "ci", *words]
+        self.words = ["nice", "-n", str(priority), *command, *words]
         self.reader = threading.Thread(target=self.read)
 
     def __enter__(self):
@@ -195,13 +197,14 @@ def run(anew, whole):
         progress = Progress(trials.begin)
         keeps = keeps_results()
         if not keeps:
-            say("this toolchain's rt ci keeps nothing, so one run proves everything")
+            say("this toolchain's rt ci keeps nothing, so one run proves everything, on a schedule of the gate's own")
         elif not anew and free_memory() > ENOUGH_FOR_TWO:
             chain, others = copy_of(below[TOP]), copy_of(it for it in crates() if TOP not in below[it])
-            passed, failed = ahead(Run(chain, [], progress), Run(others, [], progress, priority=10))
+            passed, failed = ahead(Run(chain, progress), Run(others, progress, priority=10))
             if failed:
                 return passed, failed
-        with Run(room, ["--anew"] if anew and keeps else [], progress) as judge:
+        judge = Run(room, progress, *["--anew"] * anew) if keeps else Run(room, progress, command=SCHEDULED)
+        with judge:
             judge.reader.join()
         passed, failed = judge.verdict
         if failed:
