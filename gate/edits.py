@@ -5,8 +5,9 @@
 Each run of the gate tries the edits of `must-fail/`, and with --whole also those of `wrong-programs/`, which have the same form.
 The last line of an edit names the function that must lose its proof: `# refused by: CLAUSE of FUNCTION`, or `CLAUSE of CALLEE in
 FUNCTION`. FUNCTION is the name as the prover prints it, or the end of that name. The prover checks that function and those that it
-calls, over the libraries that `rt ci` has built. That takes seconds; a check of the whole crate takes minutes. The prover must
-first prove the same functions of the unchanged crate, so that an edit is refused for its change alone.
+calls, over the libraries that `rt ci` has built. That takes seconds; a check of the whole crate takes minutes. The same functions of
+the unchanged crate are proved before, by `rt ci` in a run of the gate and here in a call for some crates, so that an edit is refused
+for its change alone.
 
 Most of such a check is reading libraries. So one check tries several edits of a crate together, if each changes only the body of
 the function that it names and no two name the same function. No proof of a function depends on the body of another one. An edit is
@@ -20,9 +21,12 @@ import shutil
 import subprocess
 import sys
 import tempfile
+import threading
 import time
 from concurrent.futures import ThreadPoolExecutor
 from typing import NamedTuple, Optional
+
+from costs import seconds_by_part
 
 KINDS = ["must-fail", "wrong-programs"]
 LANES = min(4, len(os.sched_getaffinity(0)))
@@ -210,10 +214,11 @@ def refuses_beside(edit, status, output):
 
 class Trials:
     """Tries edits in threads of its own, beside the proofs of the crates above and at the lowest priority. The edits of a crate are
-    tried once its libraries are built. A context manager: leaving it early ends the running checks."""
+    tried once it is proved as it stands. A context manager: leaving it early ends the running checks."""
 
     def __init__(self, edits, say):
         self.say, self.provers, self.of, self.pending, self.count = say, {}, {}, [], len(edits)
+        self.waiting, self.lock, self.seconds = [], threading.Lock(), seconds_by_part()
         for edit in edits:
             self.of.setdefault(edit.crate, []).append(edit)
 
@@ -227,47 +232,56 @@ class Trials:
         self.lanes.shutdown()
         self.room.cleanup()
 
-    def begin(self, root, name):
-        """Starts to try the edits of this crate, whose libraries are built below the folder `root`."""
-        edits = self.of.pop(name, None)
-        if edits:
-            prover = self.provers[root] = self.provers.get(root) or Prover(root)
-            self.pending.append(self.lanes.submit(self.prove_as_it_stands, prover, name, edits))
+    def prover_of(self, root):
+        """Returns the prover over the libraries that are built below the folder `root`."""
+        self.provers[root] = self.provers.get(root) or Prover(root)
+        return self.provers[root]
 
-    def prove_as_it_stands(self, prover, name, edits):
-        base = f"{self.room.name}/{name}"
-        status, output = prover.check(name, {}, sorted({it.function for it in edits}), base)
+    def is_proved(self, root, name):
+        """Returns whether the functions that the crate's edits name are proved as they stand, which a run of the gate knows."""
+        functions = sorted({it.function for it in self.of[name]})
+        status, output = self.prover_of(root).check(name, {}, functions, f"{self.room.name}/{name}")
         if status:
             self.say(f"{name}: not all functions that its edits name are proved in the unchanged crate: {output[-1000:]}")
-            return 0
-        for group in groups_of(prover.crates[name].folder, edits):
-            self.pending.append(self.lanes.submit(self.try_together, prover, group, base))
-        return 0
+        return not status
 
-    def try_together(self, prover, edits, base):
-        """Tries these edits in one check. Returns how many it refuses. The others of several edits are tried again later, alone."""
-        name, over = edits[0].crate, f"{base}.{edits[0].path.replace(os.sep, '.')}"
-        shutil.copytree(base, over)
-        status, output = prover.check(name, edited(prover.crates[name].folder, edits), [it.function for it in edits], over)
-        shutil.rmtree(over)
-        if len(edits) == 1:
-            is_refused, message = refuses(edits[0], status, output)
-            self.say(f"{edits[0]}: {message}")
-            return int(is_refused)
-        refused = [it for it in edits if refuses_beside(it, status, output)]
-        for edit in refused:
-            self.say(f"{edit}: refused by {edit.function}")
-        for edit in edits:
-            if edit not in refused:
-                self.pending.append(self.lanes.submit(self.try_together, prover, [edit], base))
-        return len(refused)
+    def begin(self, root, name):
+        """Starts to try the edits of this crate, which is proved as it stands."""
+        edits = self.of.pop(name, None)
+        if edits:
+            self.waiting.append((self.prover_of(root), edits))
+            self.pending.append(self.lanes.submit(self.try_next))
+
+    def try_next(self):
+        """Tries the edits of that crate, of those that wait, which takes longest by docs/COSTS.md. Returns how many are refused."""
+        with self.lock:
+            longest = max(self.waiting, key=lambda it: self.seconds.get((it[1][0].crate, "edits"), 0))
+            self.waiting.remove(longest)
+        return self.try_all(*longest)
+
+    def try_all(self, prover, edits):
+        """Tries the edits of a crate, in turn, each over what the checks before it have proved. Returns how many are refused."""
+        folder = prover.crates[edits[0].crate].folder
+        groups, refused = groups_of(folder, edits), 0
+        for group in groups:
+            status, output = prover.check(group[0].crate, edited(folder, group), [it.function for it in group], f"{self.room.name}/{group[0].crate}")
+            if len(group) == 1:
+                is_refused, message = refuses(group[0], status, output)
+                self.say(f"{group[0]}: {message}")
+                refused += is_refused
+                continue
+            for edit in group:
+                if refuses_beside(edit, status, output):
+                    self.say(f"{edit}: refused by {edit.function}")
+                    refused += 1
+                else:
+                    # It is tried again, alone, after the others.
+                    groups.append([edit])
+        return refused
 
     def end(self):
         """Waits for all trials. Returns how many edits were refused, and how many not."""
-        refused = 0
-        while self.pending:
-            # A trial appends further trials to the list before it ends.
-            refused += self.pending.pop().result()
+        refused = sum(it.result() for it in self.pending)
         return refused, self.count - refused
 
 
@@ -279,8 +293,9 @@ def main():
         print("\n".join(faults))
         return 1
     with Trials(edits, lambda text: print(text, flush=True)) as trials:
-        for name in names:
-            trials.begin(root, name)
+        for name in list(trials.of):
+            if trials.is_proved(root, name):
+                trials.begin(root, name)
         refused, others = trials.end()
     print(f"{refused} refused, {others} not")
     return 1 if others else 0

@@ -2,8 +2,8 @@
 
 `rt ci` decides once, when a proof starts, how many processors the proof gets, and it reserves two to three times the memory that a
 check takes. So the longest proof, which starts beside others, gets one processor, and others are idle meanwhile. Here a task starts
-when all that it waits for has ended. The longer the chain of tasks behind it, the higher its priority. The tasks of the longer half may use
-all processors, the others one each. Nothing else changes: the checks, what each waits for, and the verdict are those of `rt ci`.
+when all that it waits for has ended. The longer the chain of tasks behind it, the higher its priority and the more
+processors it may use. Nothing else changes: the checks, what each waits for, and the verdict are those of `rt ci`.
 """
 
 import importlib.machinery
@@ -73,7 +73,8 @@ def in_order(tasks):
         is_urgent = priority < LEAST
         first = OF_ESTIMATE * tasks[task][2]
         free = room - sum(running.values())
-        jobs = max(1, min(processors, int(1 + (free / first - 1) / OF_FIRST_JOB))) if is_urgent else 1
+        most = processors if priority < LEAST / 2 else 2 if is_urgent else 1
+        jobs = max(1, min(most, int(1 + (free / first - 1) / OF_FIRST_JOB)))
         needs = first * (1 + OF_FIRST_JOB * (jobs - 1))
         if running and (needs > free or free_memory() < LEAST_FREE or not is_urgent and len(running) >= processors):
             return

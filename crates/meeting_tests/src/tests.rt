@@ -27,9 +27,9 @@ struct Seated<'m> {
 // Where a thread finds its place of the next round.
 type Inbox<'m> = Mutex<Option<Seated<'m>>>;
 
-// How often a thread was told that it is the last, and whether it got the right results each time.
+// How many of a thread's reports were answered `Last`, and whether each of these got the right results.
 #[derive(Clone, Copy, Drop)]
-struct Told {
+struct Tally {
     lasts: u64,
     right: bool,
 }
@@ -65,8 +65,8 @@ fn next_place<'m, R: Wait>(rt: &R, inbox: &Inbox<'m>) -> Seated<'m> {
 }
 
 // Reports for a place in each round. Whoever is the last looks at the results, and convenes the next round.
-fn report_all<'m, R: Wait>(rt: &R, inboxes: &[Inbox<'m>], own: &Inbox<'m>) -> Told {
-    let mut told = Told {
+fn report_all<'m, R: Wait>(rt: &R, inboxes: &[Inbox<'m>], own: &Inbox<'m>) -> Tally {
+    let mut tally = Tally {
         lasts: 0,
         right: true,
     };
@@ -75,19 +75,19 @@ fn report_all<'m, R: Wait>(rt: &R, inboxes: &[Inbox<'m>], own: &Inbox<'m>) -> To
         let number = place.number();
         let (reported, _receipt) = meeting.report(place, (round, number));
         if let Reported::Last(mut results) = reported {
-            told.lasts = told.lasts.wrapping_add(1);
+            tally.lasts = tally.lasts.wrapping_add(1);
             let mut next = 0usize;
             while let Some(result) = meeting.next_result(&mut results) {
-                told.right = told.right && result == (round, next);
+                tally.right = tally.right && result == (round, next);
                 next = next.wrapping_add(1);
             }
-            told.right = told.right && next == PLACES;
+            tally.right = tally.right && next == PLACES;
             if round + 1 < ROUNDS {
                 convene_for(rt, inboxes, meeting, results.finish());
             }
         }
     }
-    told
+    tally
 }
 
 // A thread for each inbox.
@@ -96,7 +96,7 @@ fn start_all<'s, 'm: 's, E, R: Wait + Sync>(
     scope: &Scope<'s, E>,
     alloc: Global,
     inboxes: &'s [Inbox<'m>],
-) -> Result<Vec<JoinHandle<Told>>, Fail> {
+) -> Result<Vec<JoinHandle<Tally>>, Fail> {
     let mut threads = Vec::new(alloc);
     for own in inboxes {
         let thread = scope.spawn(move || report_all(rt, inboxes, own))?;
@@ -105,23 +105,23 @@ fn start_all<'s, 'm: 's, E, R: Wait + Sync>(
     Ok(threads)
 }
 
-// What all threads were told.
-fn tell_all<R: Threads + Wait + Sync>(
+// The tally of all threads.
+fn tally_all<R: Threads + Wait + Sync>(
     rt: &R,
     alloc: Global,
     inboxes: &[Inbox<'_>],
-) -> Result<Told, Fail> {
-    thread::scope(thread::scope_env(), rt, |scope| -> Result<Told, Fail> {
-        let mut told = Told {
+) -> Result<Tally, Fail> {
+    thread::scope(thread::scope_env(), rt, |scope| -> Result<Tally, Fail> {
+        let mut tally = Tally {
             lasts: 0,
             right: true,
         };
         for thread in start_all(rt, scope, alloc, inboxes)? {
             let one = thread.join(rt);
-            told.lasts = told.lasts.wrapping_add(one.lasts);
-            told.right = told.right && one.right;
+            tally.lasts = tally.lasts.wrapping_add(one.lasts);
+            tally.right = tally.right && one.right;
         }
-        Ok(told)
+        Ok(tally)
     })
 }
 
@@ -133,8 +133,34 @@ fn one_report_of_each_round_is_last_and_gets_all_results(rt: HostRuntime) -> Res
         inboxes.push(Mutex::new(None))?;
     }
     convene_for(&rt, &inboxes, &meeting, convener);
-    let told = tell_all(&rt, rt.alloc(), &inboxes)?;
-    assert_eq!(rt; told.lasts, ROUNDS);
-    assert!(rt; told.right);
+    let tally = tally_all(&rt, rt.alloc(), &inboxes)?;
+    assert_eq!(rt; tally.lasts, ROUNDS);
+    assert!(rt; tally.right);
+    Ok(())
+}
+
+// The number of results that a report got.
+fn results_in(answer: &Reported<Own, Anything>) -> Option<usize> {
+    match answer {
+        Reported::NotLast => None,
+        Reported::Last(results) => Some(results.len()),
+    }
+}
+
+// The two receipts of a round, by which `compare` proves that one report was answered `Last` and got both results.
+#[test]
+fn receipts_of_a_round_are_compared(rt: HostRuntime) -> Result<(), Fail> {
+    let (meeting, convener) = Meeting::<Own, Anything>::open(rt.alloc(), 2)?;
+    let mut places = meeting.convene::<(), Brand>(convener, 2, &());
+    let first = meeting.hand_out(&mut places).ok_or("a place")?;
+    let second = meeting.hand_out(&mut places).ok_or("a place")?;
+    let mut receipts = Vec::with_capacity(rt.alloc(), 2)?;
+    let (answer, receipt) = meeting.report(first, (1, 0));
+    assert_eq!(rt; results_in(&answer), None);
+    receipts.push(receipt)?;
+    let (answer, receipt) = meeting.report(second, (1, 1));
+    assert_eq!(rt; results_in(&answer), Some(2));
+    receipts.push(receipt)?;
+    meeting.compare(1, receipts);
     Ok(())
 }

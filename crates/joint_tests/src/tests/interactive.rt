@@ -56,6 +56,9 @@ impl ReadsBack {
     ) -> Option<Vec<Left<J>>> {
         let asks = sessions.pop()?;
         let pays = sessions.pop()?;
+        if (pays.number(), asks.number()) != (0, 1) || !asks.requests().is_empty() {
+            return None;
+        }
         let mut pays = ask_until_done(rt, alloc, engine, pays, &payment(123))?;
         let mut asks = asks;
         meet(&mut pays, &mut asks);
@@ -98,7 +101,8 @@ fn status() -> Request {
     })
 }
 
-// The customer's debt by the session's last answer, in cents. The session has logged exactly its entries in the log.
+// The customer's debt by the session's last answer, in cents. The session has asked for the status alone, and has logged exactly
+// its entries in the log.
 fn last_owed<J: ServeNames, G: Gate>(
     rt: &impl Wait,
     engine: &Engine<'_, J, G>,
@@ -107,6 +111,9 @@ fn last_owed<J: ServeNames, G: Gate>(
     let Ok(place) = *session.answers().last()? else {
         return None;
     };
+    if session.requests().iter().any(|it| *it != status()) {
+        return None;
+    }
     let mut log = engine.log(rt);
     session.audit(&mut log);
     match &log.entries().get(place as usize)?.reply {
@@ -117,7 +124,7 @@ fn last_owed<J: ServeNames, G: Gate>(
     }
 }
 
-// A session pays, another meets it and then asks for the customer's status: the status contains the payment.
+// Session 0 pays. Session 1 meets it and then asks for the customer's status, which contains the payment.
 #[test]
 fn a_session_finds_what_another_paid_that_it_met(rt: HostRuntime) -> Result<(), Fail> {
     let alloc = rt.alloc();

@@ -8,7 +8,7 @@ use std::sync::atomic::{AtomicU64, Ordering};
 use std::thread::{Threads, yield_now};
 
 // How often a thread yields at most before it goes on.
-const MOST_TURNS: u32 = 100_000;
+const MOST_TURNS: u32 = 10_000_000;
 
 // One payment of that amount at a warehouse.
 fn script(alloc: Global, w_id: u32, amount: u32) -> Result<Script, Fail> {
