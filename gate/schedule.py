@@ -21,6 +21,8 @@ from edits import free_memory
 OF_ESTIMATE = 0.5
 # Each further job of a check takes this part of what its first job takes.
 OF_FIRST_JOB = 0.3
+# After how many seconds a task that lacked memory is tried again.
+RETRY = 10
 # The least priority of a task, as `nice` counts. The task with the longest chain behind it has 0, one with half of that chain has this.
 LEAST = 10
 # What a task counts that docs/COSTS.md does not list, in processor seconds.
@@ -85,7 +87,11 @@ def in_order(tasks):
     while left or running:
         for task in [it for it in left if all(below in given for below in tasks[it][0])]:
             start(task)
-        task, result = ended.get()
+        try:
+            task, result = ended.get(timeout=RETRY)
+        except queue.Empty:
+            # Memory may be free by now, since wrong programs are tried beside this run.
+            continue
         if isinstance(result, BaseException):
             raise result
         del running[task]
