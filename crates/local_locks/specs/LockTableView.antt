@@ -28,12 +28,17 @@ pub record Stand : Type 0 where
   pub back : Content
 
 -- The warehouse; the content of each of its groups, in the order of groups; all claims that are out, in any order;
--- and all waiting actions.
+-- all waiting actions; and the groups that are held or waited for, in the order in which they were taken.
 pub record LockTableView : Type 0 where
   pub w_id : ℕ
   pub stands : List Stand
   pub holdings : List HeldClaim
   pub waiters : List WaitingAction
+  pub entries : List Group
+
+-- the groups of these contents, in their order
+abbrev pub groups_of : List Stand → List Group
+groups_of stands = map (λ stand. stand.group) stands
 
 -- the entry of a group of the warehouse, with its content now and after an undo
 abbrev pub stand_for : List Stand → Group → Stand
@@ -76,6 +81,6 @@ pub record AreBoxesOf (warehouses w_id : ℕ) (boxes : List TicketBoxView) : Typ
   pub all_there : length boxes ≡ 105
   pub each : (place : ℕ) (d : TicketBoxView) → place < 105 → IsBoxAt warehouses w_id place (slice_index_or boxes place d)
 
--- the table of a warehouse with these boxes: no claim is out, and no action waits
+-- the table of a warehouse with these boxes: no claim is out, no action waits, and no group has an entry
 abbrev pub opened : ℕ → List TicketBoxView → LockTableView
-opened w_id boxes = record { w_id = w_id; stands = map stand_of boxes; holdings = []; waiters = [] }
+opened w_id boxes = record { w_id = w_id; stands = map stand_of boxes; holdings = []; waiters = []; entries = [] }

@@ -9,6 +9,7 @@
 //! claims from the time it asked.
 #![tactic(auto)]
 
+mod entries;
 mod granting;
 mod laws;
 mod lock;
@@ -16,6 +17,7 @@ mod places;
 mod rulings;
 mod table;
 mod waiting;
+mod wanted;
 
 pub use laws::{
     each_covered_group_is_wanted, grants_and_returns_keep_committed, nobody_waits_for_itself,

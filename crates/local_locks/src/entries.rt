@@ -1,0 +1,155 @@
+//! The entries of a lock table: the places of the groups that are held or waited for, in the order in
+//! which they were taken.
+ghost use Rattle.std.specs.Prelude.{◌≡◌, ◌<◌, ◌≤◌, ◌+◌, [], All, IfOk, IsOk, OnErr, OnOk, count_by, false, filter, length, nat_eq, slice_get};
+ghost use Rattle.std.specs.List.{IsDistinct};
+ghost use Rattle.indexmap.specs.IndexSet.{insert_key, spare};
+ghost use Rattle.local_locks.specs.EntryPlaces as spec;
+ghost use Rattle.local_locks.specs.EntryPlaces.{ArePlaces, with_marked, without};
+ghost use Rattle.local_locks.specs.Turns.{IsParkedThere};
+
+use crate::lock::Lock;
+use crate::wanted::is_wanted_at;
+use crate::waiting::Waiter;
+use indexmap::IndexSet;
+use schema::NoMemory;
+use std::alloc::Global;
+use std::marker::Model;
+use tickets::{GROUPS_PER_WAREHOUSE, GroupNames};
+
+// Room for each group of a warehouse twice, so that entries that go and come again seldom need memory.
+const ROOM: usize = 2 * GROUPS_PER_WAREHOUSE;
+
+/// The places of the groups that are held or waited for, in the order in which they were taken.
+#[derive(Drop)]
+pub(crate) struct Entries {
+    places: IndexSet<usize>,
+}
+
+impl Model for Entries {
+    ghost use Rattle.std.specs.Prelude.{ℕ, List};
+
+    ghost Value = { List ℕ };
+
+    ghost view = { λ e. e.places.keys };
+}
+
+impl Entries {
+    /// No entries, with room for some. Returns NoMemory if an allocation fails.
+    pub(crate) fn open(alloc: Global) -> Result<Entries, NoMemory>
+        ensures { IfOk result (λ entries. entries ≡ []) }
+    {
+        let places = IndexSet::with_capacity(alloc, ROOM)?;
+        Ok(Entries { places })
+    }
+
+    /// Returns the number of entries.
+    pub(crate) fn len(&self) -> usize
+        ensures { result ≡ length self.now }
+    {
+        self.places.len()
+    }
+
+    /// Shows that no place has two entries.
+    pub(crate) fn are_once(&self)
+        ensures { IsDistinct nat_eq self.now }
+    {
+        let _ = self.places.len();
+    }
+
+    /// Returns the place of entry `n`, from 0. `None` if there are fewer.
+    pub(crate) fn get(&self, n: usize) -> Option<usize>
+        ensures { result ≡ slice_get self.now n }
+    {
+        self.places.get_index(n).copied()
+    }
+
+    /// Enters the marked places that have no entry yet, last and in order. Returns NoMemory if an
+    /// allocation fails; nothing is entered then.
+    pub(crate) fn enter(&mut self, marks: &[bool]) -> Result<(), NoMemory>
+        ensures entered { OnOk result (self.new ≡ with_marked marks.now self.old) }
+        ensures err { OnErr result (self.new ≡ self.old) }
+        ensures nothing_takes_none { count_by (λ is. is) marks.now ≡ 0 → IsOk result }
+    {
+        self.places.reserve(count_marked(marks))?;
+        for (place, is_marked) in marks.iter().enumerate() {
+            if *is_marked {
+                insert_reserved(&mut self.places, place);
+            }
+        }
+        Ok(())
+    }
+
+    /// Leaves a place out, if it is there. The others keep their order.
+    pub(crate) fn leave_out(&mut self, place: usize)
+        ensures { self.new ≡ without place self.old }
+    {
+        self.places.shift_remove(&place);
+    }
+}
+
+// Returns the number of marks.
+fn count_marked(marks: &[bool]) -> usize
+    ensures { result ≡ count_by (λ is. is) marks.now }
+{
+    let mut count = 0;
+    for is_marked in marks {
+        if *is_marked {
+            count += 1;
+        }
+    }
+    count
+}
+
+// Inserts a place last, if it isn't there. There must be room for it.
+fn insert_reserved(places: &mut IndexSet<usize>, place: usize)
+    requires { 0 < spare places.old }
+    ensures keys { places.new.keys ≡ insert_key nat_eq places.old.keys place }
+    ensures room { spare places.old ≤ spare places.new + 1 }
+{
+    let Ok(_) = places.insert(place) else {
+        unreachable!()
+    };
+}
+
+// Returns whether an action waits for the group at a place.
+fn is_awaited_at<J: GroupNames>(waiters: &[Waiter<J>], place: usize) -> bool
+    requires { All (IsParkedThere J.warehouses) waiters.now }
+    ensures { result ≡ spec.is_awaited_at waiters.now place }
+{
+    let mut is_awaited = false;
+    for waiter in waiters {
+        is_awaited = is_awaited || is_wanted_at::<J>(&waiter.wants, place);
+    }
+    is_awaited
+}
+
+/// Returns whether the group at a place is held or waited for.
+pub(crate) fn is_used_at<J: GroupNames>(
+    locks: &[Lock<J>],
+    waiters: &[Waiter<J>],
+    place: usize,
+) -> bool
+    requires place { place < length locks.now }
+    requires there { All (IsParkedThere J.warehouses) waiters.now }
+    ensures { result ≡ spec.is_used_at locks.now waiters.now place }
+{
+    locks[place].is_lent() || is_awaited_at(waiters, place)
+}
+
+/// Leaves out the entries whose groups are neither held nor waited for. The others keep their order.
+pub(crate) fn keep_used<J: GroupNames>(
+    entries: &mut Entries,
+    locks: &[Lock<J>],
+    waiters: &[Waiter<J>],
+)
+    requires places { ArePlaces entries.old }
+    requires all { length locks.now ≡ 105 }
+    requires there { All (IsParkedThere J.warehouses) waiters.now }
+    ensures { entries.new ≡ filter (spec.is_used_at locks.now waiters.now) entries.old }
+{
+    for place in 0..GROUPS_PER_WAREHOUSE {
+        if !is_used_at(locks, waiters, place) {
+            entries.leave_out(place);
+        }
+    }
+}
