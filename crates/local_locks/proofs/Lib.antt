@@ -1,4 +1,6 @@
 pub mod Members
+pub mod Tested
+pub mod Marked
 pub mod Spots
 pub mod Joins
 pub mod InPlace
@@ -6,10 +8,13 @@ pub mod Grants
 pub mod Turns
 pub mod Covering
 pub mod Views
+pub mod EntryGroups
 pub mod Apartness
 pub mod Rising
 pub mod GroupWanted
 pub mod Asks
+pub mod EntryPlaces
+pub mod Entered
 pub mod Taken
 pub mod Returns
 pub mod Keeping

@@ -1,6 +1,6 @@
 -- The entries of a lock table, by the places of groups among those of the warehouse.
 use Rattle.std.specs.Prelude.{◌≡◌, ◌==◌, ◌&&◌, ◌||◌, ℕ, ◌<◌, Bool, false, not, List, ◌++◌, All, filter, length, map, slice_index_or}
-use Rattle.std.specs.List.{flat_map, list_any, range_with_len}
+use Rattle.std.specs.List.{list_any, range_with_len}
 use Rattle.requests.specs.declared.group.Group.{Group}
 use Rattle.groups.specs.declared.wants.Want.{Want}
 use Rattle.local_locks.specs.LockTableView.{LockTableView}
@@ -14,9 +14,13 @@ use Rattle.local_locks.specs.Rulings.{Spot, spots_of}
 abbrev pub is_at : ℕ → Spot → Bool
 is_at place spot = spot.number == place
 
+-- whether the want covers this place
+abbrev pub covers_at : ℕ → Want → Bool
+covers_at place want = list_any (is_at place) (spots_of want)
+
 -- whether one of the wants is for the group at this place
 abbrev pub is_wanted_at : List Want → ℕ → Bool
-is_wanted_at wants place = list_any (is_at place) (flat_map spots_of wants)
+is_wanted_at wants place = list_any (covers_at place) wants
 
 -- for each place of a warehouse, in order, whether one of the wants is for the group there
 abbrev pub marks_of : List Want → List Bool

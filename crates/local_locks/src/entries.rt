@@ -71,11 +71,7 @@ impl Entries {
         ensures nothing_takes_none { count_by (λ is. is) marks.now ≡ 0 → IsOk result }
     {
         self.places.reserve(count_marked(marks))?;
-        for (place, is_marked) in marks.iter().enumerate() {
-            if *is_marked {
-                insert_reserved(&mut self.places, place);
-            }
-        }
+        insert_marked(&mut self.places, marks);
         Ok(())
     }
 
@@ -83,6 +79,8 @@ impl Entries {
     pub(crate) fn leave_out(&mut self, place: usize)
         ensures { self.new ≡ without place self.old }
     {
+        // `len` is called for its clause that no place is there twice.
+        let _len = self.places.len();
         self.places.shift_remove(&place);
     }
 }
@@ -98,6 +96,18 @@ fn count_marked(marks: &[bool]) -> usize
         }
     }
     count
+}
+
+// Inserts the marked places that aren't there, last and in order. There must be room for them.
+fn insert_marked(places: &mut IndexSet<usize>, marks: &[bool])
+    requires { count_by (λ is. is) marks.now ≤ spare places.old }
+    ensures { places.new.keys ≡ with_marked marks.now places.old.keys }
+{
+    for (place, is_marked) in marks.iter().enumerate() {
+        if *is_marked {
+            insert_reserved(places, place);
+        }
+    }
 }
 
 // Inserts a place last, if it isn't there. There must be room for it.
@@ -116,11 +126,12 @@ fn is_awaited_at<J: GroupNames>(waiters: &[Waiter<J>], place: usize) -> bool
     requires { All (IsParkedThere J.warehouses) waiters.now }
     ensures { result ≡ spec.is_awaited_at waiters.now place }
 {
-    let mut is_awaited = false;
     for waiter in waiters {
-        is_awaited = is_awaited || is_wanted_at::<J>(&waiter.wants, place);
+        if is_wanted_at::<J>(&waiter.wants, place) {
+            return true;
+        }
     }
-    is_awaited
+    false
 }
 
 /// Returns whether the group at a place is held or waited for.

@@ -1,9 +1,8 @@
 //! Which places an action's wants are for.
-ghost use Rattle.std.specs.Prelude.{◌≡◌, ◌<◌, ◌≤◌, ◌||◌, All, false, get_or, length, list_any};
+ghost use Rattle.std.specs.Prelude.{◌≡◌, ◌<◌, ◌≤◌, ◌||◌, All, false, get_or, length, ℕ};
 ghost use Rattle.local_locks.specs.EntryPlaces as spec;
-ghost use Rattle.local_locks.specs.EntryPlaces.{is_at, marks_of};
+ghost use Rattle.local_locks.specs.EntryPlaces.{covers_at, marks_of};
 ghost use Rattle.local_locks.specs.GroupWants.{IsWanted};
-ghost use Rattle.local_locks.specs.Rulings.{spots_of};
 
 use crate::places::places_of;
 use groups::Want;
@@ -14,12 +13,21 @@ pub(crate) fn is_wanted_at<J: GroupNames>(wants: &[Want], place: usize) -> bool
     requires { All (IsWanted J.warehouses) wants.now }
     ensures { result ≡ spec.is_wanted_at wants.now place }
 {
-    let mut is_wanted = false;
     for want in wants {
-        let (first, end) = places_of::<J>(want.extent);
-        is_wanted = is_wanted || first <= place && place < end;
+        if covers_at::<J>(*want, place) {
+            return true;
+        }
     }
-    is_wanted
+    false
+}
+
+// Returns whether the want covers a place.
+fn covers_at<J: GroupNames>(want: Want, place: usize) -> bool
+    requires { IsWanted J.warehouses want }
+    ensures { result ≡ covers_at place want }
+{
+    let (first, end) = places_of::<J>(want.extent);
+    first <= place && place < end
 }
 
 /// Returns for each place of a warehouse whether one of the wants is for the group there.
@@ -40,7 +48,7 @@ fn mark<J: GroupNames>(marks: &mut [bool], want: Want)
     requires all { length marks.old ≡ 105 }
     ensures all { length marks.new ≡ 105 }
     ensures marked { (place : ℕ) → place < 105 → get_or marks.new place false
-        ≡ (get_or marks.old place false || list_any (is_at place) (spots_of want)) }
+        ≡ (get_or marks.old place false || covers_at place want) }
 {
     let (first, end) = places_of::<J>(want.extent);
     for place in first..end {

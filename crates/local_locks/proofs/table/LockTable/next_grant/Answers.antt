@@ -88,8 +88,8 @@ returns-in-Free-clause-turn g c =
     let P : List Want → Type 0 = λ ws. c.grant_all.new.claims.items ≡ c.wants.inside.room.items ++ map (claim_at next.by (map stand_in c.deref_mut.result.now)) (flat_map spots_of ws) in
     let Q : List Want → Type 0 = λ ws. AreGranted g.J.GroupNames.warehouses next.by (flat_map spots_of ws) c.deref_mut.result.now c.grant_all.new.locks in (
       p.wants,
-      taken.turn_taken g.J.GroupNames.warehouses c.self.inside.w_id c.args.self.now locks.items back waiters rest p next c.self.view_is t,
-      asks.answered_free g.J.GroupNames.warehouses c.self.inside.w_id next.by.age next.by p.wants c.args.self.now locks.items c.deref_mut.result.now c.grant_all.new.locks back waiters rest c.wants.inside.room.items c.grant_all.new.claims.items c.self.view_is
+      taken.turn_taken g.J.GroupNames.warehouses c.self.inside.w_id c.args.self.now locks.items back waiters rest c.self.inside.entries c.self.inside.entries p next c.self.view_is t,
+      asks.answered_free g.J.GroupNames.warehouses c.self.inside.w_id next.by.age next.by p.wants c.args.self.now locks.items c.deref_mut.result.now c.grant_all.new.locks back waiters rest c.self.inside.entries c.self.inside.entries c.wants.inside.room.items c.grant_all.new.claims.items c.self.view_is
           c.deref_mut.ensures.value (asks.refilled locks.len locks.items c.grant_all.new.locks locks.ok.0 long) c.wants.invariant c.self.invariant.0 is.can.own
           (taken.said_taken g.J.GroupNames.warehouses c.self.inside.w_id locks.items waiters rest p next Free t c.in-Free.is) (subst P wants c.grant_all.ensures.claims) (subst Q wants c.grant_all.ensures.granted),
     )
@@ -99,7 +99,7 @@ index-requires g c =
     let next = c.in_ok-index.field-0 in
     let locks = c.self.inside.locks in
     let t = taken.taken_from g.J.GroupNames.warehouses c.self.inside.w_id locks.items c.deref.result.now c.self.inside.waiters.items c.deref-2.result.now c.remove.new.self.items c.remove.result next c.deref.ensures.value c.deref-2.ensures.value c.self.invariant.0 c.self.invariant.1 c.in_ok-index.ensures.next c.remove.ensures.value c.remove.ensures.items in
-    let death = taken.death_taken g.J.GroupNames.warehouses c.self.inside.w_id c.args.self.now locks.items c.self.inside.waiters.items c.remove.new.self.items c.remove.result next c.in-Dies.number c.in-Dies.holder asks.no_lock c.self.view_is t c.in-Dies.is in
+    let death = taken.death_taken g.J.GroupNames.warehouses c.self.inside.w_id c.args.self.now locks.items c.self.inside.waiters.items c.remove.new.self.items c.self.inside.entries c.remove.result next c.in-Dies.number c.in-Dies.holder asks.no_lock c.self.view_is t c.in-Dies.is in
     let count = locks.ok.0 in
     omega (arith, death.0, count)
 
@@ -118,11 +118,11 @@ returns-in-Dies-clause-turn g c =
     let rest = c.remove.new.self.items in
     let waiters = c.self.inside.waiters.items in
     let t = taken.taken_from g.J.GroupNames.warehouses c.self.inside.w_id locks c.deref.result.now waiters c.deref-2.result.now rest p next c.deref.ensures.value c.deref-2.ensures.value c.self.invariant.0 c.self.invariant.1 c.in_ok-index.ensures.next c.remove.ensures.value c.remove.ensures.items in
-    let death = taken.death_taken g.J.GroupNames.warehouses c.self.inside.w_id c.args.self.now locks waiters rest p next c.in-Dies.number c.in-Dies.holder c.index.result.now c.self.view_is t c.in-Dies.is in
+    let death = taken.death_taken g.J.GroupNames.warehouses c.self.inside.w_id c.args.self.now locks waiters rest c.self.inside.entries p next c.in-Dies.number c.in-Dies.holder c.index.result.now c.self.view_is t c.in-Dies.is in
     let same : (get_or locks c.in-Dies.number c.index.result.now).ticket_box.group ≡ c.group.result = ap (λ (l : LockView). l.ticket_box.group) (sym c.index.ensures) ∙ sym c.group.ensures in
     let P : Group → Type 0 = λ group. MustDie c.args.self.now.holdings next.by.age p.wants group c.in-Dies.holder in (
       p.wants,
-      taken.turn_taken g.J.GroupNames.warehouses c.self.inside.w_id c.args.self.now locks locks waiters rest p next c.self.view_is t,
+      taken.turn_taken g.J.GroupNames.warehouses c.self.inside.w_id c.args.self.now locks locks waiters rest c.self.inside.entries c.keep_used.new.entries p next c.self.view_is t,
       subst P same death.1,
       ap (λ (u : LockTableView). record u { waiters = map waiting_of rest }) c.self.view_is,
     )

@@ -9,5 +9,5 @@ returns-clause-table g c =
     let value = c.index_mut.ensures.value in
     let back = sym c.undo.ensures.back in
     let made = c.undo.ensures.lock ∙ (λ i. lock_view (with_left (value i).ticket_box (back i)) (value i).holders) in
-    left_table g.J.GroupNames.warehouses c.self.inside.w_id c.args.self.now c.self.inside.locks.items c.self.inside.waiters.items c.place_of_claim-place.result c.index_mut.result.now c.undo.new.self c.args.claim.now.group
+    left_table g.J.GroupNames.warehouses c.self.inside.w_id c.args.self.now c.self.inside.locks.items c.self.inside.waiters.items c.self.inside.entries c.place_of_claim-place.result c.index_mut.result.now c.undo.new.self c.args.claim.now.group
     c.args.claim.now.back c.self.view_is c.self.invariant.0 c.place_of_claim-place.ensures.known c.requires.here c.place_of_claim-place.ensures.place made
