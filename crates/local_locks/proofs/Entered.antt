@@ -1,1 +1,147 @@
+-- The places of a table's entries, after a request, a grant, a turn and a return.
+use Rattle.std.proofs.Common.{◌≡◌, ◌≢◌, ℕ, ◌+◌, ◌<◌, ◌≤◌, Bool, true, false, eqb, List, [], ◌∷◌, ◌++◌, ◌||◌, ◌&&◌, not, length, get_or, map, refl, sym, ap, subst, ◌∙◌, ⊎_elim, cond, arith}
+use Rattle.std.specs.Prelude.{All, filter}
+use Rattle.std.specs.List.{flat_map, list_any, range_with_len}
+use Rattle.std.specs.List.Sorted.{IsPermutation}
+use Rattle.std.proofs.lemmas.List.{get_or-map, get_or_default, length-map, map-append, same_lists}
+use Rattle.std.proofs.lemmas.List.Elements.{All-append, All-filter, filter_agree}
+use Rattle.std.proofs.lemmas.List.FromFn.{get_or-map-range_with_len, length-map-range_with_len}
+use Rattle.requests.specs.declared.group.Group.{Group}
+use Rattle.requests.specs.declared.group.Group.TheVariants.{Warehouse}
+use Rattle.groups.specs.declared.wants.Want.{Want}
+use Rattle.tickets.specs.Claims.{ClaimView}
+use Rattle.wait_die.specs.declared.deciding.Holder.{Holder}
+use Rattle.local_locks.specs.LockTableView.{LockTableView, Stand, WaitingAction, groups_of}
+use Rattle.local_locks.specs.GroupWants.{IsOwn}
+use Rattle.local_locks.specs.Asking.{Grants, waiting}
+use Rattle.local_locks.specs.Entries.{entered, is_awaited, is_entered, is_held, is_new, is_used, is_wanted}
+use Rattle.local_locks.specs.EntryPlaces.{AreEntryPlaces, ArePlaces, IsEnteredIfUsed, is_among, is_fresh, is_used_at, is_wanted_at, marks_of, with_marked}
+use Rattle.local_locks.specs.Locks.{LockView, WaiterView, AreLocksOf, IsParked, group_at, groups_at, holdings_of, locking, stand_in, waiter_view, waiting_of}
+use Rattle.local_locks.proofs.Asks.{home_there}
+use Rattle.local_locks.proofs.EntryPlaces.{entered_there, group_there, groups_in, length-groups, used_there, wanted_inside, wanted_there}
+use Rattle.local_locks.proofs.EntryUses as uses
+use Rattle.local_locks.proofs.Marked.{range_below}
+use Rattle.local_locks.proofs.Tested.{filter_agrees, filter_mapped}
 
+-- ---- groups are entered
+
+-- all places give all groups
+all_groups : (locks : List LockView) → length locks ≡ 105 → map (group_at (groups_in locks)) (range_with_len 0 105) ≡ groups_in locks
+all_groups locks long =
+    same_lists (map (group_at (groups_in locks)) (range_with_len 0 105)) (groups_in locks)
+    (length-map-range_with_len (group_at (groups_in locks)) 0 105 ∙ sym (length-groups locks ∙ long))
+    (λ k d small.
+    let inside : k < 105 = omega (arith, small, length-map-range_with_len (group_at (groups_in locks)) 0 105) in
+    get_or-map-range_with_len (group_at (groups_in locks)) 0 105 k k d inside (omega arith)
+    ∙ get_or_default (groups_in locks) k (Warehouse 0) d (omega (arith, inside, length-groups locks, long)))
+
+pub entered_places : (warehouses w_id : ℕ) (locks : List LockView) (waiters : List WaiterView) (places : List ℕ) (wants : List Want) → AreLocksOf warehouses w_id locks → ArePlaces places → All (IsOwn warehouses w_id) wants
+    → groups_at (map stand_in locks) (with_marked (marks_of wants) places) ≡ entered wants (locking w_id locks waiters places)
+entered_places warehouses w_id locks waiters places wants are small own =
+    map-append f places (filter fresh (range_with_len 0 (length (marks_of wants)))) ∙ ap (λ gs. entries ++ gs) new_groups
+  where
+    f : ℕ → Group
+    f = group_at (groups_in locks)
+
+    entries : List Group
+    entries = groups_at (map stand_in locks) places
+
+    fresh : ℕ → Bool
+    fresh = is_fresh (marks_of wants) places
+
+    new : Group → Bool
+    new = is_new wants entries
+
+    long : length (marks_of wants) ≡ 105
+    long = length-map-range_with_len (is_wanted_at wants) 0 105
+
+    agree : (k : ℕ) → k < 105 → fresh k ≡ new (f k)
+    agree k inside =
+        let marked : get_or (marks_of wants) k false ≡ is_wanted wants (f k) =
+        get_or-map-range_with_len (is_wanted_at wants) 0 105 k k false inside (omega arith)
+        ∙ sym (wanted_there warehouses w_id k (f k) wants (home_there warehouses w_id locks are) (group_there warehouses w_id locks k are inside) own) in
+        let there = entered_there warehouses w_id k locks places are small inside in
+        λ i. marked i && not (sym there i)
+
+    new_groups : map f (filter fresh (range_with_len 0 (length (marks_of wants)))) ≡ filter new (groups_in locks)
+    new_groups =
+        ap (λ (n : ℕ). map f (filter fresh (range_with_len 0 n))) long
+        ∙ ap (map f) (filter_agrees (λ k. k < 105) fresh (λ k. new (f k)) agree (range_with_len 0 105) (range_below 105))
+        ∙ sym (filter_mapped new f (range_with_len 0 105)) ∙ ap (filter new) (all_groups locks are.all_there)
+
+pub entered_inside : (wants : List Want) (places : List ℕ) → ArePlaces places → ArePlaces (with_marked (marks_of wants) places)
+entered_inside wants places small =
+    let long : length (marks_of wants) ≡ 105 = length-map-range_with_len (is_wanted_at wants) 0 105 in
+    let below : All (λ k. k < 105) (range_with_len 0 (length (marks_of wants))) = subst (λ (n : ℕ). All (λ k. k < 105) (range_with_len 0 n)) (sym long) (range_below 105) in
+    All-append (λ k. k < 105) places (filter (is_fresh (marks_of wants) places) (range_with_len 0 (length (marks_of wants)))) small
+    (All-filter (is_fresh (marks_of wants) places) (λ k. k < 105) (range_with_len 0 (length (marks_of wants))) below)
+
+-- for each group, whether it has an entry then
+newly : (warehouses w_id : ℕ) (locks : List LockView) (waiters : List WaiterView) (places : List ℕ) (wants : List Want) (group : Group) → AreLocksOf warehouses w_id locks → AreEntryPlaces w_id locks waiters places → All (IsOwn warehouses w_id) wants
+    → is_entered (groups_at (map stand_in locks) (with_marked (marks_of wants) places)) group ≡ (is_wanted wants group || is_used (flat_map holdings_of locks) (map waiting_of waiters) group)
+newly warehouses w_id locks waiters places wants group are entries own =
+    ap (λ gs. is_entered gs group) (entered_places warehouses w_id locks waiters places wants are entries.inside own)
+    ∙ uses.newly_entered (locking w_id locks waiters places) wants group (entries.used group) (wanted_inside warehouses w_id locks wants group are own)
+
+-- an action waits for its groups
+pub waiting_entered : (warehouses w_id : ℕ) (locks : List LockView) (waiters : List WaiterView) (places : List ℕ) (by : Holder) (wants : List Want) (count : ℕ) → AreLocksOf warehouses w_id locks → AreEntryPlaces w_id locks waiters places → All (IsOwn warehouses w_id) wants
+    → AreEntryPlaces w_id locks (waiters ++ waiter_view by wants count ∷ []) (with_marked (marks_of wants) places)
+waiting_entered warehouses w_id locks waiters places by wants count are entries own = record {
+  inside = entered_inside wants places entries.inside;
+  used = λ group.
+      let held = is_held (flat_map holdings_of locks) group in
+      newly warehouses w_id locks waiters places wants group are entries own
+      ∙ sym (uses.or_last held (is_awaited (map waiting_of waiters) group) (is_wanted wants group))
+      ∙ sym (ap (λ b. held || b) (ap (λ ws. is_awaited ws group) (map-append waiting_of waiters (waiter_view by wants count ∷ [])) ∙ uses.awaited_more by wants (map waiting_of waiters) group));
+}
+
+-- an action is granted its groups
+pub granted_entered : (warehouses w_id : ℕ) (by : Holder) (wants : List Want) (locks new : List LockView) (waiters : List WaiterView) (places after : List ℕ) (claims : List ClaimView) → AreLocksOf warehouses w_id locks
+    → AreEntryPlaces w_id locks waiters places → All (IsOwn warehouses w_id) wants → Grants by wants (locking w_id locks waiters places) claims (locking w_id new waiters after) → after ≡ with_marked (marks_of wants) places
+    → AreEntryPlaces w_id new waiters after
+granted_entered warehouses w_id by wants locks new waiters places after claims are entries own grants is = record {
+  inside = subst ArePlaces (sym is) (entered_inside wants places entries.inside);
+  used = λ group.
+      let awaited = is_awaited (map waiting_of waiters) group in
+      (λ i. is_entered (groups_at (grants.stands i) (is i)) group) ∙ newly warehouses w_id locks waiters places wants group are entries own
+      ∙ sym (uses.or_assoc (is_wanted wants group) (is_held (flat_map holdings_of locks) group) awaited)
+      ∙ sym (ap (λ b. b || awaited) (uses.held_granted by wants (flat_map holdings_of locks) (flat_map holdings_of new) group grants.holdings));
+}
+
+-- ---- turns
+
+-- an action that waited is granted its groups
+pub turn_entered : (w_id : ℕ) (by : Holder) (wants : List Want) (locks new : List LockView) (waiters rest : List WaiterView) (places after : List ℕ) (claims : List ClaimView) → AreEntryPlaces w_id locks waiters places
+    → IsPermutation (map waiting_of waiters) (waiting by wants ∷ map waiting_of rest) → Grants by wants (locking w_id locks waiters places) claims (locking w_id new rest after) → AreEntryPlaces w_id new rest places
+turn_entered w_id by wants locks new waiters rest places after claims entries moved grants = record {
+  inside = entries.inside;
+  used = λ group.
+      let held = is_held (flat_map holdings_of locks) group in
+      let awaited = is_awaited (map waiting_of rest) group in
+      ap (λ (ss : List Stand). is_entered (groups_at ss places) group) grants.stands ∙ entries.used group
+      ∙ ap (λ b. held || b) (uses.awaited_taken by wants (map waiting_of waiters) (map waiting_of rest) group moved)
+      ∙ uses.or_middle held (is_wanted wants group) awaited
+      ∙ sym (ap (λ b. b || awaited) (uses.held_granted by wants (flat_map holdings_of locks) (flat_map holdings_of new) group grants.holdings));
+}
+
+-- the entries that are still used
+pub kept_places : (warehouses w_id : ℕ) (locks : List LockView) (rest : List WaiterView) (places : List ℕ) → AreLocksOf warehouses w_id locks → All (IsParked warehouses w_id) rest → ArePlaces places
+    → groups_at (map stand_in locks) (filter (is_used_at locks rest) places) ≡ filter (is_used (flat_map holdings_of locks) (map waiting_of rest)) (groups_at (map stand_in locks) places)
+kept_places warehouses w_id locks rest places are all small =
+    let f = group_at (groups_in locks) in
+    let used = is_used (flat_map holdings_of locks) (map waiting_of rest) in
+    ap (map f) (filter_agrees (λ k. k < 105) (is_used_at locks rest) (λ k. used (f k)) (λ k inside. sym (used_there warehouses w_id k locks rest are all inside)) places small)
+    ∙ sym (filter_mapped used f places)
+
+-- an action that waited dies
+pub death_entered : (warehouses w_id : ℕ) (by : Holder) (wants : List Want) (locks : List LockView) (waiters rest : List WaiterView) (places : List ℕ) → AreLocksOf warehouses w_id locks → All (IsParked warehouses w_id) rest → AreEntryPlaces w_id locks waiters places
+    → IsPermutation (map waiting_of waiters) (waiting by wants ∷ map waiting_of rest) → AreEntryPlaces w_id locks rest (filter (is_used_at locks rest) places)
+death_entered warehouses w_id by wants locks waiters rest places are all entries moved = record {
+  inside = All-filter (is_used_at locks rest) (λ k. k < 105) places entries.inside;
+  used = λ group.
+      let used = is_used (flat_map holdings_of locks) (map waiting_of rest) in
+      ap (λ gs. is_entered gs group) (kept_places warehouses w_id locks rest places are all entries.inside)
+      ∙ uses.kept_entered used (groups_at (map stand_in locks) places) group
+      (λ still. entries.used group ∙ uses.weaker (is_held (flat_map holdings_of locks) group) (is_awaited (map waiting_of rest) group) (is_awaited (map waiting_of waiters) group)
+      (λ awaited. uses.awaited_taken by wants (map waiting_of waiters) (map waiting_of rest) group moved ∙ uses.or_right (is_wanted wants group) (is_awaited (map waiting_of rest) group) awaited) still);
+}

@@ -77,20 +77,20 @@ wanted_there warehouses w_id place group wants home at own =
     sym (any_mapped id H (group_wants wants)) ∙ sym (ap (list_any id) same) ∙ any_mapped id (is_at place) (flat_map spots_of wants)
     ∙ any_joined (is_at place) spots_of wants
 
+unlike : false ≡ true → ⊥
+unlike e = cc
+
 -- what is wanted is among the warehouse's groups
 each_inside : (groups : List Group) (group : Group) (ws : List GroupWant) → list_all (λ w. is_entered groups w.group) ws ≡ true → list_any (λ w. is_same w.group group) ws ≡ true → is_entered groups group ≡ true
 each_inside groups group [] all some = absurd (unlike some)
-  where
-    unlike : false ≡ true → ⊥
-    unlike e = cc
-each_inside groups group (w ∷ ws) all some = by (is_same w.group group) refl
+each_inside groups group (w ∷ ws) all some = by (is_same w.group group) refl (each_inside groups group ws parts.1)
   where
     parts : (is_entered groups w.group ≡ true) × (list_all (λ v. is_entered groups v.group) ws ≡ true)
     parts = and_parts (is_entered groups w.group) (list_all (λ v. is_entered groups v.group) ws) all
 
-    by : (b : Bool) → is_same w.group group ≡ b → is_entered groups group ≡ true
-    by true is = subst (λ (g : Group). is_entered groups g ≡ true) (is_same-equal w.group group is) parts.0
-    by false isnt = each_inside groups group ws parts.1 (sym (ap (λ (b : Bool). b || list_any (λ v. is_same v.group group) ws) isnt) ∙ some)
+    by : (b : Bool) → is_same w.group group ≡ b → (list_any (λ v. is_same v.group group) ws ≡ true → is_entered groups group ≡ true) → is_entered groups group ≡ true
+    by true is rest = subst (λ (g : Group). is_entered groups g ≡ true) (is_same-equal w.group group is) parts.0
+    by false isnt rest = rest (sym (ap (λ (b : Bool). b || list_any (λ v. is_same v.group group) ws) isnt) ∙ some)
 
 all_true : (xs : List Spot) → list_all (λ b. b) (map (λ s. true) xs) ≡ true
 all_true [] = refl
@@ -161,9 +161,6 @@ held_there warehouses w_id place locks are small =
         list_any-from_Any (λ (x : HeldClaim). is_same x.group group) holdings
         (contains_any (λ (x : HeldClaim). is_same x.group group ≡ true) holdings h (held_here locks place no_lock some.0 in_locks some.1)
         (subst (λ (g : Group). is_same lock.ticket_box.group g ≡ true) own (is_same-itself lock.ticket_box.group)))
-
-    unlike : false ≡ true → ⊥
-    unlike e = cc
 
 pub awaited_there : (warehouses w_id place : ℕ) (group : Group) (waiters : List WaiterView) → (1 ≤ w_id) × (w_id ≤ warehouses) → IsGroupAt warehouses w_id place group → All (IsParked warehouses w_id) waiters
     → is_awaited (map waiting_of waiters) group ≡ is_awaited_at waiters place

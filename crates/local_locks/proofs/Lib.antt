@@ -14,6 +14,7 @@ pub mod Rising
 pub mod GroupWanted
 pub mod Asks
 pub mod EntryPlaces
+pub mod EntryUses
 pub mod Entered
 pub mod Taken
 pub mod Returns

@@ -46,17 +46,10 @@ pub returns-in_err-waiter-in-Waits-clause-death_takes_none : goal.returns-in_err
 returns-in_err-waiter-in-Waits-clause-death_takes_none g c =
     on_err c.from_residual-in_err-waiter-in-Waits.result _ (no_death c.args.by c.args.wants.now c.args.self.now c.ask_at_once.new.self c.in_ok-answered.answered c.in-Waits.is c.in_ok-answered.ensures.answers)
 
-pub returns-in_err-push-in-Waits-clause-death_takes_none : goal.returns-in_err-push-in-Waits-clause-death_takes_none
-returns-in_err-push-in-Waits-clause-death_takes_none g c =
-    on_err c.from_residual-in_err-push-in-Waits.result _ (no_death c.args.by c.args.wants.now c.args.self.now c.ask_at_once.new.self c.in_ok-answered.answered c.in-Waits.is c.in_ok-answered.ensures.answers)
+pub returns-in_err-reserve-in-Waits-clause-death_takes_none : goal.returns-in_err-reserve-in-Waits-clause-death_takes_none
+returns-in_err-reserve-in-Waits-clause-death_takes_none g c =
+    on_err c.from_residual-in_err-reserve-in-Waits.result _ (no_death c.args.by c.args.wants.now c.args.self.now c.ask_at_once.new.self c.in_ok-answered.answered c.in-Waits.is c.in_ok-answered.ensures.answers)
 
-pub invariant_of-self-in-Waits : goal.invariant_of-self-in-Waits
-invariant_of-self-in-Waits g c =
-    let waits = recorded_to_wait c.args.by c.args.wants.now c.args.self.now c.ask_at_once.new.self c.in_ok-answered.answered c.in-Waits.is c.in_ok-answered.ensures.answers in
-    let can = still_own g.J.GroupNames.warehouses c.self.inside.w_id c.args.self.now c.ask_at_once.new.self c.args.wants.now (ap (λ (t : LockTableView). t.w_id) c.self.view_is) waits.1 c.requires in
-    let home = asks.home_there g.J.GroupNames.warehouses c.self.inside.w_id c.self.inside.locks.items c.self.invariant.0 in
-    let more = asks.parked_more g.J.GroupNames.warehouses c.self.inside.w_id c.self.inside.waiters.items c.args.by c.args.wants.now c.count_of.result c.self.invariant.1 can home c.count_of.ensures in (
-      c.self.invariant.0,
-      subst (All (IsParked g.J.GroupNames.warehouses c.self.inside.w_id))
-          (sym (put_last c.self.inside.waiters.items c.push.new.self.items c.in_ok-waiter-in-Waits.waiter c.args.by c.args.wants.now c.count_of.result c.in_ok-push-in-Waits.ensures.items c.in_ok-waiter-in-Waits.ensures)) more,
-    )
+pub returns-in_err-enter-in-Waits-clause-death_takes_none : goal.returns-in_err-enter-in-Waits-clause-death_takes_none
+returns-in_err-enter-in-Waits-clause-death_takes_none g c =
+    on_err c.from_residual-in_err-enter-in-Waits.result _ (no_death c.args.by c.args.wants.now c.args.self.now c.ask_at_once.new.self c.in_ok-answered.answered c.in-Waits.is c.in_ok-answered.ensures.answers)
