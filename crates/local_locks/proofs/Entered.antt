@@ -1,10 +1,12 @@
 -- The places of a table's entries, after a request, a grant, a turn and a return.
-use Rattle.std.proofs.Common.{◌≡◌, ◌≢◌, ℕ, ◌+◌, ◌<◌, ◌≤◌, Bool, true, false, eqb, List, [], ◌∷◌, ◌++◌, ◌||◌, ◌&&◌, not, length, get_or, map, refl, sym, ap, subst, ◌∙◌, ⊎_elim, cond, arith}
+use Rattle.std.proofs.Common.{◌≡◌, ◌≢◌, ℕ, ◌+◌, ◌<◌, ◌≤◌, Bool, true, false, eqb, List, [], ◌∷◌, ◌++◌, ◌||◌, ◌&&◌, not, Option, Some, None, slice_get, length, get_or, map, refl, sym, ap, subst, ◌∙◌, ⊎_elim, cond, arith}
 use Rattle.std.specs.Prelude.{All, filter}
 use Rattle.std.specs.List.{flat_map, list_any, range_with_len}
 use Rattle.std.specs.List.Sorted.{IsPermutation}
 use Rattle.std.proofs.lemmas.List.{get_or-map, get_or_default, length-map, map-append, same_lists}
-use Rattle.std.proofs.lemmas.List.Elements.{All-append, All-filter, filter_agree}
+use Rattle.std.specs.Option.{option_map}
+use Rattle.std.proofs.lemmas.List.Elements.{All-append, All-filter, All-weaker}
+use Rattle.std.proofs.lemmas.Option.{get_or_from_slice_get, none-some, slice_get-map, slice_get_cases}
 use Rattle.std.proofs.lemmas.List.FromFn.{get_or-map-range_with_len, length-map-range_with_len}
 use Rattle.requests.specs.declared.group.Group.{Group}
 use Rattle.requests.specs.declared.group.Group.TheVariants.{Warehouse}
@@ -12,13 +14,14 @@ use Rattle.groups.specs.declared.wants.Want.{Want}
 use Rattle.tickets.specs.Claims.{ClaimView}
 use Rattle.wait_die.specs.declared.deciding.Holder.{Holder}
 use Rattle.local_locks.specs.LockTableView.{LockTableView, Stand, WaitingAction, groups_of}
-use Rattle.local_locks.specs.GroupWants.{IsOwn}
+use Rattle.local_locks.specs.GroupWants.{IsOwn, IsWanted}
 use Rattle.local_locks.specs.Asking.{Grants, waiting}
-use Rattle.local_locks.specs.Entries.{entered, is_awaited, is_entered, is_held, is_new, is_used, is_wanted}
+use Rattle.local_locks.specs.Entries.{entered, is_awaited, is_entered, is_held, is_new, is_used, is_wanted, still_used}
 use Rattle.local_locks.specs.EntryPlaces.{AreEntryPlaces, ArePlaces, IsEnteredIfUsed, is_among, is_fresh, is_used_at, is_wanted_at, marks_of, with_marked}
 use Rattle.local_locks.specs.Locks.{LockView, WaiterView, AreLocksOf, IsParked, group_at, groups_at, holdings_of, locking, stand_in, waiter_view, waiting_of}
+use Rattle.local_locks.specs.Turns.{IsParkedThere}
 use Rattle.local_locks.proofs.Asks.{home_there}
-use Rattle.local_locks.proofs.EntryPlaces.{entered_there, group_there, groups_in, length-groups, used_there, wanted_inside, wanted_there}
+use Rattle.local_locks.proofs.EntryPlaces.{entered_there, group_there, groups_in, length-groups, lock_group, used_there, wanted_inside, wanted_there}
 use Rattle.local_locks.proofs.EntryUses as uses
 use Rattle.local_locks.proofs.Marked.{range_below}
 use Rattle.local_locks.proofs.Tested.{filter_agrees, filter_mapped}
@@ -95,6 +98,17 @@ waiting_entered warehouses w_id locks waiters places by wants count are entries 
       ∙ sym (ap (λ b. held || b) (ap (λ ws. is_awaited ws group) (map-append waiting_of waiters (waiter_view by wants count ∷ [])) ∙ uses.awaited_more by wants (map waiting_of waiters) group));
 }
 
+-- the table then
+pub waits_more : (warehouses w_id : ℕ) (table : LockTableView) (locks : List LockView) (waiters more : List WaiterView) (places after : List ℕ) (by : Holder) (wants : List Want) (count : ℕ) → locking w_id locks waiters places ≡ table
+    → AreLocksOf warehouses w_id locks → ArePlaces places → All (IsOwn warehouses w_id) wants → more ≡ waiters ++ waiter_view by wants count ∷ [] → after ≡ with_marked (marks_of wants) places
+    → locking w_id locks more after ≡ record table { waiters = table.waiters ++ waiting by wants ∷ []; entries = entered wants table }
+waits_more warehouses w_id table locks waiters more places after by wants count view are small own more_are after_are =
+    let waits : map waiting_of more ≡ map waiting_of waiters ++ waiting by wants ∷ [] = ap (map waiting_of) more_are ∙ map-append waiting_of waiters (waiter_view by wants count ∷ []) in
+    let entries : groups_at (map stand_in locks) after ≡ entered wants (locking w_id locks waiters places) =
+    ap (groups_at (map stand_in locks)) after_are ∙ entered_places warehouses w_id locks waiters places wants are small own in
+    (λ i. record (locking w_id locks waiters places) { waiters = waits i; entries = entries i })
+    ∙ ap (λ (t : LockTableView). record t { waiters = t.waiters ++ waiting by wants ∷ []; entries = entered wants t }) view
+
 -- an action is granted its groups
 pub granted_entered : (warehouses w_id : ℕ) (by : Holder) (wants : List Want) (locks new : List LockView) (waiters : List WaiterView) (places after : List ℕ) (claims : List ClaimView) → AreLocksOf warehouses w_id locks
     → AreEntryPlaces w_id locks waiters places → All (IsOwn warehouses w_id) wants → Grants by wants (locking w_id locks waiters places) claims (locking w_id new waiters after) → after ≡ with_marked (marks_of wants) places
@@ -145,3 +159,31 @@ death_entered warehouses w_id by wants locks waiters rest places are all entries
       (λ still. entries.used group ∙ uses.weaker (is_held (flat_map holdings_of locks) group) (is_awaited (map waiting_of rest) group) (is_awaited (map waiting_of waiters) group)
       (λ awaited. uses.awaited_taken by wants (map waiting_of waiters) (map waiting_of rest) group moved ∙ uses.or_right (is_wanted wants group) (is_awaited (map waiting_of rest) group) awaited) still);
 }
+
+-- the table then
+pub death_table : (warehouses w_id : ℕ) (table : LockTableView) (locks : List LockView) (waiters rest : List WaiterView) (places kept : List ℕ) → locking w_id locks waiters places ≡ table → AreLocksOf warehouses w_id locks → All (IsParked warehouses w_id) rest → ArePlaces places
+    → kept ≡ filter (is_used_at locks rest) places → locking w_id locks rest kept ≡ record table { waiters = map waiting_of rest; entries = still_used table.holdings (map waiting_of rest) table.entries }
+death_table warehouses w_id table locks waiters rest places kept view are all small is =
+    let entries : groups_at (map stand_in locks) kept ≡ still_used (flat_map holdings_of locks) (map waiting_of rest) (groups_at (map stand_in locks) places) =
+    ap (groups_at (map stand_in locks)) is ∙ kept_places warehouses w_id locks rest places are all small in
+    (λ i. record (locking w_id locks waiters places) { waiters = map waiting_of rest; entries = entries i })
+    ∙ ap (λ (t : LockTableView). record t { waiters = map waiting_of rest; entries = still_used t.holdings (map waiting_of rest) t.entries }) view
+
+-- all groups for which these wait exist
+pub all_there : (warehouses w_id : ℕ) (waiters : List WaiterView) → All (IsParked warehouses w_id) waiters → All (IsParkedThere warehouses) waiters
+all_there warehouses w_id waiters all =
+    All-weaker (IsParked warehouses w_id) (IsParkedThere warehouses) (λ p parked. All-weaker (IsOwn warehouses w_id) (IsWanted warehouses) (λ want own. own.0) p.wants parked.can.own) waiters all
+
+-- ---- one entry
+
+pub entry_at : (locks : List LockView) (places : List ℕ) (n place : ℕ) (lock : LockView) (group : Group) → length locks ≡ 105 → ArePlaces places → slice_get places n ≡ Some place → lock ≡ get_or locks place lock → group ≡ lock.ticket_box.group
+    → Some group ≡ slice_get (groups_at (map stand_in locks) places) n
+entry_at locks places n place lock group long small found is own =
+    ⊎_elim
+    (λ (inside : (x : ℕ) × (n < length places) × (slice_get places n ≡ Some x) × (get_or places n x ≡ x)).
+    let here : get_or places n 0 ≡ place = get_or_from_slice_get places n place 0 found in
+    let below : place < length locks = omega (arith, small n 0 inside.1, here, long) in
+    let same : group ≡ group_at (groups_in locks) place = own ∙ ap (λ (l : LockView). l.ticket_box.group) is ∙ sym (lock_group locks place lock below) in
+    ap {B = Option Group} Some same ∙ sym (slice_get-map (group_at (groups_in locks)) places n ∙ ap (option_map (group_at (groups_in locks))) found))
+    (λ (past : (length places ≤ n) × (slice_get places n ≡ None)). absurd (none-some place (sym past.1 ∙ found)))
+    (slice_get_cases places n).1

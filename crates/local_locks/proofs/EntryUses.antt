@@ -1,24 +1,24 @@
 -- Which groups have an entry, and which are held or waited for, after a request, a grant, a turn and a return.
-use Rattle.std.proofs.Common.{◌≡◌, ◌≢◌, Bool, true, false, List, [], ◌∷◌, ◌++◌, ◌||◌, ◌&&◌, not, map, refl, sym, ap, subst, ◌∙◌}
+use Rattle.std.proofs.Common.{◌≡◌, ◌≢◌, Bool, true, false, List, [], ◌∷◌, ◌++◌, ◌||◌, ◌&&◌, not, get_or, map, refl, sym, ap, subst, ◌∙◌}
 use Rattle.std.specs.Prelude.{filter}
 use Rattle.std.specs.List.{list_any}
 use Rattle.std.specs.List.Sorted.{IsPermutation}
-use Rattle.std.proofs.lemmas.List.Folds.{list_any-append}
+use Rattle.std.proofs.lemmas.List.Folds.{list_any-append, list_any_at}
 use Rattle.std.proofs.lemmas.List.Sorted.{list_any-IsPermutation}
 use Rattle.std.proofs.lemmas.Map.Views.{any-filter_same}
 use Rattle.requests.specs.declared.group.Group.{Group}
 use Rattle.groups.specs.Groups.{is_same}
 use Rattle.groups.specs.declared.group_wants.GroupWant.{GroupWant}
 use Rattle.groups.specs.declared.wants.Want.{Want}
-use Rattle.groups.proofs.SameGroups.{is_same-equal, is_same-other}
+use Rattle.groups.proofs.SameGroups.{is_same-equal, is_same-itself, is_same-other}
 use Rattle.tickets.specs.Claims.{ClaimView}
 use Rattle.wait_die.specs.declared.deciding.Holder.{Holder}
 use Rattle.local_locks.specs.LockTableView.{HeldClaim, LockTableView, WaitingAction, groups_of}
 use Rattle.local_locks.specs.GroupWants.{group_wants}
 use Rattle.local_locks.specs.Asking.{AreTogether, claimed, held_by, held_for, waiting}
-use Rattle.local_locks.specs.Entries.{entered, is_awaited, is_entered, is_held, is_new, is_used, is_wanted}
+use Rattle.local_locks.specs.Entries.{entered, is_awaited, is_entered, is_held, is_new, is_used, is_wanted, still_used}
 use Rattle.local_locks.specs.EntryPlaces.{IsEnteredIfUsed}
-use Rattle.local_locks.proofs.Tested.{any_mapped}
+use Rattle.local_locks.proofs.Tested.{any_mapped, filter_all, filter_weaker}
 
 -- ---- tests together
 
@@ -110,3 +110,26 @@ held_elsewhere claim old new group apart together =
 pub weaker : (a b c : Bool) → (b ≡ true → c ≡ true) → (a || b) ≡ true → (a || c) ≡ true
 weaker true b c more is = refl
 weaker false b c more is = more is
+
+pub weaker_left : (a b c : Bool) → (a ≡ true → b ≡ true) → (a || c) ≡ true → (b || c) ≡ true
+weaker_left true b c more is = ap (λ d. d || c) (more refl)
+weaker_left false true c more is = refl
+weaker_left false false c more is = is
+
+-- what is still used once a claim is back was used
+pub used_before : (claim : ClaimView) (old new : List HeldClaim) (waiters : List WaitingAction) (group : Group) → AreTogether old (held_by claim ∷ []) new → is_used new waiters group ≡ true → is_used old waiters group ≡ true
+used_before claim old new waiters group together used =
+    weaker_left (is_held new group) (is_held old group) (is_awaited waiters group) (held_before old (held_by claim ∷ []) new group together) used
+
+-- each entry is used
+pub all_used : (holdings : List HeldClaim) (waiters : List WaitingAction) (entries : List Group) → ((group : Group) → is_entered entries group ≡ is_used holdings waiters group) → still_used holdings waiters entries ≡ entries
+all_used holdings waiters entries used =
+    filter_all (is_used holdings waiters) entries
+    (λ k d small. let group = get_or entries k d in sym (used group) ∙ list_any_at (is_same group) entries k d small (is_same-itself group))
+
+-- one more claim is back
+pub still_fewer : (claim : ClaimView) (left next : List HeldClaim) (were are : List WaitingAction) (entries before after : List Group) → before ≡ still_used left were entries → AreTogether left (held_by claim ∷ []) next → are ≡ were → after ≡ still_used next are before
+    → after ≡ still_used next are entries
+still_fewer claim left next were are entries before after so_far together same gone =
+    gone ∙ ap (still_used next are) (so_far ∙ ap (λ ws. still_used left ws entries) (sym same))
+    ∙ filter_weaker (is_used left are) (is_used next are) (λ group used. used_before claim left next are group together used) entries

@@ -20,6 +20,7 @@ pub mod Taken
 pub mod Returns
 pub mod Keeping
 pub mod Opened
+pub mod EntryReturns
 pub mod Stands
 pub mod Left
 pub mod Named

@@ -42,7 +42,7 @@ opened_locks warehouses w_id boxes are = record {
       subst (IsLockAt warehouses w_id k) (sym (get_or-map new_lock boxes k d.ticket_box d there)) is;
 }
 
-no_holdings : (boxes : List TicketBoxView) → flat_map holdings_of (map new_lock boxes) ≡ []
+pub no_holdings : (boxes : List TicketBoxView) → flat_map holdings_of (map new_lock boxes) ≡ []
 no_holdings [] = refl
 no_holdings (b ∷ boxes) = no_holdings boxes
 

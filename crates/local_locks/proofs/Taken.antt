@@ -62,6 +62,12 @@ map_removed f xs index =
     map-append f (take index xs) (drop (suc index) xs)
     ∙ sym (λ i. take-map f index xs i ++ drop-map f (suc index) xs i)
 
+-- in contracts: the action that was removed, and the others
+pub others : (warehouses w_id : ℕ) (locks : List LockView) (waiters rest : List WaiterView) (p : WaiterView) (next : Next) → IsTaken warehouses w_id locks waiters rest p next → IsPermutation (map waiting_of waiters) (waiting next.by p.wants ∷ map waiting_of rest)
+others warehouses w_id locks waiters rest p next t =
+    subst (λ (w : WaitingAction). IsPermutation (map waiting_of waiters) (w ∷ map waiting_of rest)) (ap (λ (by : Holder). waiting by p.wants) (by_taken warehouses w_id locks waiters rest p next t))
+    (IsPermutation-map waiting_of waiters (p ∷ rest) (moved warehouses w_id locks waiters rest p next t))
+
 pub turn_taken : (warehouses w_id : ℕ) (table : LockTableView) (locks new : List LockView) (waiters rest : List WaiterView) (places after : List ℕ) (p : WaiterView) (next : Next) → locking w_id locks waiters places ≡ table → IsTaken warehouses w_id locks waiters rest p next
     → IsTurnOf next.index (waiting next.by p.wants) table (locking w_id new rest after)
 turn_taken warehouses w_id table locks new waiters rest places after p next view t =
@@ -71,7 +77,7 @@ turn_taken warehouses w_id table locks new waiters rest places after p next view
       inside = omega (arith, t.is.inside, length-map waiters waiting_of);
       there = λ d. get_or-map waiting_of waiters next.index p d t.is.inside ∙ ap waiting_of (sym t.taken) ∙ named;
       rest = ap (map waiting_of) t.left ∙ map_removed waiting_of waiters next.index;
-      waiters = subst (λ (w : WaitingAction). IsPermutation (map waiting_of waiters) (w ∷ map waiting_of rest)) named (IsPermutation-map waiting_of waiters (p ∷ rest) (moved warehouses w_id locks waiters rest p next t));
+      waiters = others warehouses w_id locks waiters rest p next t;
       first = All-map (WaitsIfBefore (flat_map holdings_of locks) next.by) waiting_of waiters
           (λ k d small before. records_wait warehouses w_id locks (get_or waiters k d).wants (get_or waiters k d).by.age no_lock t.locks_of (t.all k d small).can.own (t.is.first k d small before));
     })

@@ -198,6 +198,8 @@ impl<J: GroupNames> LockTable<J> {
             ≡ still_used self.new.holdings self.new.waiters self.old.entries }
         ensures warehouse { self.new.w_id ≡ self.old.w_id }
     {
+        // Each entry is used now.
+        self.agree();
         for claim in claims {
             self.take_back(claim);
         }

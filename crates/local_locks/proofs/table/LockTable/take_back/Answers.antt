@@ -30,12 +30,6 @@ comes_back g c is = record {
 pub take_back-requires-clause-group : goal.take_back-requires-clause-group
 take_back-requires-clause-group g c = (home g c).group
 
-pub invariant_of-self : goal.invariant_of-self
-invariant_of-self g c =
-    let is = home g (goal.at.invariant_of-self g c).After-index_mut in
-    let locks = c.self.inside.locks.items in
-    (back_locks g.J.GroupNames.warehouses locks c.place_of_claim-number.result c.index_mut.result.now c.take_back.new.self is.small c.index_mut.ensures.value c.take_back.ensures.ticket_box c.take_back.ensures.agree.1 c.self.inside.w_id c.self.invariant.0, c.self.invariant.1)
-
 pub returns-clause-out : goal.returns-clause-out
 returns-clause-out g c =
     let at = goal.at.returns-clause-out g c in
