@@ -4,7 +4,7 @@ use Rattle.requests.specs.declared.group.Group.{Group}
 use Rattle.local_locks.specs.LockTableView.{Stand, groups_of}
 use Rattle.local_locks.specs.Locks.{group_at, groups_at}
 
-groups_kept : (change : Stand → Stand) → ((s : Stand) → (change s).group ≡ s.group) → (stands : List Stand) → groups_of (map change stands) ≡ groups_of stands
+pub groups_kept : (change : Stand → Stand) → ((s : Stand) → (change s).group ≡ s.group) → (stands : List Stand) → groups_of (map change stands) ≡ groups_of stands
 groups_kept change same [] = refl
 groups_kept change same (s ∷ stands) = let rest = groups_kept change same stands in λ i. same s i ∷ rest i
 

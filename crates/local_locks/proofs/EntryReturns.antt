@@ -16,7 +16,7 @@ use Rattle.tickets.specs.Places.{place_in_warehouse}
 use Rattle.local_locks.specs.LockTableView.{HeldClaim, WaitingAction}
 use Rattle.local_locks.specs.Asking.{AreTogether, held_by}
 use Rattle.local_locks.specs.Entries.{is_awaited, is_entered, is_held, is_used, still_used}
-use Rattle.local_locks.specs.EntryPlaces.{AreEntryPlaces, ArePlaces, is_used_at, without}
+use Rattle.local_locks.specs.EntryPlaces.{AreEntryPlaces, ArePlaces, is_used_at, kept_if}
 use Rattle.local_locks.specs.Locks.{LockView, WaiterView, AreLocksOf, IsParked, group_at, groups_at, holdings_of, stand_in, waiting_of}
 use Rattle.local_locks.proofs.EntryPlaces.{group_there, groups_in, same_place, used_there}
 use Rattle.local_locks.proofs.EntryUses as uses
@@ -24,10 +24,6 @@ use Rattle.local_locks.proofs.Opened.{new_lock, no_holdings}
 use Rattle.local_locks.proofs.Tested.{filter_agrees, filter_all, filter_mapped}
 
 -- ---- one group may go
-
--- the places, without this one if it isn't used any more
-abbrev pub kept_if : Bool → ℕ → List ℕ → List ℕ
-kept_if used place places = cond used places (without place places)
 
 -- where all others are still used
 kept_by : (test : Group → Bool) (f : ℕ → Group) (used : Bool) (place : ℕ) (places : List ℕ) → All (λ k. test (f k) ≡ cond (eqb place k) used true) places → map f (kept_if used place places) ≡ filter test (map f places)

@@ -14,7 +14,7 @@ use Rattle.std.proofs.lemmas.Map.Keys.{IsDistinct-head, IsDistinct-tail}
 use Rattle.indexmap.specs.IndexSet.{insert_key}
 use Rattle.groups.specs.declared.group_wants.Mode.{Mode}
 use Rattle.groups.specs.declared.wants.Want.{Want}
-use Rattle.local_locks.specs.EntryPlaces.{is_among, is_at, is_fresh, is_wanted_at, marks_of, without}
+use Rattle.local_locks.specs.EntryPlaces.{is_among, is_at, is_fresh, is_wanted_at, kept_if, marks_of, without}
 use Rattle.local_locks.specs.Rulings.{Spot, spot, spots}
 use Rattle.local_locks.proofs.Tested.{filter_agrees, filter_all, filter_both, same_test}
 
@@ -190,7 +190,7 @@ module _ (used : ℕ → Bool) where
       or_true false p = grind arith
 
   -- one more place is used
-  pub used_looked : (place : ℕ) (ps : List ℕ) → used place ≡ true → filter (stays place) ps ≡ filter (stays (place + 1)) ps
+  used_looked : (place : ℕ) (ps : List ℕ) → used place ≡ true → filter (stays place) ps ≡ filter (stays (place + 1)) ps
   used_looked place ps is = filter_agree (stays place) (stays (place + 1)) each ps
     where
       each : (p : ℕ) → stays place p ≡ stays (place + 1) p
@@ -203,7 +203,7 @@ module _ (used : ℕ → Bool) where
           (eqb_tells p place)
 
   -- one more place is not, and is left out
-  pub unused_looked : (place : ℕ) (ps : List ℕ) → used place ≡ false → without place (filter (stays place) ps) ≡ filter (stays (place + 1)) ps
+  unused_looked : (place : ℕ) (ps : List ℕ) → used place ≡ false → without place (filter (stays place) ps) ≡ filter (stays (place + 1)) ps
   unused_looked place ps isnt = filter_both (stays place) (λ p. not (eqb place p)) ps ∙ filter_agree (λ p. stays place p && not (eqb place p)) (stays (place + 1)) each ps
     where
       gone : (p : ℕ) → place ≡ p → (true && not (eqb place p)) ≡ (false || not (ltb p (place + 1)))
@@ -225,6 +225,13 @@ module _ (used : ℕ → Bool) where
           (λ (other : (eqb place p ≡ false) × (place ≢ p)).
           (λ i. stays place p && not (other.0 i)) ∙ and_true (stays place p) ∙ ap (λ b. used p || not b) (same_side place p (λ same. other.1 (sym same))))
           (eqb_tells place p)
+
+  pub looked : (place : ℕ) (ps : List ℕ) → kept_if (used place) place (filter (stays place) ps) ≡ filter (stays (place + 1)) ps
+  looked place ps = by (used place) refl
+    where
+      by : (b : Bool) → used place ≡ b → kept_if (used place) place (filter (stays place) ps) ≡ filter (stays (place + 1)) ps
+      by true is = ap (λ b. kept_if b place (filter (stays place) ps)) is ∙ used_looked place ps is
+      by false isnt = ap (λ b. kept_if b place (filter (stays place) ps)) isnt ∙ unused_looked place ps isnt
 
   pub all_looked : (ps : List ℕ) → All (λ p. p < 105) ps → filter (stays 105) ps ≡ filter used ps
   all_looked ps small = filter_agrees (λ p. p < 105) (stays 105) used (λ p below. ap (λ b. used p || b) (before p below) ∙ or_false (used p)) ps small

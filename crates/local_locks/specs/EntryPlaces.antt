@@ -1,5 +1,5 @@
 -- The entries of a lock table, by the places of groups among those of the warehouse.
-use Rattle.std.specs.Prelude.{◌≡◌, ◌==◌, ◌&&◌, ◌||◌, ℕ, ◌<◌, Bool, false, not, List, ◌++◌, All, filter, length, map, slice_index_or}
+use Rattle.std.specs.Prelude.{◌≡◌, ◌==◌, ◌&&◌, ◌||◌, ℕ, ◌<◌, Bool, false, not, List, ◌++◌, All, filter, length, map, slice_index_or, if◌then◌else◌}
 use Rattle.std.specs.List.{list_any, range_with_len}
 use Rattle.requests.specs.declared.group.Group.{Group}
 use Rattle.groups.specs.declared.wants.Want.{Want}
@@ -59,6 +59,10 @@ with_marked marks places = places ++ filter (is_fresh marks places) (range_with_
 -- the places without this one
 abbrev pub without : ℕ → List ℕ → List ℕ
 without place places = filter (λ other. not (place == other)) places
+
+-- the places, without this one if it is not used
+abbrev pub kept_if : Bool → ℕ → List ℕ → List ℕ
+kept_if used place places = if used then places else without place places
 
 -- these are places of a warehouse's groups
 abbrev pub ArePlaces : List ℕ → Type 0

@@ -4,7 +4,7 @@ ghost use Rattle.std.specs.Prelude.{◌≡◌, ◌<◌, ◌≤◌, ◌+◌, [], 
 ghost use Rattle.std.specs.List.{IsDistinct};
 ghost use Rattle.indexmap.specs.IndexSet.{insert_key, spare};
 ghost use Rattle.local_locks.specs.EntryPlaces as spec;
-ghost use Rattle.local_locks.specs.EntryPlaces.{ArePlaces, with_marked, without};
+ghost use Rattle.local_locks.specs.EntryPlaces.{ArePlaces, kept_if, with_marked, without};
 ghost use Rattle.local_locks.specs.Turns.{IsParkedThere};
 
 use crate::lock::Lock;
@@ -134,17 +134,30 @@ fn is_awaited_at<J: GroupNames>(waiters: &[Waiter<J>], place: usize) -> bool
     false
 }
 
-/// Returns whether the group at a place is held or waited for.
-pub(crate) fn is_used_at<J: GroupNames>(
-    locks: &[Lock<J>],
-    waiters: &[Waiter<J>],
-    place: usize,
-) -> bool
+// Returns whether the group at a place is held or waited for.
+fn is_used_at<J: GroupNames>(locks: &[Lock<J>], waiters: &[Waiter<J>], place: usize) -> bool
     requires place { place < length locks.now }
     requires there { All (IsParkedThere J.warehouses) waiters.now }
     ensures { result ≡ spec.is_used_at locks.now waiters.now place }
 {
     locks[place].is_lent() || is_awaited_at(waiters, place)
+}
+
+/// Leaves a place out if its group is neither held nor waited for. The others keep their order.
+pub(crate) fn leave_if_unused<J: GroupNames>(
+    entries: &mut Entries,
+    locks: &[Lock<J>],
+    waiters: &[Waiter<J>],
+    place: usize,
+)
+    requires place { place < length locks.now }
+    requires there { All (IsParkedThere J.warehouses) waiters.now }
+    ensures { entries.new
+        ≡ kept_if (spec.is_used_at locks.now waiters.now place) place entries.old }
+{
+    if !is_used_at(locks, waiters, place) {
+        entries.leave_out(place);
+    }
 }
 
 /// Leaves out the entries whose groups are neither held nor waited for. The others keep their order.
@@ -159,8 +172,6 @@ pub(crate) fn keep_used<J: GroupNames>(
     ensures { entries.new ≡ filter (spec.is_used_at locks.now waiters.now) entries.old }
 {
     for place in 0..GROUPS_PER_WAREHOUSE {
-        if !is_used_at(locks, waiters, place) {
-            entries.leave_out(place);
-        }
+        leave_if_unused(entries, locks, waiters, place);
     }
 }

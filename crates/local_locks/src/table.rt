@@ -11,7 +11,7 @@ ghost use Rattle.local_locks.specs.Laws.{AreUntouched, CouldAsk, IsClaimOf, None
 ghost use Rattle.local_locks.specs.LockTableView.{back_in, left_in, opened, AreBoxesOf, AreStandsOf};
 ghost use Rattle.local_locks.specs.GroupWants.{CanAsk};
 
-use crate::entries::{Entries, is_used_at, keep_used};
+use crate::entries::{Entries, keep_used, leave_if_unused};
 use crate::granting::{count_of, grant_all};
 use crate::lock::Lock;
 use crate::places::place_of_claim;
@@ -180,9 +180,7 @@ impl<J: GroupNames> LockTable<J> {
     {
         let number = place_of_claim(&claim);
         self.locks[number].take_back(claim);
-        if !is_used_at(&self.locks, &self.waiters, number) {
-            self.entries.leave_out(number);
-        }
+        leave_if_unused(&mut self.entries, &self.locks, &self.waiters, number);
     }
 
     /// Takes claims back, each as `take_back` does. Never allocates.

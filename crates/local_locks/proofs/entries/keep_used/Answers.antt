@@ -1,9 +1,8 @@
-use Rattle.std.proofs.Common.{◌≡◌, ◌∙◌, ℕ, sym, ap, arith}
+use Rattle.std.proofs.Common.{◌≡◌, ◌∙◌, ℕ, ap, arith}
 use Rattle.std.specs.Prelude.{filter}
-use Rattle.local_locks.specs.EntryPlaces.{is_used_at, without}
-use Rattle.local_locks.proofs.Marked.{all_looked, none_looked, stays, unused_looked, used_looked}
+use Rattle.local_locks.specs.EntryPlaces.{is_used_at, kept_if}
+use Rattle.local_locks.proofs.Marked.{all_looked, looked, none_looked, stays}
 use Rattle.local_locks.proofs.entries.keep_used.Goals as goal
-use Rattle.local_locks.proofs.entries.keep_used.Goals.{then-not-is_used_at, else-not-is_used_at}
 
 pub loop-place-init : goal.loop-place-init
 loop-place-init g c = none_looked (is_used_at c.args.locks.now c.args.waiters.now) c.args.entries.now
@@ -12,10 +11,7 @@ pub loop-place-preserved : goal.loop-place-preserved
 loop-place-preserved g c =
     let used = is_used_at c.args.locks.now c.args.waiters.now in
     let place = c.loop-place.place in
-    elim c.if-not-is_used_at.branch [
-      then-not-is_used_at w ↦ w.entries-is ∙ w.leave_out.ensures ∙ ap (without place) c.loop-place.invariant ∙ unused_looked used place c.args.entries.now (sym c.is_used_at.ensures ∙ w.if-not-is_used_at.true)
-    | else-not-is_used_at w ↦ w.entries-is ∙ c.loop-place.invariant ∙ used_looked used place c.args.entries.now (sym c.is_used_at.ensures ∙ w.if-not-is_used_at.false)
-    ]
+    c.leave_if_unused.ensures ∙ ap (kept_if (used place) place) c.loop-place.invariant ∙ looked used place c.args.entries.now
 
 pub returns : goal.returns
 returns g c =
