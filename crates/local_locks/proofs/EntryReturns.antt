@@ -1,25 +1,30 @@
 -- The places of a table's entries, after a claim is back.
-use Rattle.std.proofs.Common.{◌≡◌, ◌≢◌, ℕ, ◌<◌, ◌≤◌, Bool, true, false, eqb, List, [], ◌∷◌, ◌||◌, not, length, get_or, map, refl, sym, ap, subst, ◌∙◌, ⊎_elim, cond, arith}
+use Rattle.std.proofs.Common.{◌≡◌, ◌≢◌, ℕ, ◌<◌, ◌≤◌, Bool, true, false, eqb, List, [], ◌∷◌, ◌||◌, not, length, get_or, set, map, refl, sym, ap, subst, ◌∙◌, ⊎_elim, cond, arith}
 use Rattle.std.specs.Prelude.{All, filter}
 use Rattle.std.specs.List.{AllByRecursion, IsDistinct, flat_map}
 use Rattle.std.proofs.lemmas.Bool.Decides.{eqb_tells}
-use Rattle.std.proofs.lemmas.List.{get_or-map, length-map}
+use Rattle.std.proofs.lemmas.List.{get_or-map, get_or_default, length-map}
 use Rattle.std.proofs.lemmas.List.Elements.{All-filter, All-get_or, All-head, All-nil, All-tail}
 use Rattle.std.proofs.lemmas.List.Folds.{list_any_at}
 use Rattle.std.proofs.lemmas.Map.Keys.{IsDistinct-cons, IsDistinct-head, IsDistinct-tail}
 use Rattle.requests.specs.declared.group.Group.{Group}
 use Rattle.groups.specs.Groups.{is_same}
 use Rattle.groups.proofs.SameGroups.{is_same-itself}
-use Rattle.tickets.specs.Boxes.{TicketBoxView}
+use Rattle.groups.specs.Content.{Content}
+use Rattle.tickets.specs.Boxes.{TicketBoxView, with_left}
 use Rattle.tickets.specs.Claims.{ClaimView}
-use Rattle.tickets.specs.Places.{place_in_warehouse}
+use Rattle.tickets.specs.Places.{IsGroupOf, place_in_warehouse}
 use Rattle.local_locks.specs.LockTableView.{HeldClaim, WaitingAction}
-use Rattle.local_locks.specs.Asking.{AreTogether, held_by}
+use Rattle.local_locks.specs.Asking.{AreTogether, held_by, left_after}
 use Rattle.local_locks.specs.Entries.{is_awaited, is_entered, is_held, is_used, still_used}
 use Rattle.local_locks.specs.EntryPlaces.{AreEntryPlaces, ArePlaces, is_used_at, kept_if}
-use Rattle.local_locks.specs.Locks.{LockView, WaiterView, AreLocksOf, IsParked, group_at, groups_at, holdings_of, stand_in, waiting_of}
+use Rattle.local_locks.specs.Locks.{LockView, lock_view, WaiterView, AreLocksOf, IsLocked, IsParked, group_at, groups_at, holdings_of, stand_in, waiting_of}
 use Rattle.local_locks.proofs.EntryPlaces.{group_there, groups_in, same_place, used_there}
 use Rattle.local_locks.proofs.EntryUses as uses
+use Rattle.local_locks.proofs.EntryGroups.{entries_kept}
+use Rattle.local_locks.proofs.Grants.{one_lock}
+use Rattle.local_locks.proofs.Returns.{left_held, left_stands}
+use Rattle.local_locks.proofs.Stands.{inside}
 use Rattle.local_locks.proofs.Opened.{new_lock, no_holdings}
 use Rattle.local_locks.proofs.Tested.{filter_agrees, filter_all, filter_mapped}
 
@@ -126,3 +131,25 @@ none_entered w_id boxes = record {
   inside = All-nil (λ k. k < 105);
   used = λ group. sym (ap (λ (hs : List HeldClaim). is_held hs group || false) (no_holdings boxes));
 }
+
+-- ---- work under a claim
+
+-- the table is as it was where something else is left in a group
+pub left_kept : (warehouses w_id : ℕ) (locks : List LockView) (waiters : List WaiterView) (places : List ℕ) (number : ℕ) (d new : LockView) (group : Group) (content : Content) → AreLocksOf warehouses w_id locks → All (IsParked warehouses w_id) waiters
+    → AreEntryPlaces w_id locks waiters places → IsGroupOf warehouses group → number ≡ place_in_warehouse group → new ≡ lock_view (with_left (get_or locks number d).ticket_box content) (get_or locks number d).holders → IsLocked new
+    → AreLocksOf warehouses w_id (set locks number new) × All (IsParked warehouses w_id) waiters × AreEntryPlaces w_id (set locks number new) waiters places
+left_kept warehouses w_id locks waiters places number d new group content are all entries known at made agree =
+    let old = get_or locks number d in
+    let small : number < length locks = omega (arith, inside warehouses group known, at, are.all_there) in
+    let is : old ≡ get_or locks number old = get_or_default locks number d old small in
+    let stands = left_stands warehouses w_id locks number old new old.ticket_box.group content are small is made refl in
+    let held = left_held locks number d new small (ap holdings_of made) in
+    let groups : groups_at (map stand_in (set locks number new)) places ≡ groups_at (map stand_in locks) places =
+    ap (λ ss. groups_at ss places) stands ∙ entries_kept (left_after old.ticket_box.group content) (λ s. refl) (map stand_in locks) places in (
+      one_lock warehouses w_id locks number old new small is (ap (λ (l : LockView). l.ticket_box.group) made) agree are,
+      all,
+      record {
+        inside = entries.inside;
+        used = λ group. ap (λ gs. is_entered gs group) groups ∙ entries.used group ∙ sym (ap (λ hs. is_used hs (map waiting_of waiters) group) held);
+      },
+    )

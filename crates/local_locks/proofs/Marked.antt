@@ -3,7 +3,7 @@ use Rattle.std.proofs.Common.{◌≡◌, ◌≢◌, ℕ, zero, suc, ◌+◌, ◌
 use Rattle.std.specs.Prelude.{All, Contains, count_by, filter, if◌then◌else◌}
 use Rattle.std.specs.List.{AllByRecursion, IsDistinct, flat_map, list_any, range_with_len}
 use Rattle.std.specs.Set.{remove_key}
-use Rattle.std.proofs.lemmas.Bool.{eqb-true, eq-eqb, false_from_ne_true, true_from_ne_false}
+use Rattle.std.proofs.lemmas.Bool.{eqb-true, eq-eqb, false_from_ne_true, or_parts, true_from_ne_false}
 use Rattle.std.proofs.lemmas.Bool.Decides.{eqb_tells}
 use Rattle.std.proofs.lemmas.List.{append-nil, get_or_default, get_or-set_same, get_or-set_other, map-id, same_lists}
 use Rattle.std.proofs.lemmas.List.Elements.{All-filter, filter-append, filter_agree}
@@ -232,6 +232,28 @@ module _ (used : ℕ → Bool) where
       by : (b : Bool) → used place ≡ b → kept_if (used place) place (filter (stays place) ps) ≡ filter (stays (place + 1)) ps
       by true is = ap (λ b. kept_if b place (filter (stays place) ps)) is ∙ used_looked place ps is
       by false isnt = ap (λ b. kept_if b place (filter (stays place) ps)) isnt ∙ unused_looked place ps isnt
+
+  stays_in : (place p : ℕ) → p ≢ place → stays place p ≡ stays (place + 1) p
+  stays_in place p apart = ap (λ b. used p || not b) (same_side place p apart)
+
+  -- one more place has no entry
+  pub absent_looked : (place : ℕ) (ps : List ℕ) → is_among (filter (stays place) ps) place ≡ false → filter (stays place) ps ≡ filter (stays (place + 1)) ps
+  absent_looked place [] absent = refl
+  absent_looked place (p ∷ ps) absent = by (stays place p) refl (absent_looked place ps)
+    where
+      from_here : p ≡ place → not (ltb p place) ≡ true
+      from_here same = grind arith
+
+      by : (b : Bool) → stays place p ≡ b → (is_among (filter (stays place) ps) place ≡ false → filter (stays place) ps ≡ filter (stays (place + 1)) ps)
+          → cond (stays place p) (p ∷ filter (stays place) ps) (filter (stays place) ps) ≡ cond (stays (place + 1) p) (p ∷ filter (stays (place + 1)) ps) (filter (stays (place + 1)) ps)
+      by true is rest =
+          let parts = or_parts (eqb place p) (is_among (filter (stays place) ps) place) (sym (ap (λ b. is_among (cond b (p ∷ filter (stays place) ps) (filter (stays place) ps)) place) is) ∙ absent) in
+          let apart : p ≢ place = λ same. unlike (sym parts.0 ∙ eq-eqb place p (sym same)) in
+          λ i. cond (stays_in place p apart i) (p ∷ rest parts.1 i) (rest parts.1 i)
+      by false isnt rest =
+          let later : is_among (filter (stays place) ps) place ≡ false = sym (ap (λ b. is_among (cond b (p ∷ filter (stays place) ps) (filter (stays place) ps)) place) isnt) ∙ absent in
+          let apart : p ≢ place = λ same. unlike (sym (or_parts (used p) (not (ltb p place)) isnt).1 ∙ from_here same) in
+          λ i. cond (stays_in place p apart i) (p ∷ rest later i) (rest later i)
 
   pub all_looked : (ps : List ℕ) → All (λ p. p < 105) ps → filter (stays 105) ps ≡ filter used ps
   all_looked ps small = filter_agrees (λ p. p < 105) (stays 105) used (λ p below. ap (λ b. used p || b) (before p below) ∙ or_false (used p)) ps small

@@ -194,7 +194,7 @@ left_stands warehouses w_id locks number old new group content are small is made
         ap (λ (t : Bool). record { group = stand.group; left = if t then content else stand.left; back = stand.back }) test
 
 -- all holdings are unchanged
-left_held : (locks : List LockView) (number : ℕ) (d new : LockView) → number < length locks → holdings_of new ≡ holdings_of (get_or locks number d) → flat_map holdings_of (set locks number new) ≡ flat_map holdings_of locks
+pub left_held : (locks : List LockView) (number : ℕ) (d new : LockView) → number < length locks → holdings_of new ≡ holdings_of (get_or locks number d) → flat_map holdings_of (set locks number new) ≡ flat_map holdings_of locks
 left_held [] number d new small same = refl
 left_held (lock ∷ locks) zero d new small same = ap (λ hs. hs ++ flat_map holdings_of locks) same
 left_held (lock ∷ locks) (suc number) d new small same = ap (λ hs. holdings_of lock ++ hs) (left_held locks number d new (omega (arith, small)) same)

@@ -4,7 +4,7 @@ ghost use Rattle.std.specs.Prelude.{◌≡◌, ◌<◌, ◌≤◌, ◌+◌, [], 
 ghost use Rattle.std.specs.List.{IsDistinct};
 ghost use Rattle.indexmap.specs.IndexSet.{insert_key, spare};
 ghost use Rattle.local_locks.specs.EntryPlaces as spec;
-ghost use Rattle.local_locks.specs.EntryPlaces.{ArePlaces, kept_if, with_marked, without};
+ghost use Rattle.local_locks.specs.EntryPlaces.{ArePlaces, is_among, kept_if, with_marked, without};
 ghost use Rattle.local_locks.specs.Turns.{IsParkedThere};
 
 use crate::lock::Lock;
@@ -61,6 +61,13 @@ impl Entries {
         ensures { result ≡ slice_get self.now n }
     {
         self.places.get_index(n).copied()
+    }
+
+    // Returns whether a place has an entry.
+    fn has(&self, place: usize) -> bool
+        ensures { result ≡ is_among self.now place }
+    {
+        self.places.contains(&place)
     }
 
     /// Enters the marked places that have no entry yet, last and in order. Returns NoMemory if an
@@ -172,6 +179,8 @@ pub(crate) fn keep_used<J: GroupNames>(
     ensures { entries.new ≡ filter (spec.is_used_at locks.now waiters.now) entries.old }
 {
     for place in 0..GROUPS_PER_WAREHOUSE {
-        leave_if_unused(entries, locks, waiters, place);
+        if entries.has(place) {
+            leave_if_unused(entries, locks, waiters, place);
+        }
     }
 }
