@@ -25,4 +25,5 @@ pub mod Stands
 pub mod Left
 pub mod Named
 pub mod Contents
+pub mod SendableSet
 pub mod Sendable
