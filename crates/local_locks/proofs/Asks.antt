@@ -4,7 +4,7 @@ use Rattle.std.specs.Prelude.{All, Contains}
 use Rattle.std.specs.List.{flat_map}
 use Rattle.std.specs.List.Sorted.{IsPermutation}
 use Rattle.std.proofs.Math.ListN.{drop_of_length-le}
-use Rattle.std.proofs.lemmas.List.{append-nil, get_or-map, map-append, take_all}
+use Rattle.std.proofs.lemmas.List.{append-nil, get_or-map, take_all}
 use Rattle.std.proofs.lemmas.List.Elements.{All-contains_itself, All-push, All-weaker}
 use Rattle.requests.specs.declared.group.Group.{Group}
 use Rattle.requests.specs.declared.group.Group.TheVariants.{Warehouse}
@@ -20,8 +20,8 @@ use Rattle.local_locks.specs.declared.rulings.Ruling.TheVariants.{Free}
 use Rattle.local_locks.specs.LockTableView.{HeldClaim, Stand, LockTableView, left_in}
 use Rattle.local_locks.specs.Conflicts.{IsFree, MustWait, MustDie}
 use Rattle.local_locks.specs.GroupWants.{IsOwn, CanAsk, group_wants}
-use Rattle.local_locks.specs.Asking.{Grants, claim_for, held_for, waiting}
-use Rattle.local_locks.specs.Locks.{LockView, lock_view, WaiterView, waiter_view, waiting_of, holding, holdings_of, stand_in, locking, AreLocksOf, IsParked}
+use Rattle.local_locks.specs.Asking.{Grants, claim_for, held_for}
+use Rattle.local_locks.specs.Locks.{LockView, lock_view, WaiterView, waiter_view, holding, holdings_of, stand_in, locking, AreLocksOf, IsParked}
 use Rattle.local_locks.specs.Rulings.{Spot, spot, spots_of, conflicting_at, IsRuling}
 use Rattle.local_locks.specs.Granting.{AreGranted, IsOpen, stand_at, claim_at, held_at}
 use Rattle.local_locks.proofs.Members.{contains_here}

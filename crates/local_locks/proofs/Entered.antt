@@ -1,9 +1,9 @@
 -- The places of a table's entries, after a request, a grant, a turn and a return.
-use Rattle.std.proofs.Common.{◌≡◌, ◌≢◌, ℕ, ◌+◌, ◌<◌, ◌≤◌, Bool, true, false, eqb, List, [], ◌∷◌, ◌++◌, ◌||◌, ◌&&◌, not, Option, Some, None, slice_get, length, get_or, map, refl, sym, ap, subst, ◌∙◌, ⊎_elim, cond, arith}
+use Rattle.std.proofs.Common.{◌≡◌, ℕ, ◌+◌, ◌<◌, ◌≤◌, Bool, false, List, [], ◌∷◌, ◌++◌, ◌||◌, ◌&&◌, not, Option, Some, None, slice_get, length, get_or, map, sym, ap, subst, ◌∙◌, ⊎_elim, arith}
 use Rattle.std.specs.Prelude.{All, filter}
-use Rattle.std.specs.List.{flat_map, list_any, range_with_len}
+use Rattle.std.specs.List.{flat_map, range_with_len}
 use Rattle.std.specs.List.Sorted.{IsPermutation}
-use Rattle.std.proofs.lemmas.List.{get_or-map, get_or_default, length-map, map-append, same_lists}
+use Rattle.std.proofs.lemmas.List.{get_or_default, map-append, same_lists}
 use Rattle.std.specs.Option.{option_map}
 use Rattle.std.proofs.lemmas.List.Elements.{All-append, All-filter, All-weaker}
 use Rattle.std.proofs.lemmas.Option.{get_or_from_slice_get, none-some, slice_get-map, slice_get_cases}
@@ -13,11 +13,11 @@ use Rattle.requests.specs.declared.group.Group.TheVariants.{Warehouse}
 use Rattle.groups.specs.declared.wants.Want.{Want}
 use Rattle.tickets.specs.Claims.{ClaimView}
 use Rattle.wait_die.specs.declared.deciding.Holder.{Holder}
-use Rattle.local_locks.specs.LockTableView.{LockTableView, Stand, WaitingAction, groups_of}
+use Rattle.local_locks.specs.LockTableView.{LockTableView, Stand}
 use Rattle.local_locks.specs.GroupWants.{IsOwn, IsWanted}
 use Rattle.local_locks.specs.Asking.{Grants, waiting}
 use Rattle.local_locks.specs.Entries.{entered, is_awaited, is_entered, is_held, is_new, is_used, is_wanted, still_used}
-use Rattle.local_locks.specs.EntryPlaces.{AreEntryPlaces, ArePlaces, IsEnteredIfUsed, is_among, is_fresh, is_used_at, is_wanted_at, marks_of, with_marked}
+use Rattle.local_locks.specs.EntryPlaces.{AreEntryPlaces, ArePlaces, is_fresh, is_used_at, is_wanted_at, marks_of, with_marked}
 use Rattle.local_locks.specs.Locks.{LockView, WaiterView, AreLocksOf, IsParked, group_at, groups_at, holdings_of, locking, stand_in, waiter_view, waiting_of}
 use Rattle.local_locks.specs.Turns.{IsParkedThere}
 use Rattle.local_locks.proofs.Asks.{home_there}

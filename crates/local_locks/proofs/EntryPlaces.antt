@@ -1,16 +1,13 @@
 -- Entries, by the places of groups.
-use Rattle.std.proofs.Common.{◌≡◌, ◌≢◌, ℕ, ◌+◌, ◌<◌, ◌≤◌, Bool, true, false, eqb, List, [], ◌∷◌, ◌++◌, ◌||◌, ◌&&◌, not, length, get_or, map, refl, sym, ap, subst, ◌∙◌, ⊎_elim, arith}
-use Rattle.std.specs.Prelude.{All, Any, Contains, filter}
-use Rattle.std.specs.List.{flat_map, list_any, list_all, range_with_len}
-use Rattle.std.proofs.lemmas.Bool.{and_parts, eqb-true, eq-eqb, false_from_ne_true, true_from_ne_false, not_from_true, not_from_false}
-use Rattle.std.proofs.lemmas.List.{get_or-map, get_or_default, length-map, same_lists}
-use Rattle.std.proofs.lemmas.List.Elements.{All-append, All-filter, All-head, All-tail}
+use Rattle.std.proofs.Common.{◌≡◌, ℕ, ◌<◌, ◌≤◌, Bool, true, false, eqb, List, [], ◌∷◌, ◌||◌, not, length, get_or, map, refl, sym, ap, subst, ◌∙◌, arith}
+use Rattle.std.specs.Prelude.{All, Contains}
+use Rattle.std.specs.List.{flat_map, list_any, list_all}
+use Rattle.std.proofs.lemmas.Bool.{and_parts, eqb-true, eq-eqb, false_from_ne_true, not_from_false}
+use Rattle.std.proofs.lemmas.List.{get_or-map, get_or_default, length-map}
 use Rattle.std.proofs.lemmas.List.Folds.{Any-from_list_any, list_any-from_Any, list_any_at, list_all-map}
-use Rattle.std.proofs.lemmas.List.FromFn.{get_or-range_with_len, length-range_with_len, get_or-map-range_with_len, length-map-range_with_len}
 use Rattle.requests.specs.declared.group.Group.{Group}
 use Rattle.requests.specs.declared.group.Group.TheVariants.{Warehouse}
 use Rattle.groups.specs.Groups.{is_same, warehouse_of}
-use Rattle.groups.specs.declared.group_wants.Mode.{Mode}
 use Rattle.groups.specs.declared.group_wants.GroupWant.{GroupWant}
 use Rattle.groups.specs.declared.wants.Want.{Want}
 use Rattle.groups.proofs.SameGroups.{is_same-equal, is_same-itself}
@@ -18,16 +15,16 @@ use Rattle.tickets.specs.Places.{IsGroupOf, place_in_warehouse}
 use Rattle.wait_die.specs.declared.deciding.Holder.{Holder}
 use Rattle.local_locks.specs.LockTableView.{HeldClaim, Stand, WaitingAction, groups_of}
 use Rattle.local_locks.specs.GroupWants.{IsOwn, group_wants}
-use Rattle.local_locks.specs.Entries.{is_wanted, is_held, is_awaited, is_used, is_entered, is_new}
-use Rattle.local_locks.specs.EntryPlaces.{ArePlaces, is_at, is_wanted_at, is_lent, is_held_at, is_awaited_at, is_used_at, is_among, is_fresh, marks_of, with_marked}
+use Rattle.local_locks.specs.Entries.{is_wanted, is_held, is_awaited, is_used, is_entered}
+use Rattle.local_locks.specs.EntryPlaces.{ArePlaces, is_at, is_wanted_at, is_lent, is_held_at, is_awaited_at, is_used_at, is_among}
 use Rattle.local_locks.specs.Locks.{LockView, WaiterView, IsLockAt, AreLocksOf, IsParked, group_at, groups_at, holding, holdings_of, stand_in, waiting_of}
 use Rattle.local_locks.specs.Rulings.{Spot, spots_of}
 use Rattle.local_locks.proofs.Asks.{home_there, no_lock}
 use Rattle.local_locks.proofs.Covering.{group_wanted_same, one_group}
-use Rattle.local_locks.proofs.Members.{contains_any, contains_here, some_of}
+use Rattle.local_locks.proofs.Members.{contains_any, some_of}
 use Rattle.local_locks.proofs.Stands.{inside}
-use Rattle.local_locks.proofs.Tested.{any_agrees, any_joined, any_mapped, filter_agrees, filter_mapped, same_test}
-use Rattle.local_locks.proofs.Views.{IsHeldAt, held_here, held_somewhere}
+use Rattle.local_locks.proofs.Tested.{any_agrees, any_joined, any_mapped, same_test}
+use Rattle.local_locks.proofs.Views.{held_here, held_somewhere}
 
 -- this is the group of the warehouse at this place
 pub record IsGroupAt (warehouses w_id place : ℕ) (group : Group) : Type 0 where

@@ -1,10 +1,10 @@
 -- The places of a table's entries, after a claim is back.
-use Rattle.std.proofs.Common.{◌≡◌, ◌≢◌, ℕ, ◌<◌, ◌≤◌, Bool, true, false, eqb, List, [], ◌∷◌, ◌||◌, not, length, get_or, set, map, refl, sym, ap, subst, ◌∙◌, ⊎_elim, cond, arith}
+use Rattle.std.proofs.Common.{◌≡◌, ◌≢◌, ℕ, ◌<◌, Bool, true, false, eqb, List, [], ◌∷◌, ◌||◌, not, length, get_or, set, map, refl, sym, ap, ◌∙◌, ⊎_elim, cond, arith}
 use Rattle.std.specs.Prelude.{All, filter}
 use Rattle.std.specs.List.{AllByRecursion, IsDistinct, flat_map}
 use Rattle.std.proofs.lemmas.Bool.Decides.{eqb_tells}
 use Rattle.std.proofs.lemmas.List.{get_or-map, get_or_default, length-map}
-use Rattle.std.proofs.lemmas.List.Elements.{All-filter, All-get_or, All-head, All-nil, All-tail}
+use Rattle.std.proofs.lemmas.List.Elements.{All-filter, All-head, All-nil, All-tail}
 use Rattle.std.proofs.lemmas.List.Folds.{list_any_at}
 use Rattle.std.proofs.lemmas.Map.Keys.{IsDistinct-cons, IsDistinct-head, IsDistinct-tail}
 use Rattle.requests.specs.declared.group.Group.{Group}
@@ -14,7 +14,7 @@ use Rattle.groups.specs.Content.{Content}
 use Rattle.tickets.specs.Boxes.{TicketBoxView, with_left}
 use Rattle.tickets.specs.Claims.{ClaimView}
 use Rattle.tickets.specs.Places.{IsGroupOf, place_in_warehouse}
-use Rattle.local_locks.specs.LockTableView.{HeldClaim, WaitingAction}
+use Rattle.local_locks.specs.LockTableView.{HeldClaim}
 use Rattle.local_locks.specs.Asking.{AreTogether, held_by, left_after}
 use Rattle.local_locks.specs.Entries.{is_awaited, is_entered, is_held, is_used, still_used}
 use Rattle.local_locks.specs.EntryPlaces.{AreEntryPlaces, ArePlaces, is_used_at, kept_if}

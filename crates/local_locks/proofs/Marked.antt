@@ -1,7 +1,7 @@
 -- Places that are marked, and a place that is left out.
-use Rattle.std.proofs.Common.{◌≡◌, ◌≢◌, ℕ, zero, suc, ◌+◌, ◌-◌, ◌<◌, ◌≤◌, Bool, true, false, eqb, leb, ltb, List, [], ◌∷◌, ◌++◌, ◌||◌, ◌&&◌, not, length, get_or, set, drop, take, map, refl, sym, ap, subst, ◌∙◌, ⊎_elim, cond, arith, append_assoc}
-use Rattle.std.specs.Prelude.{All, Contains, count_by, filter, if◌then◌else◌}
-use Rattle.std.specs.List.{AllByRecursion, IsDistinct, flat_map, list_any, range_with_len}
+use Rattle.std.proofs.Common.{◌≡◌, ◌≢◌, ℕ, zero, suc, ◌+◌, ◌-◌, ◌<◌, ◌≤◌, Bool, true, false, eqb, leb, ltb, List, [], ◌∷◌, ◌++◌, ◌||◌, ◌&&◌, not, length, get_or, set, drop, refl, sym, ap, subst, ◌∙◌, ⊎_elim, cond, arith, append_assoc}
+use Rattle.std.specs.Prelude.{All, count_by, filter, if◌then◌else◌}
+use Rattle.std.specs.List.{AllByRecursion, IsDistinct, list_any, range_with_len}
 use Rattle.std.specs.Set.{remove_key}
 use Rattle.std.proofs.lemmas.Bool.{eqb-true, eq-eqb, false_from_ne_true, or_parts, true_from_ne_false}
 use Rattle.std.proofs.lemmas.Bool.Decides.{eqb_tells}

@@ -1,5 +1,5 @@
 -- Lists, by tests of their elements.
-use Rattle.std.proofs.Common.{◌≡◌, Bool, true, false, List, [], ◌∷◌, ◌++◌, ◌||◌, ◌&&◌, not, map, refl, sym, ap, subst, ◌∙◌, cond}
+use Rattle.std.proofs.Common.{◌≡◌, Bool, true, false, List, [], ◌∷◌, ◌||◌, ◌&&◌, map, refl, sym, ap, ◌∙◌, cond}
 use Rattle.std.specs.Prelude.{All, filter}
 use Rattle.std.specs.List.{flat_map, list_any}
 use Rattle.std.proofs.lemmas.Bool.{and_from, and_parts}

@@ -1,5 +1,5 @@
 -- The entries of a lock table: the groups that are held or waited for, in the order in which they were taken.
-use Rattle.std.specs.Prelude.{◌≡◌, ◌&&◌, ◌||◌, Bool, not, List, ◌++◌, filter, map}
+use Rattle.std.specs.Prelude.{◌≡◌, ◌&&◌, ◌||◌, Bool, not, List, ◌++◌, filter}
 use Rattle.std.specs.List.{IsDistinct, list_any}
 use Rattle.requests.specs.declared.group.Group.{Group}
 use Rattle.groups.specs.Groups.{is_same}

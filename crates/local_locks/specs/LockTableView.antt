@@ -40,7 +40,7 @@ pub record LockTableView : Type 0 where
 abbrev pub groups_of : List Stand → List Group
 groups_of stands = map (λ stand. stand.group) stands
 
--- the entry of a group of the warehouse, with its content now and after an undo
+-- a group of the warehouse, with its content now and after an undo
 abbrev pub stand_for : List Stand → Group → Stand
 stand_for stands group = slice_index_or stands (place_in_warehouse group) (record { group = group; left = nothing; back = nothing })
 
@@ -52,13 +52,13 @@ left_in stands group = (stand_for stands group).left
 abbrev pub back_in : List Stand → Group → Content
 back_in stands group = (stand_for stands group).back
 
--- this is the entry of the warehouse's group at this place
+-- this is the warehouse's group at this place
 pub record IsStandAt (warehouses w_id number : ℕ) (stand : Stand) : Type 0 where
   pub known : IsGroupOf warehouses stand.group
   pub here : warehouse_of stand.group ≡ w_id
   pub place : place_in_warehouse stand.group ≡ number
 
--- there is an entry for each group of the warehouse, in the order of groups
+-- each group of the warehouse is there, in the order of groups
 pub record AreStandsOf (warehouses w_id : ℕ) (stands : List Stand) : Type 0 where
   pub all_there : length stands ≡ 105
   pub each : (place : ℕ) (d : Stand) → place < 105 → IsStandAt warehouses w_id place (slice_index_or stands place d)

@@ -2,14 +2,14 @@
 //! which they were taken.
 ghost use Rattle.std.specs.Prelude.{◌≡◌, ◌<◌, ◌≤◌, ◌+◌, [], All, IfOk, IsOk, OnErr, OnOk, count_by, false, filter, length, nat_eq, slice_get};
 ghost use Rattle.std.specs.List.{IsDistinct};
-ghost use Rattle.indexmap.specs.IndexSet.{insert_key, spare};
+ghost use Rattle.indexmap.specs.IndexSet.{insert_key, remove_key, spare};
 ghost use Rattle.local_locks.specs.EntryPlaces as spec;
 ghost use Rattle.local_locks.specs.EntryPlaces.{ArePlaces, is_among, kept_if, with_marked, without};
 ghost use Rattle.local_locks.specs.Turns.{IsParkedThere};
 
 use crate::lock::Lock;
-use crate::wanted::is_wanted_at;
 use crate::waiting::Waiter;
+use crate::wanted::is_wanted_at;
 use indexmap::IndexSet;
 use schema::NoMemory;
 use std::alloc::Global;
@@ -88,7 +88,7 @@ impl Entries {
     {
         // `len` is called for its clause that no place is there twice.
         let _len = self.places.len();
-        self.places.shift_remove(&place);
+        remove(&mut self.places, place);
     }
 }
 
@@ -126,6 +126,13 @@ fn insert_reserved(places: &mut IndexSet<usize>, place: usize)
     let Ok(_) = places.insert(place) else {
         unreachable!()
     };
+}
+
+// Removes a place, if it is there. Those after it move up.
+fn remove(places: &mut IndexSet<usize>, place: usize)
+    ensures { places.new.keys ≡ remove_key (nat_eq place) places.old.keys }
+{
+    places.shift_remove(&place);
 }
 
 // Returns whether an action waits for the group at a place.

@@ -1,6 +1,7 @@
 //! Which groups have an entry, and in which order.
 ghost use Rattle.std.specs.Prelude.{◌≡◌, vec_len};
 ghost use Rattle.tickets.specs.Openings.{AreNamed};
+ghost use Rattle.local_locks.specs.GroupWants.{IsOwn};
 
 use super::*;
 
@@ -24,8 +25,71 @@ fn aged(age: Age) -> Holder {
     Holder { age, place: 0 }
 }
 
-// Eight readers and a writer that waits for them stand on one group; readers of the stock stand on all its
-// groups.
+// The table has these entries, in this order.
+fn has_entries<J: GroupNames>(rt: &impl Abort, trial: &Trial<J>, groups: &[Group]) {
+    assert_eq!(rt; trial.table.held(), groups.len());
+    for (n, group) in groups.iter().enumerate() {
+        assert_eq!(rt; trial.table.held_at(n), Some(*group));
+    }
+    assert_eq!(rt; trial.table.held_at(groups.len()), None);
+}
+
+// An action of this age asks for a want, and is told this.
+fn is_told<J: GroupNames>(
+    rt: &impl Abort,
+    alloc: Global,
+    trial: &mut Trial<J>,
+    age: Age,
+    want: Want,
+    told: Said,
+) -> Result<(), NoMemory>
+    requires { IsOwn J.warehouses 1 want }
+{
+    let said = trial.ask_for(alloc, aged(age), want)?;
+    assert_eq!(rt; said, told);
+    Ok(())
+}
+
+// It is the turn of an action of this age, and it is told this.
+fn takes_turn<J: GroupNames>(
+    rt: &impl Abort,
+    trial: &mut Trial<J>,
+    age: Age,
+    told: Said,
+) -> Result<(), NoMemory> {
+    let turn = trial.next_grant()?;
+    assert_eq!(rt; turn, Some((aged(age), told)));
+    Ok(())
+}
+
+// The action of this age, whose grant this is, gives its claims back.
+fn gives_back<J: GroupNames>(rt: &impl Abort, trial: &mut Trial<J>, index: usize, age: Age) {
+    let count = trial.count();
+    assert!(rt; index < count);
+    let by = trial.give_back(index);
+    assert_eq!(rt; by, aged(age));
+}
+
+// Eight readers have an exclusive claim waited for.
+fn eight_read<J: GroupNames>(
+    rt: &impl Abort,
+    alloc: Global,
+    trial: &mut Trial<J>,
+) -> Result<(), NoMemory>
+    requires { J.warehouses ≡ 1 }
+{
+    let shared = one(customers(1), Mode::Shared);
+    for age in 1..=8 {
+        is_told(rt, alloc.clone()?, trial, age, shared, Said::Granted(1))?;
+    }
+    let dies = Said::Dies(customers(1), 1);
+    is_told(rt, alloc.clone()?, trial, 9, shared, dies)?;
+    let exclusive = one(customers(1), Mode::Exclusive);
+    is_told(rt, alloc, trial, 0, exclusive, Said::Waits)
+}
+
+// Eight readers and a writer that waits for them have one entry; readers of the stock have one for each of
+// its groups.
 fn one_group_and_a_prefix<J: GroupNames>(
     rt: &impl Abort,
     alloc: Global,
@@ -36,36 +100,20 @@ fn one_group_and_a_prefix<J: GroupNames>(
     requires names { AreNamed 1 J.committed J.work openings.items }
 {
     let mut trial = Trial::<J>::open(alloc.clone()?, openings)?;
-    assert_eq!(rt; trial.table.held(), 0);
-    let shared = one(customers(1), Mode::Shared);
-    for age in 1..=8 {
-        let said = trial.ask_for(alloc.clone()?, aged(age), shared)?;
-        assert_eq!(rt; said, Said::Granted(1));
+    has_entries(rt, &trial, &[]);
+    eight_read(rt, alloc.clone()?, &mut trial)?;
+    for last in (0..8).rev() {
+        has_entries(rt, &trial, &[customers(1)]);
+        gives_back(rt, &mut trial, last, last as Age + 1);
     }
-    let ninth = trial.ask_for(alloc.clone()?, aged(9), shared)?;
-    assert_eq!(rt; ninth, Said::Dies(customers(1), 1));
-    let exclusive = one(customers(1), Mode::Exclusive);
-    let oldest = trial.ask_for(alloc.clone()?, aged(0), exclusive)?;
-    assert_eq!(rt; oldest, Said::Waits);
-    for _ in 0..8 {
-        assert_eq!(rt; trial.next_grant()?, None);
-        assert_eq!(rt; trial.table.held(), 1);
-        assert!(rt; trial.count() > 0);
-        trial.give_back(0);
-    }
-    assert_eq!(rt; trial.table.held(), 1);
-    assert_eq!(rt; trial.next_grant()?, Some((aged(0), Said::Granted(1))));
-    assert_eq!(rt; trial.table.held(), 1);
-    assert_eq!(rt; trial.table.held_at(0), Some(customers(1)));
-    assert_eq!(rt; trial.table.held_at(1), None);
-    assert_eq!(rt; trial.count(), 1);
-    trial.give_back(0);
-    assert_eq!(rt; trial.table.held(), 0);
-    assert_eq!(rt; trial.table.held_at(0), None);
-    let said = trial.ask_for(alloc, aged(1), every(Kind::Stock, Mode::Shared))?;
-    assert_eq!(rt; said, Said::Granted(64));
+    has_entries(rt, &trial, &[customers(1)]);
+    takes_turn(rt, &mut trial, 0, Said::Granted(1))?;
+    has_entries(rt, &trial, &[customers(1)]);
+    gives_back(rt, &mut trial, 0, 0);
+    has_entries(rt, &trial, &[]);
+    let stock_read = every(Kind::Stock, Mode::Shared);
+    is_told(rt, alloc, &mut trial, 1, stock_read, Said::Granted(64))?;
     assert_eq!(rt; trial.table.held(), 64);
-    assert_eq!(rt; trial.table.held_at(0), Some(stock(0)));
     assert_eq!(rt; trial.table.held_at(63), Some(stock(63)));
     assert_eq!(rt; trial.table.held_at(64), None);
     Ok(())
@@ -78,42 +126,49 @@ fn a_group_has_one_entry_and_a_prefix_one_for_each(rt: HostRuntime) -> Result<()
     Ok(())
 }
 
-// Entries come last, those of one action in the order of groups, and keep their order when others go.
+// Entries come last, and those of one action in the order of groups.
 fn first_come<J: GroupNames>(
     rt: &impl Abort,
     alloc: Global,
-    openings: Vec<GroupSeats>,
+    trial: &mut Trial<J>,
 ) -> Result<(), NoMemory>
-    requires known { J.warehouses ≡ 1 }
-    requires all { vec_len openings ≡ 105 }
-    requires names { AreNamed 1 J.committed J.work openings.items }
+    requires { J.warehouses ≡ 1 }
 {
-    let mut trial = Trial::<J>::open(alloc.clone()?, openings)?;
     let second = one(customers(2), Mode::Exclusive);
     let district = one(DISTRICT, Mode::Shared);
     let said = trial.ask_for_both(alloc.clone()?, aged(5), second, district)?;
     assert_eq!(rt; said, Said::Granted(2));
-    assert_eq!(rt; trial.table.held_at(0), Some(DISTRICT));
-    assert_eq!(rt; trial.table.held_at(1), Some(customers(2)));
+    has_entries(rt, trial, &[DISTRICT, customers(2)]);
     let all = every(Kind::Customers, Mode::Exclusive);
-    let said = trial.ask_for(alloc.clone()?, aged(4), all)?;
-    assert_eq!(rt; said, Said::Waits);
-    let said = trial.ask_for(alloc.clone()?, aged(6), one(WAREHOUSE, Mode::Shared))?;
-    assert_eq!(rt; said, Said::Granted(1));
+    is_told(rt, alloc.clone()?, trial, 4, all, Said::Waits)?;
+    let warehouse = one(WAREHOUSE, Mode::Shared);
+    is_told(rt, alloc, trial, 6, warehouse, Said::Granted(1))?;
     assert_eq!(rt; trial.table.held(), 12);
     assert_eq!(rt; trial.table.held_at(2), Some(customers(1)));
     assert_eq!(rt; trial.table.held_at(3), Some(customers(3)));
-    assert_eq!(rt; trial.table.held_at(11), Some(WAREHOUSE));
-    assert_eq!(rt; trial.count(), 2);
-    assert_eq!(rt; trial.give_back(0), aged(5));
-    assert_eq!(rt; trial.table.held(), 11);
-    assert_eq!(rt; trial.table.held_at(0), Some(customers(2)));
-    assert_eq!(rt; trial.table.held_at(1), Some(customers(1)));
-    assert_eq!(rt; trial.next_grant()?, Some((aged(4), Said::Granted(10))));
-    assert_eq!(rt; trial.table.held(), 11);
-    assert_eq!(rt; trial.table.held_at(0), Some(customers(2)));
-    assert_eq!(rt; trial.table.held_at(10), Some(WAREHOUSE));
-    one_dies(rt, alloc, &mut trial)
+    Ok(())
+}
+
+// The others keep their order when one goes, and when an action that waited is granted.
+fn one_goes<J: GroupNames>(rt: &impl Abort, trial: &mut Trial<J>) -> Result<(), NoMemory> {
+    let left = [
+        customers(2),
+        customers(1),
+        customers(3),
+        customers(4),
+        customers(5),
+        customers(6),
+        customers(7),
+        customers(8),
+        customers(9),
+        customers(10),
+        WAREHOUSE,
+    ];
+    gives_back(rt, trial, 0, 5);
+    has_entries(rt, trial, &left);
+    takes_turn(rt, trial, 4, Said::Granted(10))?;
+    has_entries(rt, trial, &left);
+    Ok(())
 }
 
 // Of two actions that wait, the older is granted, and the other dies.
@@ -128,25 +183,34 @@ fn one_dies<J: GroupNames>(
     let payments = one(PAYMENTS, Mode::Exclusive);
     let said = trial.ask_for_both(alloc.clone()?, aged(2), first, payments)?;
     assert_eq!(rt; said, Said::Waits);
-    assert_eq!(rt; trial.ask_for(alloc, aged(1), first)?, Said::Waits);
-    assert_eq!(rt; trial.table.held(), 12);
-    assert_eq!(rt; trial.table.held_at(11), Some(PAYMENTS));
-    assert_eq!(rt; trial.count(), 2);
-    assert_eq!(rt; trial.give_back(1), aged(4));
-    assert_eq!(rt; trial.table.held(), 3);
-    assert_eq!(rt; trial.next_grant()?, Some((aged(1), Said::Granted(1))));
-    assert_eq!(rt; trial.table.held(), 3);
-    assert_eq!(rt; trial.next_grant()?, Some((aged(2), Said::Dies(customers(1), 1))));
-    assert_eq!(rt; trial.table.held(), 2);
-    assert_eq!(rt; trial.table.held_at(0), Some(customers(1)));
-    assert_eq!(rt; trial.table.held_at(1), Some(WAREHOUSE));
-    assert_eq!(rt; trial.table.held_at(2), None);
+    is_told(rt, alloc, trial, 1, first, Said::Waits)?;
+    gives_back(rt, trial, 1, 4);
+    has_entries(rt, trial, &[customers(1), WAREHOUSE, PAYMENTS]);
+    takes_turn(rt, trial, 1, Said::Granted(1))?;
+    has_entries(rt, trial, &[customers(1), WAREHOUSE, PAYMENTS]);
+    takes_turn(rt, trial, 2, Said::Dies(customers(1), 1))?;
+    has_entries(rt, trial, &[customers(1), WAREHOUSE]);
     Ok(())
+}
+
+fn run_of_entries<J: GroupNames>(
+    rt: &impl Abort,
+    alloc: Global,
+    openings: Vec<GroupSeats>,
+) -> Result<(), NoMemory>
+    requires known { J.warehouses ≡ 1 }
+    requires all { vec_len openings ≡ 105 }
+    requires names { AreNamed 1 J.committed J.work openings.items }
+{
+    let mut trial = Trial::<J>::open(alloc.clone()?, openings)?;
+    first_come(rt, alloc.clone()?, &mut trial)?;
+    one_goes(rt, &mut trial)?;
+    one_dies(rt, alloc, &mut trial)
 }
 
 #[test]
 fn entries_are_in_the_order_in_which_they_came(rt: HostRuntime) -> Result<(), Fail> {
     let openings = one_warehouse(rt.alloc())?;
-    first_come::<Brand>(&rt, rt.alloc(), openings)?;
+    run_of_entries::<Brand>(&rt, rt.alloc(), openings)?;
     Ok(())
 }

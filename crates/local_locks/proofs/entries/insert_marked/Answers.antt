@@ -1,4 +1,4 @@
-use Rattle.std.proofs.Common.{◌≡◌, ◌+◌, ◌≤◌, eqb, ap, ◌∙◌, cond, arith}
+use Rattle.std.proofs.Common.{◌≡◌, ◌+◌, eqb, ap, ◌∙◌, cond, arith}
 use Rattle.std.specs.Prelude.{ℕ, ◌++◌, filter, length}
 use Rattle.std.specs.List.{range_with_len}
 use Rattle.indexmap.specs.IndexSet.{insert_key, spare}
@@ -16,12 +16,12 @@ loop-place-preserved c =
     let so_far = c.loop-place.invariant in
     record {
       keys = elim c.if-is_marked.branch [
-        then-is_marked w ↦ ap (λ s. s.keys) w.places-is ∙ w.insert_reserved.ensures.keys ∙ ap (λ ks. insert_key eqb ks place) so_far.keys ∙ inserted marks old place w.if-is_marked.true
-      | else-is_marked w ↦ ap (λ s. s.keys) w.places-is ∙ so_far.keys ∙ skipped marks old place w.if-is_marked.false
+        | then-is_marked w ↦ ap (λ s. s.keys) w.places-is ∙ w.insert_reserved.ensures.keys ∙ ap (λ ks. insert_key eqb ks place) so_far.keys ∙ inserted marks old place w.if-is_marked.true
+        | else-is_marked w ↦ ap (λ s. s.keys) w.places-is ∙ so_far.keys ∙ skipped marks old place w.if-is_marked.false
       ];
       room = elim c.if-is_marked.branch [
-        then-is_marked w ↦ omega (arith, count, so_far.room, ap {B = ℕ} (λ b. cond b 1 0) w.if-is_marked.true, ap {B = ℕ} spare w.places-is, w.insert_reserved.ensures.room)
-      | else-is_marked w ↦ omega (arith, count, so_far.room, ap {B = ℕ} (λ b. cond b 1 0) w.if-is_marked.false, ap {B = ℕ} spare w.places-is)
+        | then-is_marked w ↦ omega (arith, count, so_far.room, ap {B = ℕ} (λ b. cond b 1 0) w.if-is_marked.true, ap {B = ℕ} spare w.places-is, w.insert_reserved.ensures.room)
+        | else-is_marked w ↦ omega (arith, count, so_far.room, ap {B = ℕ} (λ b. cond b 1 0) w.if-is_marked.false, ap {B = ℕ} spare w.places-is)
       ];
     }
 

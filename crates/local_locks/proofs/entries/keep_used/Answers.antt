@@ -14,8 +14,8 @@ loop-place-preserved g c =
     let place = c.loop-place.place in
     let so_far : c.loop-place.entries ≡ filter (stays used place) c.args.entries.now = c.loop-place.invariant in
     elim c.if-has.branch [
-      then-has w ↦ w.entries-is ∙ w.leave_if_unused.ensures ∙ ap (kept_if (used place) place) so_far ∙ looked used place c.args.entries.now
-    | else-has w ↦ w.entries-is ∙ so_far ∙ absent_looked used place c.args.entries.now (ap (λ (ps : List ℕ). is_among ps place) (sym so_far) ∙ sym c.has.ensures ∙ w.if-has.false)
+      | then-has w ↦ w.entries-is ∙ w.leave_if_unused.ensures ∙ ap (kept_if (used place) place) so_far ∙ looked used place c.args.entries.now
+      | else-has w ↦ w.entries-is ∙ so_far ∙ absent_looked used place c.args.entries.now (ap (λ (ps : List ℕ). is_among ps place) (sym so_far) ∙ sym c.has.ensures ∙ w.if-has.false)
     ]
 
 pub returns : goal.returns

@@ -1,4 +1,4 @@
-use Rattle.std.proofs.Common.{◌≡◌, ◌-◌, ◌+◌, ◌≤◌, ◌<◌, ◌||◌, ◌∷◌, ◌++◌, [], ℕ, List, true, false, get_or, length, set, length-set, sym, ap, ◌∙◌, arith}
+use Rattle.std.proofs.Common.{◌-◌, ◌≤◌, ◌<◌, ◌||◌, List, true, false, get_or, length, length-set, sym, ap, ◌∙◌, arith}
 use Rattle.std.specs.List.{list_any}
 use Rattle.local_locks.specs.EntryPlaces.{is_at}
 use Rattle.local_locks.specs.Rulings.{Spot, spots}

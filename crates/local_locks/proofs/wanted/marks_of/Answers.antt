@@ -1,4 +1,4 @@
-use Rattle.std.proofs.Common.{◌≡◌, ◌<◌, ℕ, List, false, get_or, refl, take, sym, ap, ◌∙◌, arith}
+use Rattle.std.proofs.Common.{List, false, refl, ap, ◌∙◌}
 use Rattle.std.proofs.lemmas.List.{get_or-replicate, take_all}
 use Rattle.groups.specs.declared.wants.Want.{Want}
 use Rattle.local_locks.specs.EntryPlaces.{is_wanted_at}

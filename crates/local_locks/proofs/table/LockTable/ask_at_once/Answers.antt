@@ -94,8 +94,8 @@ granted g c =
     let long : length c.grant_all.new.locks ≡ length locks.items = same_length g.J.GroupNames.warehouses c.args.by (flat_map spots_of c.args.wants.now) c.deref_mut.result.now c.grant_all.new.locks c.grant_all.ensures.granted ∙ ap length c.deref_mut.ensures.value in
     let P : List LockView → Type 0 = λ ls. IsRuling c.args.by.age ls (flat_map spots_of c.args.wants.now) Free in
     asks.answered_free g.J.GroupNames.warehouses c.self.inside.w_id c.args.by.age c.args.by c.args.wants.now c.args.self.now locks.items c.deref_mut.result.now c.grant_all.new.locks (take locks.len (c.grant_all.new.locks ++ drop (length c.grant_all.new.locks) locks.items))
-        c.self.inside.waiters.items c.self.inside.waiters.items c.self.inside.entries c.enter.new.self c.in_ok-claims-in-Free.claims.items c.grant_all.new.claims.items c.self.view_is c.deref_mut.ensures.value (asks.refilled locks.len locks.items c.grant_all.new.locks locks.ok.0 long)
-        c.in_ok-claims-in-Free.ensures.items c.self.invariant.0 can.own (subst P c.deref.ensures.value c.in-Free.ensures) c.grant_all.ensures.claims c.grant_all.ensures.granted
+    c.self.inside.waiters.items c.self.inside.waiters.items c.self.inside.entries c.enter.new.self c.in_ok-claims-in-Free.claims.items c.grant_all.new.claims.items c.self.view_is c.deref_mut.ensures.value (asks.refilled locks.len locks.items c.grant_all.new.locks locks.ok.0 long)
+    c.in_ok-claims-in-Free.ensures.items c.self.invariant.0 can.own (subst P c.deref.ensures.value c.in-Free.ensures) c.grant_all.ensures.claims c.grant_all.ensures.granted
 
 -- and have entries
 entries_are : (g : given.Over) (c : After-grant_all g) → c.enter.new.self ≡ with_marked (marks_of c.args.wants.now) c.self.inside.entries
@@ -126,8 +126,8 @@ returns-in_ok-enter-in-Free-clause-answers g c =
       grants,
       ap (λ (t : LockTableView). t.waiters) c.self.view_is,
       (λ i. groups_at ((grants.stands ∙ sym (ap (λ (t : LockTableView). t.stands) c.self.view_is)) i) (entries_are g at.After-grant_all i))
-      ∙ entered_places g.J.GroupNames.warehouses c.self.inside.w_id locks.items c.self.inside.waiters.items c.self.inside.entries c.args.wants.now c.self.invariant.0 c.self.invariant.2.inside can.own
-      ∙ ap (entered c.args.wants.now) c.self.view_is,
+          ∙ entered_places g.J.GroupNames.warehouses c.self.inside.w_id locks.items c.self.inside.waiters.items c.self.inside.entries c.args.wants.now c.self.invariant.0 c.self.invariant.2.inside can.own
+          ∙ ap (entered c.args.wants.now) c.self.view_is,
     )
 
 pub returns-in-Waits-clause-answers : goal.returns-in-Waits-clause-answers

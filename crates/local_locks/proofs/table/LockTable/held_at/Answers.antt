@@ -1,4 +1,4 @@
-use Rattle.std.proofs.Common.{◌≡◌, ◌∙◌, ℕ, Option, Some, slice_get, sym, ap}
+use Rattle.std.proofs.Common.{◌≡◌, ◌∙◌, Some, slice_get, sym, ap}
 use Rattle.local_locks.specs.LockTableView.{LockTableView}
 use Rattle.local_locks.proofs.Entered.{entry_at}
 use Rattle.local_locks.proofs.table.LockTable.held_at.Goals as goal

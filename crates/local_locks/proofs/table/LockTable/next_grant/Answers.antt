@@ -8,7 +8,7 @@ use Rattle.local_locks.specs.EntryPlaces.{AreEntryPlaces, is_used_at}
 use Rattle.local_locks.specs.LockTableView.{LockTableView, Stand}
 use Rattle.local_locks.specs.Conflicts.{MustDie}
 use Rattle.local_locks.specs.Asking.{Grants, StillWaits}
-use Rattle.local_locks.specs.Locks.{LockView, WaiterView, groups_at, locking, stand_in, waiting_of}
+use Rattle.local_locks.specs.Locks.{LockView, WaiterView, groups_at, locking, stand_in}
 use Rattle.local_locks.specs.Rulings.{IsRuling, spots_of}
 use Rattle.local_locks.specs.Granting.{AreElsewhere, AreGranted, claim_at}
 use Rattle.local_locks.specs.Turns.{IsParkedThere, StaysParked}
@@ -93,8 +93,8 @@ granted g c =
     let P : List Want → Type 0 = λ ws. c.grant_all.new.claims.items ≡ c.wants.inside.room.items ++ map (claim_at next.by (map stand_in c.deref_mut.result.now)) (flat_map spots_of ws) in
     let Q : List Want → Type 0 = λ ws. AreGranted g.J.GroupNames.warehouses next.by (flat_map spots_of ws) c.deref_mut.result.now c.grant_all.new.locks in
     asks.answered_free g.J.GroupNames.warehouses c.self.inside.w_id next.by.age next.by p.wants c.args.self.now locks.items c.deref_mut.result.now c.grant_all.new.locks back waiters rest c.self.inside.entries c.self.inside.entries c.wants.inside.room.items c.grant_all.new.claims.items c.self.view_is
-        c.deref_mut.ensures.value (asks.refilled locks.len locks.items c.grant_all.new.locks locks.ok.0 long) c.wants.invariant c.self.invariant.0 is.can.own
-        (taken.said_taken g.J.GroupNames.warehouses c.self.inside.w_id locks.items waiters rest p next Free t c.in-Free.is) (subst P wants c.grant_all.ensures.claims) (subst Q wants c.grant_all.ensures.granted)
+    c.deref_mut.ensures.value (asks.refilled locks.len locks.items c.grant_all.new.locks locks.ok.0 long) c.wants.invariant c.self.invariant.0 is.can.own
+    (taken.said_taken g.J.GroupNames.warehouses c.self.inside.w_id locks.items waiters rest p next Free t c.in-Free.is) (subst P wants c.grant_all.ensures.claims) (subst Q wants c.grant_all.ensures.granted)
 
 pub invariant_of-self : goal.invariant_of-self
 invariant_of-self g c =
