@@ -261,10 +261,11 @@ class Trials:
 
     def try_all(self, prover, edits):
         """Tries the edits of a crate, in turn, each over what the checks before it have proved. Returns how many are refused."""
-        folder = prover.crates[edits[0].crate].folder
+        name = edits[0].crate
+        folder, kept = prover.crates[name].folder, f"{self.room.name}/{name}"
         groups, refused = groups_of(folder, edits), 0
         for group in groups:
-            status, output = prover.check(group[0].crate, edited(folder, group), [it.function for it in group], f"{self.room.name}/{group[0].crate}")
+            status, output = prover.check(name, edited(folder, group), [it.function for it in group], kept)
             if len(group) == 1:
                 is_refused, message = refuses(group[0], status, output)
                 self.say(f"{group[0]}: {message}")

@@ -4,8 +4,8 @@ First the gate compares the definitions that documents quote with the files, che
 the form of every wrong program. Three parts follow:
 
 1. `rt ci` proves every crate and its tests from nothing, and runs the tests and the stored run. The longest chain of
-   crates goes first, if memory suffices. Meanwhile the prover must refuse the wrong programs of
-   must-fail/, each at the function that it names, over the libraries that are built by then.
+   crates goes first, if memory suffices. Meanwhile the prover must refuse the wrong programs of must-fail/, each at the
+   function that it names, over the libraries that are built by then.
 2. The proved program runs all scenarios.
 3. Each allocation of that program is made to fail in turn.
 

@@ -1,9 +1,9 @@
 """Runs `rt ci` in the current folder, with a schedule for machines on which it proves everything from nothing.
 
-`rt ci` decides once, when a proof starts, how many processors the proof gets, and it reserves two to three times the memory that a
-check takes. So the longest proof, which starts beside others, gets one processor, and others are idle meanwhile. Here a task starts
-when all that it waits for has ended. The longer the chain of tasks behind it, the higher its priority and the more
-processors it may use. Nothing else changes: the checks, what each waits for, and the verdict are those of `rt ci`.
+`rt ci` decides once, when a proof starts, how many processors the proof gets, and it reserves more memory than a check takes. So the
+longest proof, which starts beside others, gets one processor, and others are idle meanwhile. Here a task starts when everything that
+it waits for has ended. The longer the chain of tasks behind it, the higher its priority and the more processors it may use. Nothing
+else changes: the checks, what each waits for, and the verdict are those of `rt ci`.
 """
 
 import importlib.machinery
@@ -17,7 +17,7 @@ import threading
 from costs import seconds_by_part
 from edits import free_memory
 
-# `rt ci` estimates the memory of a check at 1.7 times what it takes, and more.
+# The part of the memory that `rt ci` reserves for a check that the check takes, about.
 OF_ESTIMATE = 0.5
 # Each further job of a check takes this part of what its first job takes.
 OF_FIRST_JOB = 0.3
