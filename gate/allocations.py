@@ -1,18 +1,19 @@
 """Makes each allocation of the program fail in turn: gate/allocations.py PROGRAM
 
-`tpcc run` and `tpcc sim` serve a few requests on a small dataset while its warehouse moves, and `sim` also plays a schedule in
-which an action waits. Each command is run once for each of its allocations, with that allocation refused. A run must end in one of
-these ways:
+`tpcc run` and `tpcc sim` serve requests on small datasets, while warehouses move and while actions wait. Each command is run once
+for each of its allocations, with that allocation refused. A run must end in one of these ways:
 
 - Status 0. Each request is answered done, or refused for lack of memory (12) or as died (11). `replay` of the log prints `equal`
-  and the number of done requests, and gives the tables that were written; `check` of them succeeds.
+  and the number of done requests, and gives the tables that were written; `check` of them succeeds. A schedule ends with rounds,
+  and these end quiet.
 - Status 4 and `tpcc: no memory`, with a log. The answers and the log are as above, and the tables may be missing. At least one run
   of each command must end so, for lack of memory for the tables.
 - Status 4 and `tpcc: no memory`, without a log. No answer is printed and no file is left; or the whole log is left under its
   temporary name.
 - Status 1 and `tpcc: no thread`, from `tpcc run`. No file is left.
 
-The sweep ends with the first run that makes too few allocations to be refused one.
+The sweep ends with the first run that makes too few allocations to be refused one. In the sweep over one payment, exactly one run
+must print what is printed if the log has no memory for the payment's entry.
 """
 
 import os
@@ -38,8 +39,13 @@ REQUESTS = [
     "L,1,1,20",
     f"D,1,7,{MOMENT}",
 ]
-# A schedule in which an action of an order waits for a younger reader.
-WAITING = f"{ROOT}/scenarios/sim/new_order_waits/schedule.csv"
+# Schedules on the two warehouses of the examples, each with its number of executors and of requests: an action of an order waits for
+# a younger reader; a delivery waits for an order, which dies; messages follow a warehouse there and back.
+SCHEDULES = [("sim/new_order_waits", 1, 2), ("sim/delivery_waits", 1, 2), ("moves/messages_follow", 2, 1)]
+PAYMENT = f"P,1,1,1,1,#1,100,{MOMENT}"
+ORDER = f"N,1,1,1,{MOMENT},1,1,5,2,1,6,3,1,1,4,1,2,5,1,3"
+# What `tpcc sim` prints for the events of examples/one-payment.csv, followed by rounds, if the log has no memory for the entry.
+UNLOGGED = "accepted,0 took sent sent took took sent sent sent took sent sent answered,0,0,refused,12 sent sent sent took took took sent sent sent quiet".split()
 # The temporary name under which the log is written.
 OTHER_NAME = "log.csv.tpcc-0"
 AT_ONCE = 4 * (os.cpu_count() or 1)
@@ -70,20 +76,21 @@ def has_kept_its_log(command, ends):
     return True in ends and (command == "run" or False in ends[ends.index(True) :])
 
 
-def library(room):
-    """Builds the library that refuses an allocation, with the toolchain's clang. Returns its path."""
+def library(room, name):
+    """Builds the library `gate/NAME.c` with the toolchain's clang. Returns its path."""
     output = subprocess.run(["rt", "doc"], stdout=subprocess.PIPE, text=True, check=True).stdout
-    tools, built = f"{os.path.dirname(output.strip())}/toolchain/bin", f"{room}/refuse.so"
+    tools, built = f"{os.path.dirname(output.strip())}/toolchain/bin", f"{room}/{name}.so"
     words = ["--target=x86_64-unknown-linux-gnu", "-shared", "-fPIC", "-O1", "-nostdlib", f"-fuse-ld={tools}/ld.lld"]
-    subprocess.run([f"{tools}/clang", *words, f"{ROOT}/gate/refuse_allocation.c", "-o", built], check=True)
+    subprocess.run([f"{tools}/clang", *words, f"{ROOT}/gate/{name}.c", "-o", built], check=True)
     return built
 
 
 class Sweep:
-    """The runs of one command, each in a folder of its own."""
+    """The runs of one command, each in a folder of its own. If records are sought, exactly one run must print just these."""
 
-    def __init__(self, program, room, refuser, command, inputs, requests):
+    def __init__(self, program, room, refuser, command, inputs, requests, sought=None):
         self.program, self.room, self.refuser, self.requests = program, room, refuser, requests
+        self.sought, self.found = sought, []
         self.dataset = inputs[0]
         self.words = [command, *inputs, "--log", "log.csv", "--tables", "tables.csv"]
         self.command = command
@@ -101,6 +108,8 @@ class Sweep:
         more = {"LD_PRELOAD": self.refuser, "REFUSE_ALLOCATION": str(number), "REFUSED_FILE": mark}
         ran = self.call(folder, *self.words, env={**os.environ, **more})
         wrong = self.fault(folder, ran)
+        if self.sought and ran.stdout.splitlines() == self.sought:
+            self.found.append(number)
         was_refused = os.path.exists(mark)
         has_log = has_a_log(folder) if ran.returncode == 4 else None
         shutil.rmtree(folder)
@@ -124,6 +133,8 @@ class Sweep:
         bad = [it for it in answers if it[0] != "done" and it[:2] not in (["refused", "11"], ["refused", "12"])]
         if bad or len(answers) != self.requests:
             return f"answers: {answers}"
+        if self.command == "sim" and not ran.stdout.endswith("\nquiet\n"):
+            return f"the last rounds do not end quiet: {ran.stdout.splitlines()[-1:]}"
         return self.replayed(folder, sum(it[0] == "done" for it in answers), has_tables)
 
     def answers(self, printed):
@@ -172,27 +183,55 @@ class Sweep:
                         if not has_kept_its_log(self.command, ends):
                             print(f"allocations: tpcc {self.command}: no run without memory for its tables left a log")
                             well = False
+                        if self.sought and len(self.found) != 1:
+                            print(f"allocations: tpcc {self.command}: {len(self.found)} runs print what one must print")
+                            well = False
                         print(f"allocations: tpcc {self.command}: each of {number - 1} allocations refused in turn", flush=True)
                         return well
+
+
+def schedule_of(scenario, room):
+    """Writes the schedule of a scenario, followed by rounds, to a file, and returns its path."""
+    path, records = f"{room}/{os.path.basename(scenario)}.csv", read(f"{ROOT}/scenarios/{scenario}/schedule.csv").splitlines()[:-1]
+    write(path, [*records, "R", f"END,{len(records) + 1}"])
+    return path
+
+
+def sweeps_of(program, room, refuser):
+    """Returns the sweeps, over files that it writes to this folder."""
+    dataset, two = f"{room}/dataset.csv", f"{ROOT}/examples/two-warehouses.csv"
+    subprocess.run([program, "populate", dataset, *POPULATION], check=True)
+    files = {
+        "all-kinds": REQUESTS,
+        "payment": [PAYMENT],
+        "order": [ORDER],
+        # With each request the warehouse moves to the other executor.
+        "schedule": [it for number, request in enumerate(REQUESTS) for it in (f"S,0,{number},{request}", f"M,1,1,{(number + 1) % 2}", "R")],
+        "events": [*read(f"{ROOT}/examples/one-payment.csv").splitlines()[:-1], "R"],
+        "moves": ["1,1,1", "1,1,0", "1,1,1"],
+        "move": ["1,2,1"],
+    }
+    paths = {name: f"{room}/{name}.csv" for name in files}
+    for name, records in files.items():
+        write(paths[name], [*records, f"END,{len(records)}"])
+    sweep = lambda *words: Sweep(program, room, refuser, *words)
+    return [
+        sweep("run", [dataset, *[paths["all-kinds"]] * 2, "--moves", paths["moves"]], 2 * len(REQUESTS)),
+        sweep("run", [two, *[paths["payment"]] * 4], 4),
+        sweep("run", [two, *[paths["order"]] * 16, "--moves", paths["move"]], 16),
+        sweep("sim", [dataset, paths["schedule"]], len(REQUESTS)),
+        sweep("sim", [two, paths["events"], "--executors", "1"], 1, UNLOGGED),
+        *[
+            sweep("sim", [two, schedule_of(name, room), "--executors", str(executors), "--locks"], requests)
+            for name, executors, requests in SCHEDULES
+        ],
+    ]
 
 
 def main():
     program = os.path.abspath(sys.argv[1])
     with tempfile.TemporaryDirectory(prefix="gate-allocations-") as room:
-        refuser, dataset, script, schedule = library(room), f"{room}/dataset.csv", f"{room}/script.csv", f"{room}/schedule.csv"
-        subprocess.run([program, "populate", dataset, *POPULATION], check=True)
-        write(script, [*REQUESTS, f"END,{len(REQUESTS)}"])
-        # With each request the warehouse moves to the other executor.
-        events = [it for number, request in enumerate(REQUESTS) for it in (f"S,0,{number},{request}", f"M,1,1,{(number + 1) % 2}", "R")]
-        write(schedule, [*events, f"END,{len(events)}"])
-        moves = f"{room}/moves.csv"
-        write(moves, ["1,1,1", "1,1,0", "1,1,1", "END,3"])
-        sweeps = [
-            Sweep(program, room, refuser, "run", [dataset, script, script, "--moves", moves], 2 * len(REQUESTS)),
-            Sweep(program, room, refuser, "sim", [dataset, schedule], len(REQUESTS)),
-            Sweep(program, room, refuser, "sim", [f"{ROOT}/examples/two-warehouses.csv", WAITING, "--executors", "1"], 2),
-        ]
-        return 0 if all([it.whole() for it in sweeps]) else 1
+        return 0 if all([it.whole() for it in sweeps_of(program, room, library(room, "refuse_allocation"))]) else 1
 
 
 if __name__ == "__main__":

@@ -1,13 +1,15 @@
 """Runs all tests: ./dev gate [--anew] [--whole] [--record NAME]
 
 First the gate compares the definitions that documents quote with the files, checks the order of crates.txt, and checks
-the form of every wrong program. Three parts follow:
+the form of every wrong program. Five parts follow:
 
 1. `rt ci` proves every crate and its tests from nothing, and runs the tests and the stored run. The longest chain of
    crates goes first, if memory suffices. Meanwhile the prover must refuse the wrong programs of must-fail/, each at the
    function that it names, over the libraries that are built by then.
 2. The proved program runs all scenarios.
 3. Each allocation of that program is made to fail in turn.
+4. The files that it reads are cut, and each of its reads and writes is made to fail in turn.
+5. It plays 1,000 random schedules, and serves random scripts; `replay` and `check` must agree with all that it tells.
 
 The last line is `N passed, M failed`, as that of `rt ci`. It counts crates and wrong programs; any other check that
 fails counts as one failure. The exit status is 0 if nothing failed.
@@ -39,10 +41,10 @@ from edits import KINDS, Trials, edits_of, free_memory
 
 ROOT = os.path.dirname(os.path.dirname(os.path.abspath(__file__)))
 PROGRAM = "crates/tpcc/out/tpcc"
-# The crate whose proof takes longest. `rt ci` assigns processors to a proof when it starts, and this proof would start beside others
-# and get one processor. So a run of this crate and those below it goes first. Beside it, at a lower priority, goes a run of all crates
-# that do not stand on this one. The main run reuses what these two have proved, and proves the rest.
-TOP = "engine"
+# The crates whose proofs take longest. `rt ci` assigns processors to a proof when it starts, and such a proof would start beside others
+# and get one processor. So a run of these crates and those below them goes first. Beside it, at a lower priority, goes a run of all
+# crates that stand on neither. The main run reuses what these two have proved, and proves the rest.
+TOPS = ("engine", "world")
 # `rt ci` with a schedule for a toolchain that keeps nothing.
 SCHEDULED = [sys.executable, "-B", f"{ROOT}/gate/schedule.py"]
 # Two runs go side by side only with more free memory than this, in bytes.
@@ -188,7 +190,7 @@ def run(anew, whole):
         print("\n".join(faults))
         return 0, 1
     edits = edits_of(ROOT, crates(), KINDS if whole else KINDS[:1])
-    say(f"part 1 of 3: proving every crate and its tests, running the tests, and trying {len(edits)} wrong programs")
+    say(f"part 1 of 5: proving every crate and its tests, running the tests, and trying {len(edits)} wrong programs")
     below = with_all_below()
     with contextlib.ExitStack() as held:
         copy_of = lambda names: held.enter_context(without_edits(names))
@@ -199,7 +201,8 @@ def run(anew, whole):
         if not keeps:
             say("this toolchain's rt ci keeps nothing, so one run proves everything, on a schedule of the gate's own")
         elif not anew and free_memory() > ENOUGH_FOR_TWO:
-            chain, others = copy_of(below[TOP]), copy_of(it for it in crates() if TOP not in below[it])
+            chain = copy_of(set().union(*(below[top] for top in TOPS)))
+            others = copy_of(it for it in crates() if not below[it].intersection(TOPS))
             passed, failed = ahead(Run(chain, progress), Run(others, progress, priority=10))
             if failed:
                 return passed, failed
@@ -215,8 +218,10 @@ def run(anew, whole):
         shutil.copy(f"{room}/{PROGRAM}", f"{ROOT}/{PROGRAM}")
     if failed:
         return passed, failed
-    failed += not passes("part 2 of 3: running all scenarios with the proved program", "scenarios/scenarios.py", "--program", PROGRAM)
-    failed += not passes("part 3 of 3: making each allocation of that program fail in turn", "gate/allocations.py", PROGRAM)
+    failed += not passes("part 2 of 5: running all scenarios with the proved program", "scenarios/scenarios.py", "--program", PROGRAM)
+    failed += not passes("part 3 of 5: making each allocation of that program fail in turn", "gate/allocations.py", PROGRAM)
+    failed += not passes("part 4 of 5: cutting the files that it reads, and making its reads and writes fail", "gate/file_faults.py", PROGRAM)
+    failed += not passes("part 5 of 5: playing 1,000 random schedules, and serving random scripts", "gate/soak.py", PROGRAM)
     return passed, failed
 
 

@@ -17,7 +17,7 @@ FILES = (".csv", ".svg")
 
 # The marks of a command in `commands`: its scripts may be logged in any order; or it runs under a condition, or is large, and then
 # needs a built program.
-MARK = re.compile(r"(any order|no room|closed|room \d+|interrupted|terminal|large): ")
+MARK = re.compile(r"(any order|no room|closed|(?:room|memory) \d+|interrupted|terminal|large): ")
 
 # A further mark: the command is run once for each record of a list, possibly on a terminal.
 EACH = re.compile(r"(terminal: )?each of (\S+): ")
@@ -25,7 +25,7 @@ EACH = re.compile(r"(terminal: )?each of (\S+): ")
 # The record's placeholder in the words and files of such a command.
 RECORD = "{record}"
 # What the transcript shows after the words of a command with a mark.
-SHOWN = {"terminal": "   # on a terminal", "no room": " > /dev/full", "closed": " | true", "interrupted": "   # and Ctrl-C", "room": "   # where files have room for {}"}
+SHOWN = {"terminal": "   # on a terminal", "no room": " > /dev/full", "closed": " | true", "interrupted": "   # and Ctrl-C", "room": "   # where files have room for {}", "memory": "   # with {} MB of memory"}
 
 
 class Mistake(Exception):
@@ -138,6 +138,9 @@ class Run:
         elif self.mark.startswith("room"):
             room = int(self.mark.split()[1])
             more["preexec_fn"] = lambda: (signal.signal(signal.SIGXFSZ, signal.SIG_IGN), resource.setrlimit(resource.RLIMIT_FSIZE, (room, room)))
+        elif self.mark.startswith("memory"):
+            memory = int(self.mark.split()[1]) << 20
+            more["preexec_fn"] = lambda: resource.setrlimit(resource.RLIMIT_AS, (memory, memory))
         elif self.mark == "interrupted":
             os.mkfifo(folder / "never.csv")
         elif self.mark == "terminal":
@@ -198,7 +201,8 @@ class Run:
 
     def transcript(self, folder):
         """Returns the run as lines of a shell session. The runs for a list have the words once, and then a line each."""
-        shown = SHOWN.get(self.mark.split(" ")[0] if self.mark.startswith("room") else self.mark, "").format(self.mark[5:])
+        mark, _, number = self.mark.rpartition(" ") if self.mark.startswith(("room ", "memory ")) else (self.mark, "", "")
+        shown = SHOWN.get(mark, "").format(number)
         if self.record is not None:
             head = [f"$ tpcc {self.line}   # with each of {self.records}{shown.replace('   #', ',')}"] if self.number == 1 else []
             return head + self.row(folder)

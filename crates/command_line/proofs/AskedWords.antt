@@ -12,7 +12,7 @@ use Rattle.command_line.specs.declared.settings.Settings.TheVariants.{Text}
 use Rattle.command_line.specs.declared.usage.UsageFault.{UsageFault}
 use Rattle.command_line.specs.declared.usage.UsageFault.TheVariants as usage
 use Rattle.command_line.specs.CommandLine.{program}
-use Rattle.command_line.specs.Mistakes.{IsFilesFault, IsMomentFault, IsNoMemory, IsNumberFault, IsOptionFault, IsPopulateFault, IsScriptFault}
+use Rattle.command_line.specs.Mistakes.{IsFilesFault, IsMomentFault, IsNoMemory, IsNumberFault, IsOptionFault, IsPopulateFault, IsScriptFault, IsSimFault}
 use Rattle.command_line.specs.Words.{all_words}
 use Rattle.command_line.specs.Asked.{AsksFor, IsAsked, IsFaultOf, IsMistake, IsVersion, MeansCommand, MeansHelp, MistakesCommand, MistakesHelp, NamesCommand, help_asked}
 
@@ -138,12 +138,21 @@ pub of_script : (name : List ℕ) (found : Found) (fault : UsageFault) → name 
 of_script name found usage.NoCommand is h = absurd (no_command found h)
 of_script name found fault is h = inr (inr (inr (is, h)))
 
+no_sim : (found : Found) (error : Error) → IsSimFault found (usage.Words error) → ⊥
+no_sim found error h = elim h [
+  | inl a ↦ no_number _ _ _ (first_value found (codes "executors")) error a
+  | inr b ↦ elim b.1 [
+    | inl d ↦ no_number _ _ _ (first_value found (codes "log-limit")) error d
+    | inr e ↦ no_number _ _ _ (first_value found (codes "inbox")) error e.1
+  ]
+]
+
 -- an error of clap for a command is out of memory
 no_words : (name : List ℕ) (found : Found) (error : Error) → IsFaultOf name found (usage.Words error) → kind_of error ≡ OutOfMemory
 no_words name found error h = elim h [
   | inl run ↦ run.1
   | inr others ↦ elim others [
-    | inl sim ↦ absurd (no_number _ _ _ (first_value found (codes "executors")) error sim.1)
+    | inl sim ↦ absurd (no_sim found error sim.1)
     | inr more ↦ elim more [
       | inl populate ↦ absurd (no_populate found error populate.1)
       | inr script ↦ no_script found error script.1

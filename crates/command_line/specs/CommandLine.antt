@@ -51,8 +51,8 @@ check_command = command (codes "check") (argument (codes "DATA") ∷ flag (codes
 
 abbrev pub run_command : Shape
 run_command = command (codes "run") (
-    argument (codes "DATA") ∷ arguments (codes "SCRIPT") ∷ option (codes "executors") ∷ option (codes "tries") ∷ option (codes "moves")
-    ∷ option (codes "log") ∷ option (codes "tables") ∷ flag (codes "summary") ∷ flag (codes "quiet") ∷ [])
+    argument (codes "DATA") ∷ arguments (codes "SCRIPT") ∷ option (codes "executors") ∷ option (codes "log-limit") ∷ option (codes "inbox") ∷ option (codes "tries")
+    ∷ option (codes "moves") ∷ option (codes "log") ∷ option (codes "tables") ∷ flag (codes "summary") ∷ flag (codes "quiet") ∷ [])
 
 abbrev pub replay_command : Shape
 replay_command = command (codes "replay") (
@@ -60,8 +60,8 @@ replay_command = command (codes "replay") (
 
 abbrev pub sim_command : Shape
 sim_command = command (codes "sim") (
-    argument (codes "DATA") ∷ argument (codes "SCHEDULE") ∷ option (codes "executors") ∷ option (codes "log")
-    ∷ option (codes "picture") ∷ option (codes "tables") ∷ flag (codes "quiet") ∷ [])
+    argument (codes "DATA") ∷ argument (codes "SCHEDULE") ∷ option (codes "executors") ∷ option (codes "log-limit") ∷ option (codes "inbox") ∷ flag (codes "locks")
+    ∷ option (codes "log") ∷ option (codes "picture") ∷ option (codes "tables") ∷ flag (codes "quiet") ∷ [])
 
 -- the program without its commands: a command has to be named, and there are `--help` and `--version`
 abbrev pub program_alone : Shape

@@ -4,7 +4,7 @@ use Rattle.std.specs.Fmt.{decimal}
 use Rattle.std.specs.List.{slice_get}
 use Rattle.std.specs.Ordering.{is_eq}
 use Rattle.std.specs.Path.{path_cmp}
-use Rattle.rows.specs.declared.limits.TheConstants.{MOST_ENTRIES, MOST_WAREHOUSES}
+use Rattle.rows.specs.declared.limits.TheConstants.{INBOX, MOST_ENTRIES, MOST_WAREHOUSES}
 use Rattle.clap.specs.Words.{first_value, kind_of}
 use Rattle.clap.specs.declared.error.ErrorKind.TheVariants.{OutOfMemory}
 use Rattle.clap.specs.declared.parser.matches.Found.{Found}
@@ -81,22 +81,32 @@ IsFilesFault files fault =
 -- ---- mistakes of each command
 
 module _ (found : Found) where
-  -- out of memory; not 1 to SESSIONS scripts; one path for log and tables; executors that are not 1 to 16; or else tries that are not 1 to 10,000
+  -- out of memory; not 1 to SESSIONS scripts; one path for log and tables; executors that are not 1 to 16; or else a log limit or an inbox out of
+  -- its limits; or else tries that are not 1 to 10,000
   abbrev pub IsRunFault : UsageFault → Type 0
   IsRunFault (usage.Words error) = kind_of error ≡ OutOfMemory
   IsRunFault usage.ScriptCount = IsSessionCount (length (all_words found (codes "SCRIPT"))) → ⊥
   IsRunFault usage.SameOutput = AreOnePath (first_value found (codes "log")) (first_value found (codes "tables"))
   IsRunFault fault =
       IsNumberFault (codes "--executors") 1 16 (first_value found (codes "executors")) fault
-      ⊎ (IsNumberWord 1 16 (first_value found (codes "executors")) × IsNumberFault (codes "--tries") 1 10000 (first_value found (codes "tries")) fault)
+      ⊎ (IsNumberWord 1 16 (first_value found (codes "executors")) × (
+      IsNumberFault (codes "--log-limit") 1 MOST_ENTRIES (first_value found (codes "log-limit")) fault
+      ⊎ (IsNumberWord 1 MOST_ENTRIES (first_value found (codes "log-limit")) × (
+      IsNumberFault (codes "--inbox") 1 INBOX (first_value found (codes "inbox")) fault
+      ⊎ (IsNumberWord 1 INBOX (first_value found (codes "inbox")) × IsNumberFault (codes "--tries") 1 10000 (first_value found (codes "tries")) fault)))))
 
-  -- one path for two of log, picture and tables; or executors that are not 1 to 16
+  -- one path for two of log, picture and tables; or executors that are not 1 to 16; or else a log limit or an inbox out of its
+  -- limits
   abbrev pub IsSimFault : UsageFault → Type 0
   IsSimFault usage.SameOutput =
       AreOnePath (first_value found (codes "log")) (first_value found (codes "picture"))
       ⊎ (AreOnePath (first_value found (codes "log")) (first_value found (codes "tables"))
       ⊎ AreOnePath (first_value found (codes "picture")) (first_value found (codes "tables")))
-  IsSimFault fault = IsNumberFault (codes "--executors") 1 16 (first_value found (codes "executors")) fault
+  IsSimFault fault =
+      IsNumberFault (codes "--executors") 1 16 (first_value found (codes "executors")) fault
+      ⊎ (IsNumberWord 1 16 (first_value found (codes "executors")) × (
+      IsNumberFault (codes "--log-limit") 1 MOST_ENTRIES (first_value found (codes "log-limit")) fault
+      ⊎ (IsNumberWord 1 MOST_ENTRIES (first_value found (codes "log-limit")) × IsNumberFault (codes "--inbox") 1 INBOX (first_value found (codes "inbox")) fault)))
 
   -- the fault is that of the first number that is out of its limits, or else that of the moment
   abbrev pub IsPopulateFault : UsageFault → Type 0

@@ -1,6 +1,7 @@
 -- The settings that the words of the command line ask for.
 use Rattle.std.specs.Prelude.{◌≡◌, ℕ, if◌then◌else◌, Bool, true, false, List, [], map, Option, None, Some, codes, option_copied, option_map, unwrap_or}
 use Rattle.std.specs.Fmt.{decimal}
+use Rattle.rows.specs.declared.limits.TheConstants.{INBOX, MOST_ENTRIES}
 use Rattle.clap.specs.Words.{first_value, matched_of, one_text, raw_values}
 use Rattle.clap.specs.declared.parser.matches.Found.{Found}
 use Rattle.files.specs.MomentText.{IsMomentText}
@@ -61,6 +62,8 @@ module _ (found : Found) where
     pub «data» : s.«data».now ≡ word_of (codes "DATA")
     pub scripts : map (λ path. path.now) s.scripts.items ≡ all_words (codes "SCRIPT")
     pub executors : IsNumber (first_value found (codes "executors")) 2 s.executors
+    pub log_limit : IsNumber (first_value found (codes "log-limit")) MOST_ENTRIES s.log_limit
+    pub inbox : IsNumber (first_value found (codes "inbox")) INBOX s.inbox
     pub tries : IsNumber (first_value found (codes "tries")) 100 s.tries
     pub moves : option_copied s.moves ≡ first_value found (codes "moves")
     pub log : option_copied s.log ≡ first_value found (codes "log")
@@ -72,6 +75,9 @@ module _ (found : Found) where
     pub «data» : s.«data».now ≡ word_of (codes "DATA")
     pub schedule : s.schedule.now ≡ word_of (codes "SCHEDULE")
     pub executors : IsNumber (first_value found (codes "executors")) 2 s.executors
+    pub log_limit : IsNumber (first_value found (codes "log-limit")) MOST_ENTRIES s.log_limit
+    pub inbox : IsNumber (first_value found (codes "inbox")) INBOX s.inbox
+    pub locks : IsFlag (codes "locks") s.locks
     pub log : option_copied s.log ≡ first_value found (codes "log")
     pub picture : option_copied s.picture ≡ first_value found (codes "picture")
     pub tables : option_copied s.tables ≡ first_value found (codes "tables")

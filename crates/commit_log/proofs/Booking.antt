@@ -1,18 +1,17 @@
 -- One entry more keeps what a log's book keeps.
 use Rattle.std.proofs.Common.{◌≡◌, ◌≢◌, ℕ, ◌+◌, ◌<◌, ◌==◌, Bool, List, [], ◌∷◌, ◌++◌, if◌then◌else◌, length, set, get_or, refl, sym, ap, ◌∙◌, ⊎_elim, arith, append_assoc, append-nil, length-append, length-set, eq-eqb, ne_eqb}
 use Rattle.std.proofs.lemmas.List.Elements.{All-nil, All-cons, All-append}
-use Rattle.rows.specs.declared.limits.TheConstants.{MOST_ENTRIES, SESSIONS}
+use Rattle.rows.specs.declared.limits.TheConstants.{SESSIONS}
 use mathlib.Core.Option.{some}
 use lib.ListN.{get_elem?}
 use Rattle.atomic_table.proofs.Lists.{at_set, at_index}
-use Rattle.atomic_table.specs.Seated.{TableId}
 use Rattle.agreement.specs.SeatView.{SeatView}
 use Rattle.length_word.specs.LengthView.{LengthView, length_view}
 use Rattle.commit_log.specs.declared.entry.Entry.{Entry}
 use Rattle.commit_log.specs.declared.mine.Item.{Item}
 use Rattle.commit_log.specs.declared.mine.Mine.{Mine}
 use Rattle.commit_log.specs.Items.{item, items_from, items_of, mine_of}
-use Rattle.commit_log.specs.Kept.{seat_at, IsBookOf}
+use Rattle.commit_log.specs.Kept.{seat_at, BookNames, IsBookOf}
 
 -- the items of a session that an entry at this place makes: one or none
 abbrev items_at : ℕ → ℕ → Entry → List Item
@@ -42,31 +41,33 @@ items_of-other session entries entry apart =
     ∙ ap (λ (b : Bool). before ++ (if b then item (0 + length entries) entry.number entry.request entry.reply ∷ [] else [])) (ne_eqb session entry.session apart)
     ∙ append-nil before
 
-pub book_more : (length_table : TableId) (mine_tables : ℕ → TableId) (entries : List Entry) (word : LengthView) (seats : List (SeatView Mine)) → IsBookOf length_table mine_tables entries word seats
+pub book_more : (names : BookNames) (most : ℕ) (entries : List Entry) (word : LengthView) (seats : List (SeatView Mine)) → IsBookOf names most entries word seats
     → (entry : Entry) (seat : SeatView Mine) (longer : LengthView)
     → entry.session < SESSIONS
-    → length entries < MOST_ENTRIES
-    → longer ≡ length_view length_table (length entries + 1)
-    → seat ≡ seat_at (mine_tables entry.session) (mine_of (items_of entry.session entries ++ item (length entries) entry.number entry.request entry.reply ∷ []))
-    → IsBookOf length_table mine_tables (entries ++ entry ∷ []) longer (set seats entry.session seat)
-book_more length_table mine_tables entries word seats book entry seat longer small room grown recorded =
+    → length entries < most
+    → longer ≡ length_view names.length_table (length entries + 1)
+    → seat ≡ seat_at (names.mine_tables entry.session) (mine_of (items_of entry.session entries ++ item (length entries) entry.number entry.request entry.reply ∷ []))
+    → IsBookOf names most (entries ++ entry ∷ []) longer (set seats entry.session seat)
+book_more names most entries word seats book entry seat longer small room grown recorded =
     let long = length-append entries (entry ∷ []) in record {
-      recorded_length = grown ∙ ap (length_view length_table) (omega arith);
-      most = omega arith;
+      limit = book.limit;
+      in_range = book.in_range;
+      recorded_length = grown ∙ ap (length_view names.length_table) (omega arith);
+      few = omega arith;
       sessions = All-append (λ (e : Entry). e.session < SESSIONS) entries (entry ∷ []) book.sessions (All-cons (λ (e : Entry). e.session < SESSIONS) entry [] small (All-nil (λ (e : Entry). e.session < SESSIONS)));
       seat_each = length-set seats entry.session seat ∙ book.seat_each;
       each_records = λ session other at.
           ⊎_elim
           (λ (x : (session ≡ entry.session) × (seat ≡ other)).
           sym x.1 ∙ recorded
-          ∙ ap (λ items. seat_at (mine_tables entry.session) (mine_of items)) (sym (items_of-own entries entry))
-          ∙ ap (λ s. seat_at (mine_tables s) (mine_of (items_of s (entries ++ entry ∷ [])))) (sym x.0))
+          ∙ ap (λ items. seat_at (names.mine_tables entry.session) (mine_of items)) (sym (items_of-own entries entry))
+          ∙ ap (λ s. seat_at (names.mine_tables s) (mine_of (items_of s (entries ++ entry ∷ [])))) (sym x.0))
           (λ (x : (session ≢ entry.session) × (get_elem? seats session ≡ some other)).
-          book.each_records session other x.1 ∙ ap (λ items. seat_at (mine_tables session) (mine_of items)) (sym (items_of-other session entries entry x.0)))
+          book.each_records session other x.1 ∙ ap (λ items. seat_at (names.mine_tables session) (mine_of items)) (sym (items_of-other session entries entry x.0)))
           (at_set seats entry.session session seat other at);
     }
 
 -- the value of the log's seat of a session
-pub recorded : (length_table : TableId) (mine_tables : ℕ → TableId) (entries : List Entry) (word : LengthView) (seats : List (SeatView Mine)) → IsBookOf length_table mine_tables entries word seats
-    → (session : ℕ) (seat : SeatView Mine) → session < SESSIONS → seat ≡ get_or seats session seat → seat ≡ seat_at (mine_tables session) (mine_of (items_of session entries))
-recorded length_table mine_tables entries word seats book session seat small at = let many = book.seat_each in book.each_records session seat (at_index seats session seat (omega arith) at)
+pub recorded : (names : BookNames) (most : ℕ) (entries : List Entry) (word : LengthView) (seats : List (SeatView Mine)) → IsBookOf names most entries word seats
+    → (session : ℕ) (seat : SeatView Mine) → session < SESSIONS → seat ≡ get_or seats session seat → seat ≡ seat_at (names.mine_tables session) (mine_of (items_of session entries))
+recorded names most entries word seats book session seat small at = let many = book.seat_each in book.each_records session seat (at_index seats session seat (omega arith) at)

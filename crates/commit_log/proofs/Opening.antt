@@ -1,11 +1,11 @@
 -- The loops that make the seats of a log, and its passes.
-use Rattle.std.proofs.Common.{◌≡◌, ℕ, zero, suc, ◌+◌, ◌<◌, List, [], ◌∷◌, ◌++◌, length, map, refl, sym, ap, ◌∙◌, subst, arith, zero-le, length-append, below_more}
+use Rattle.std.proofs.Common.{◌≡◌, ℕ, zero, suc, ◌+◌, ◌<◌, List, [], ◌∷◌, ◌++◌, length, map, refl, sym, ap, ◌∙◌, subst, arith, ◌≤◌, zero-le, length-append, below_more}
 use Rattle.std.proofs.lemmas.List.{length-map}
 use Rattle.std.specs.Prelude.{All, Some, slice_get}
 use Rattle.std.proofs.lemmas.List.Elements.{All-nil, All-cons, All-append}
 use mathlib.Core.Option.{some, some-ne-none, some-injective}
 use lib.ListN.{get_elem?}
-use Rattle.rows.specs.declared.limits.TheConstants.{SESSIONS}
+use Rattle.rows.specs.declared.limits.TheConstants.{MOST_ENTRIES, SESSIONS}
 use Rattle.atomic_table.specs.Seated.{TableId}
 use Rattle.agreement.specs.SeatView.{SeatView}
 use Rattle.length_word.specs.LengthView.{LengthView, length_view}
@@ -14,8 +14,8 @@ use Rattle.commit_log.specs.declared.mine.Mine.{Mine}
 use Rattle.commit_log.specs.Asks.{nothing_asked}
 use Rattle.commit_log.specs.Items.{mine_of}
 use Rattle.commit_log.specs.declared.entry.Entry.{Entry}
-use Rattle.commit_log.specs.Kept.{seat_at, IsPair, EachRecords, IsBookOf}
-use Rattle.commit_log.specs.Lanes.{mine_table, asks_table, tables_of, IsLaneOf, IsNewLane, AreLanes}
+use Rattle.commit_log.specs.Kept.{seat_at, IsPair, BookNames, EachRecords, IsBookOf}
+use Rattle.commit_log.specs.Lanes.{mine_table, asks_table, IsLaneOf, IsNewLane, AreLanes}
 use Rattle.commit_log.specs.LogTables.{table_of}
 use Rattle.commit_log.specs.PassView.{PassView, pass_view, SessionSeatView, session_seat_view, new_pass, new_seat}
 
@@ -78,9 +78,9 @@ lanes_from length_table mine asks first (lane ∷ lanes) new mine_is asks_is =
     )
 
 pub lanes_named : (word : LengthView) (seats : List (SeatView Mine)) (lanes : List Lane) → AreLanes SESSIONS word seats lanes → (length_table : TableId) (mine asks : ℕ → TableId)
-    → length_table ≡ (tables_of word lanes).length
-    → ((k : ℕ) → k < SESSIONS → mine k ≡ table_of (tables_of word lanes).mine k)
-    → ((k : ℕ) → k < SESSIONS → asks k ≡ table_of (tables_of word lanes).asks k)
+    → length_table ≡ word.table
+    → ((k : ℕ) → k < SESSIONS → mine k ≡ table_of (map mine_table lanes) k)
+    → ((k : ℕ) → k < SESSIONS → asks k ≡ table_of (map asks_table lanes) k)
     → LanesFrom length_table mine asks 0 lanes
 lanes_named word seats lanes all length_table mine asks same mine_is asks_is =
     lanes_from length_table mine asks 0 lanes (subst (λ t. All (IsNewLane t) lanes) (sym same) all.new)
@@ -99,14 +99,16 @@ seats_named length_table mine asks seats lanes all same k seat e =
     seats_from length_table mine asks 0 lanes all k seat (subst (λ l. get_elem? l k ≡ some seat) same e) ∙ ap (λ n. seat_at (mine n) (mine_of [])) (omega arith)
 
 -- a book without entries, under its names
-pub book_new : (word : LengthView) (seats : List (SeatView Mine)) (lanes : List Lane) → AreLanes SESSIONS word seats lanes → (length_table : TableId) (mine asks : ℕ → TableId)
-    → length_table ≡ word.table → LanesFrom length_table mine asks 0 lanes → IsBookOf length_table mine [] word seats
-book_new word seats lanes all length_table mine asks same named = record {
+pub book_new : (word : LengthView) (seats : List (SeatView Mine)) (lanes : List Lane) → AreLanes SESSIONS word seats lanes → (names : BookNames) (most : ℕ) (asks : ℕ → TableId)
+    → most ≡ names.most → most ≤ MOST_ENTRIES → names.length_table ≡ word.table → LanesFrom names.length_table names.mine_tables asks 0 lanes → IsBookOf names most [] word seats
+book_new word seats lanes all names most asks limit in_range same named = record {
+  limit = limit;
+  in_range = in_range;
   recorded_length = λ i. length_view (sym same i) (all.empty i);
-  most = zero-le;
+  few = zero-le;
   sessions = All-nil (λ (e : Entry). e.session < SESSIONS);
   seat_each = ap (λ (l : List (SeatView Mine)). length l) all.seats_of_log ∙ length-map lanes (λ (x : Lane). x.mine) ∙ all.many;
-  each_records = seats_named length_table mine asks seats lanes named all.seats_of_log;
+  each_records = seats_named names.length_table names.mine_tables asks seats lanes named all.seats_of_log;
 }
 
 -- the pass and the seat of a session, as they are made of a lane

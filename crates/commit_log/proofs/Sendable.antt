@@ -33,14 +33,17 @@ Entry-send = declared_send Entry.the_type (
 module _ (J : RattleType) (names : LogNames J.Denot) (s : IsSend J) where
   LogBook-send : IsSend (LogBook.the_row J names)
   LogBook-send = view_send _ _ _ _ _ (declared_send (LogBook.TheInside.the_type J names) (
-    search (Entry-send, Vec-send) depth 10,
+    search sendable depth 20,
     (
-      Length-send,
+      search (Entry-send, Vec-send) depth 10,
       (
-        search (Seat-send, Vec-send, sendable) depth 20,
+        Length-send,
         (
-          search sendable depth 20,
-          tt,
+          search (Seat-send, Vec-send, sendable) depth 20,
+          (
+            search sendable depth 20,
+            tt,
+          ),
         ),
       ),
     ),

@@ -24,13 +24,25 @@ abbrev pub EachRecords : (ℕ → TableId) → List Entry → List (SeatView Min
 EachRecords tables entries seats =
     (session : ℕ) (seat : SeatView Mine) → get_elem? seats session ≡ some seat → seat ≡ seat_at (tables session) (mine_of (items_of session entries))
 
--- the book has these entries, this length and these seats of the sessions
-pub record IsBookOf (length_table : TableId) (mine_tables : ℕ → TableId) (entries : List Entry) (word : LengthView) (seats : List (SeatView Mine)) : Type 0 where
-  pub recorded_length : word ≡ length_view length_table (length entries)
-  pub most : length entries ≤ MOST_ENTRIES
+-- what the names of a log say of its book: the most entries, the table of its length, and those of the agreements on what
+-- each session has logged
+pub record BookNames : Type 0 where
+  pub most : ℕ
+  pub length_table : TableId
+  pub mine_tables : ℕ → TableId
+
+abbrev pub book_names : ℕ → TableId → (ℕ → TableId) → BookNames
+book_names most length_table mine_tables = record { most = most; length_table = length_table; mine_tables = mine_tables }
+
+-- the book has this limit, these entries, this length and these seats of the sessions
+pub record IsBookOf (names : BookNames) (most : ℕ) (entries : List Entry) (word : LengthView) (seats : List (SeatView Mine)) : Type 0 where
+  pub limit : most ≡ names.most
+  pub in_range : most ≤ MOST_ENTRIES
+  pub recorded_length : word ≡ length_view names.length_table (length entries)
+  pub few : length entries ≤ most
   pub sessions : All (λ entry. entry.session < SESSIONS) entries
   pub seat_each : length seats ≡ SESSIONS
-  pub each_records : EachRecords mine_tables entries seats
+  pub each_records : EachRecords names.mine_tables entries seats
 
 -- the tables of the agreements of which a pass has seats: on the log's length, on what its session has logged, and on
 -- what it asks

@@ -18,9 +18,9 @@ mine_table lane = lane.mine.agreement.table
 abbrev pub asks_table : Lane → TableId
 asks_table lane = lane.asks.agreement.table
 
--- the tables of a length and of these sessions
-abbrev pub tables_of : LengthView → List Lane → LogTables
-tables_of word lanes = record { length = word.table; mine = map mine_table lanes; asks = map asks_table lanes }
+-- a limit, and the tables of a length and of these sessions
+abbrev pub tables_of : ℕ → LengthView → List Lane → LogTables
+tables_of most word lanes = record { most = most; length = word.table; mine = map mine_table lanes; asks = map asks_table lanes }
 
 -- the parts of a session at these tables, which has seen, logged and asked nothing
 pub record IsLaneOf (length_table mine_table asks_table : TableId) (lane : Lane) : Type 0 where

@@ -1,3 +1,4 @@
+pub mod Limits
 pub mod NoTables
 pub mod LogBookView
 pub mod Log

@@ -5,6 +5,7 @@
 
 mod asking;
 mod entry;
+mod limits;
 mod log;
 mod log_book;
 mod log_names;
@@ -18,6 +19,7 @@ mod verdict;
 
 pub use asking::Asking;
 pub use entry::Entry;
+pub use limits::{InboxLimit, Limits, LogLimit};
 pub use log::Log;
 pub use log_book::{AppendFault, LogBook};
 pub use log_names::LogNames;

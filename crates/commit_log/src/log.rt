@@ -57,7 +57,8 @@ impl<J: Names> Log<J> {
         ensures entries { result.now ≡ self.now }
         ensures legal { replies_of self.now ≡ replies J.opening (requests_of self.now) }
         ensures accepted { All (λ entry. IsAccepted J.opening.scale entry.request) self.now }
-        ensures most { length self.now ≤ MOST_ENTRIES }
+        ensures few { length self.now ≤ J.most }
+        ensures most { J.most ≤ MOST_ENTRIES }
         ensures sessions { All (λ entry. entry.session < SESSIONS) self.now }
     {
         self.book.entries()
@@ -73,7 +74,7 @@ impl<J: Names> Log<J> {
     /// Logs a request that actions carried out under these claims; `held` has the claims of each action together.
     /// Returns the entry's place, from 0, which is after all entries that the pass has seen. From then on the contents
     /// left by the claims are committed, unless the transaction was rolled back. Returns NoMemory if an allocation
-    /// fails, and LogFull exactly if the log has `MOST_ENTRIES` entries. After an error the log and the claims are
+    /// fails, and LogFull exactly if the log has as many entries as its limit allows. After an error the log and the claims are
     /// unchanged; after LogFull the pass's mark has the log's length.
     pub fn append(
         &mut self,
@@ -93,7 +94,7 @@ impl<J: Names> Log<J> {
         ensures pass { IfOk result (λ done. done.1 ≡ after_item pass (item_of done.0 entry)) }
         ensures claims { IfOk result (λ _. held.new ≡ map (claims_logged entry.reply) held.old) }
         ensures full { IsErrAnd result (λ refused. refused.0 ≡ AppendFault.LogFull)
-            ↔ (MOST_ENTRIES ≤ length self.old) }
+            ↔ (J.most ≤ length self.old) }
         ensures err { IfErr result (λ refused. (self.new ≡ self.old) × (held.new ≡ held.old)) }
         ensures refused { IfErr result (λ refused.
             refused.1 ≡ after_refusal refused.0 (length self.old) pass) }

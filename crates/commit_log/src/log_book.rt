@@ -21,7 +21,7 @@ use thiserror::Error;
 pub enum AppendFault {
     #[error("no memory")]
     NoMemory,
-    #[error("the log is full, with {most} entries", most = MOST_ENTRIES)]
+    #[error("the log is full")]
     LogFull,
 }
 
@@ -29,6 +29,8 @@ pub enum AppendFault {
 /// requests.
 #[derive(Drop)]
 pub struct LogBook<J: LogNames> {
+    /// The most entries.
+    most: u32,
     entries: Vec<Entry>,
     length: Length,
     /// The items that each session has logged, by session number.
@@ -41,7 +43,7 @@ impl<J: LogNames> Model for LogBook<J> {
     ghost use Rattle.std.specs.Coded.{code_by, coded×, coded_list, coded_ℕ};
     ghost use Rattle.commit_log.specs.contracts.entry.Entry as entry;
     ghost use Rattle.commit_log.specs.LogBookView.{LogBookView, log_book_view};
-    ghost use Rattle.commit_log.specs.Kept.{IsBookOf};
+    ghost use Rattle.commit_log.specs.Kept.{IsBookOf, book_names};
 
     ghost Value = { LogBookView };
 
@@ -49,7 +51,8 @@ impl<J: LogNames> Model for LogBook<J> {
 
     ghost view = { λ b. log_book_view b.entries.items (vec_capacity b.entries - vec_len b.entries) };
 
-    ghost invariant = { λ b. IsBookOf J.length J.mine b.entries.items b.length b.mine.items };
+    ghost invariant = { λ b. IsBookOf (book_names J.most J.length J.mine)
+        b.most b.entries.items b.length b.mine.items };
 }
 
 impl<J: LogNames> LogBook<J> {
@@ -59,6 +62,7 @@ impl<J: LogNames> LogBook<J> {
         alloc: Global,
         seats: UnnamedLog,
     ) -> Result<(LogBook<J>, Vec<(Pass<J>, SessionSeat<J>)>), NoMemory>
+        requires most { J.most ≡ seats.most }
         requires length { J.length ≡ seats.length }
         requires mine { (session : ℕ) → session < SESSIONS
             → J.mine session ≡ table_of seats.mine session }
@@ -71,6 +75,7 @@ impl<J: LogNames> LogBook<J> {
             → slice_get opened.1.items session ≡ Some (new_pass session, new_seat session)) }
     {
         let UnnamedLog {
+            most,
             length,
             mine,
             mut lanes,
@@ -94,6 +99,7 @@ impl<J: LogNames> LogBook<J> {
             sessions.push((pass, seat))?;
         }
         let book = LogBook {
+            most: most.get(),
             entries: Vec::new(alloc),
             length,
             mine,
@@ -105,7 +111,8 @@ impl<J: LogNames> LogBook<J> {
     /// Returns the entries, in log order.
     pub fn entries(&self) -> &[Entry]
         ensures entries { result.now ≡ self.now.entries }
-        ensures most { length self.now.entries ≤ MOST_ENTRIES }
+        ensures few { length self.now.entries ≤ J.most }
+        ensures most { J.most ≤ MOST_ENTRIES }
         ensures sessions { All (λ entry. entry.session < SESSIONS) self.now.entries }
     {
         self.entries.as_slice()
@@ -114,28 +121,29 @@ impl<J: LogNames> LogBook<J> {
     /// Returns the entries, in log order. Never allocates.
     pub fn into_entries(self) -> Vec<Entry>
         ensures entries { result.items ≡ self.entries }
-        ensures most { length self.entries ≤ MOST_ENTRIES }
+        ensures few { length self.entries ≤ J.most }
+        ensures most { J.most ≤ MOST_ENTRIES }
         ensures sessions { All (λ entry. entry.session < SESSIONS) self.entries }
     {
         self.entries
     }
 
-    /// Reserves memory for one entry, and returns its place, from 0. Returns LogFull if the log has `MOST_ENTRIES`
-    /// entries: the pass's mark has the log's length then, and its number of seen entries is unchanged. Returns
+    /// Reserves memory for one entry, and returns its place, from 0. Returns LogFull if the log has as many entries as its
+    /// limit allows: the pass's mark has the log's length then, and its number of seen entries is unchanged. Returns
     /// NoMemory if an allocation fails; the pass is unchanged then. The entries are unchanged in any case.
     pub fn make_room(&mut self, pass: &mut Pass<J>) -> Result<u32, AppendFault>
         ensures entries { self.new.entries ≡ self.old.entries }
         ensures place { IfOk result (λ place. place ≡ length self.old.entries) }
-        ensures below { OnOk result (length self.old.entries < MOST_ENTRIES) }
+        ensures below { OnOk result (length self.old.entries < J.most) }
         ensures spare { OnOk result (0 < self.new.spare) }
         ensures pass { OnOk result (pass.new ≡ pass.old) }
         ensures full { IfErr result (λ fault. (fault ≡ AppendFault.LogFull)
-            ↔ (MOST_ENTRIES ≤ length self.old.entries)) }
+            ↔ (J.most ≤ length self.old.entries)) }
         ensures refused { IfErr result (λ fault.
             pass.new ≡ after_refusal fault (length self.old.entries) pass.old) }
         ensures further { pass.old.reached ≤ pass.new.reached }
     {
-        if self.entries.len() >= MOST_ENTRIES {
+        if self.entries.len() >= self.most as usize {
             self.length.check(&mut pass.mark);
             self.length.show(&mut pass.mark);
             return Err(AppendFault::LogFull);
@@ -151,14 +159,14 @@ impl<J: LogNames> LogBook<J> {
     pub fn reserve(&mut self, entries: usize) -> Result<(), NoMemory>
         ensures { self.new.entries ≡ self.old.entries }
     {
-        let left = MOST_ENTRIES.saturating_sub(self.entries.len());
+        let left = (self.most as usize).saturating_sub(self.entries.len());
         Ok(self.entries.reserve(entries.min(left))?)
     }
 
     /// Logs the pass's request with its reply, in the reserved memory: the log has one entry more, and the pass has
     /// seen it.
     pub fn log(&mut self, pass: &mut Pass<J>, number: u32, request: Request, reply: Reply)
-        requires below { length self.old.entries < MOST_ENTRIES }
+        requires below { length self.old.entries < J.most }
         requires spare { 0 < self.old.spare }
         requires number { pass.old.asks.number ≡ number }
         requires request { pass.old.asks.request ≡ request }

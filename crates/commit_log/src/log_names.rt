@@ -9,6 +9,8 @@ pub trait LogNames {
 
     /// The tables at the opening of the log.
     ghost opening: { Database };
+    /// The most entries that the log has.
+    ghost most: { ℕ };
     /// The table of the log's length.
     ghost length: { TableId };
     /// The table of the agreement on what each session has logged.
@@ -21,6 +23,8 @@ impl LogNames for Brand {
     ghost use Rattle.commit_log.specs.NoTables.{no_tables, no_table};
 
     ghost opening = { no_tables };
+
+    ghost most = { 1 };
 
     ghost length = { no_table };
 

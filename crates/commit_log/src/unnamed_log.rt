@@ -1,7 +1,7 @@
 ghost use Rattle.std.specs.Prelude.{◌≡◌, length, IfOk};
 ghost use Rattle.commit_log.specs.Kept.{IsPair};
 
-use crate::{Asking, Mine};
+use crate::{Asking, LogLimit, Mine};
 use agreement::{Seat, Value};
 use length_word::{Length, Mark};
 use rows::SESSIONS;
@@ -20,10 +20,11 @@ pub(crate) struct Lane {
     pub(crate) asked: Seat<Asking>,
 }
 
-/// The length and the agreements of a new log, before its names are chosen. Contracts see the tables of each, from
-/// which the names are chosen.
+/// The limit, the length and the agreements of a new log, before its names are chosen. Contracts see the limit and the
+/// tables of the others, from which the names are chosen.
 #[derive(Drop)]
 pub struct UnnamedLog {
+    pub(crate) most: LogLimit,
     pub(crate) length: Length,
     /// The log's seats of the agreements on what each session has logged.
     pub(crate) mine: Vec<Seat<Mine>>,
@@ -39,15 +40,16 @@ impl Model for UnnamedLog {
     ghost use Rattle.rows.specs.declared.limits.TheConstants.{SESSIONS};
     ghost use Rattle.commit_log.specs.Lanes.{tables_of, AreLanes};
 
-    ghost view = { λ s. tables_of s.length s.lanes.items };
+    ghost view = { λ s. tables_of s.most s.length s.lanes.items };
 
     ghost invariant = { λ s. AreLanes SESSIONS s.length s.mine.items s.lanes.items };
 }
 
 impl UnnamedLog {
-    /// Returns the length and the agreements of the sessions, which have asked and logged nothing. Returns NoMemory if an
-    /// allocation fails; nothing is left then.
-    pub fn open(alloc: Global) -> Result<UnnamedLog, NoMemory>
+    /// Returns the length and the agreements of the sessions, which have asked and logged nothing, of a log with at most
+    /// `most` entries. Returns NoMemory if an allocation fails; nothing is left then.
+    pub fn with_limit(alloc: Global, most: LogLimit) -> Result<UnnamedLog, NoMemory>
+        ensures most { IfOk result (λ seats. seats.most ≡ most) }
         ensures mine { IfOk result (λ seats. length seats.mine ≡ SESSIONS) }
         ensures asks { IfOk result (λ seats. length seats.asks ≡ SESSIONS) }
     {
@@ -67,6 +69,7 @@ impl UnnamedLog {
             })?;
         }
         Ok(UnnamedLog {
+            most,
             length,
             mine,
             lanes,

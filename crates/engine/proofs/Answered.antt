@@ -1,8 +1,6 @@
 -- A session has one more answer: its facts then.
 use Rattle.std.proofs.Common.{◌≡◌, ℕ, ◌+◌, ◌<◌, ◌≤◌, max, Bool, true, false, List, [], ◌∷◌, ◌++◌, length, Result, Ok, Err, inr, refl, sym, ap, subst, ◌∙◌, arith}
 use Rattle.std.proofs.lemmas.List.Elements.{Contains-push}
-use Rattle.rows.specs.declared.limits.TheConstants.{MOST_ENTRIES}
-use Rattle.schema.specs.declared.scale.Scale.{Scale}
 use Rattle.requests.specs.declared.request.Request.{Request}
 use Rattle.requests.specs.declared.refusal.Refusal.{Refusal}
 use Rattle.requests.specs.declared.refusal.Refusal.TheVariants as refusal
@@ -13,6 +11,7 @@ use Rattle.commit_log.specs.Asks.{asking}
 use Rattle.commit_log.specs.Items.{item, items_of}
 use Rattle.commit_log.specs.PassView.{PassView, SessionSeatView, having_met, session_seat_view}
 use Rattle.executor.specs.Answers.{IsRecordedBy, MayBeRefused}
+use Rattle.engine.specs.Rules.{Rules}
 use Rattle.engine.specs.Asking.{HasSeen, IsAway, IsResting, known_of, ready_view, says_full, asked_view}
 use Rattle.engine.specs.Outcome.{IsRefusal}
 use Rattle.engine.specs.Served.{Served}
@@ -33,70 +32,70 @@ seen_more answers place seen behind saw k there at =
     (λ _ is. let placed : place ≡ there = cc in omega arith)
     (λ _ before. let low : there < seen = saw k there before in omega arith)
 
-module _ (scale : Scale) where
+module _ (rules : Rules) where
   -- nothing was asked yet
   pub resting_first : (script : List Request) (seat : SessionSeatView) (pass : PassView) (answers : List (Result ℕ Refusal)) → seat.session ≡ pass.session → pass.mine ≡ [] → script ≡ [] → answers ≡ []
-      → IsResting scale (ready_view script seat pass answers false)
+      → IsResting rules (ready_view script seat pass answers false)
   resting_first script seat pass answers seat_is new nothing none =
-      subst (λ (rs : List Request). IsResting scale (ready_view rs seat pass answers false)) (sym nothing)
-      (subst (λ (recorded : List (Result ℕ Refusal)). IsResting scale (ready_view [] seat pass recorded false)) (sym none) (record {
+      subst (λ (rs : List Request). IsResting rules (ready_view rs seat pass answers false)) (sym nothing)
+      (subst (λ (recorded : List (Result ℕ Refusal)). IsResting rules (ready_view [] seat pass recorded false)) (sym none) (record {
         seat_is = seat_is;
-        served = subst (λ (m : List Item). Served scale [] [] m 0) (sym new) (served_begun scale 0);
+        served = subst (λ (m : List Item). Served rules [] [] m 0) (sym new) (served_begun rules 0);
         has_seen = λ k place at. absurd cc;
         full = λ is. absurd cc;
       }))
 
   -- a request is refused
   module _ (script : List Request) (seat : SessionSeatView) (pass : PassView) (answers : List (Result ℕ Refusal)) (is_full : Bool) (request : Request) (why : Refusal)
-      (h : IsResting scale (ready_view script seat pass answers is_full)) (rightly : IsRefusal scale (known_of is_full pass.reached) request why) where
+      (h : IsResting rules (ready_view script seat pass answers is_full)) (rightly : IsRefusal rules (known_of is_full pass.reached) request why) where
     pub resting_refused : (asked : List Request) (recorded : List (Result ℕ Refusal)) → asked ≡ script ++ request ∷ [] → recorded ≡ answers ++ Err why ∷ []
-        → IsResting scale (ready_view asked seat pass recorded is_full)
+        → IsResting rules (ready_view asked seat pass recorded is_full)
     resting_refused asked recorded noted answered =
-        subst (λ (rs : List Request). IsResting scale (ready_view rs seat pass recorded is_full)) (sym noted)
-        (subst (λ (all : List (Result ℕ Refusal)). IsResting scale (ready_view (script ++ request ∷ []) seat pass all is_full)) (sym answered) (record {
+        subst (λ (rs : List Request). IsResting rules (ready_view rs seat pass recorded is_full)) (sym noted)
+        (subst (λ (all : List (Result ℕ Refusal)). IsResting rules (ready_view (script ++ request ∷ []) seat pass all is_full)) (sym answered) (record {
           seat_is = h.seat_is;
-          served = refused_more scale script answers pass.mine (known_of is_full pass.reached) (known_of is_full pass.reached) request why h.served (omega arith) rightly;
+          served = refused_more rules script answers pass.mine (known_of is_full pass.reached) (known_of is_full pass.reached) request why h.served (omega arith) rightly;
           has_seen = seen_still answers why pass.seen pass.seen refl h.has_seen;
           full = h.full;
         }))
 
   -- a request is asked, which the check accepts
   pub away_now : (script : List Request) (seat after : SessionSeatView) (pass : PassView) (answers : List (Result ℕ Refusal)) (is_full : Bool) (request : Request) (number : ℕ)
-      → IsResting scale (ready_view script seat pass answers is_full) → is_full ≡ false → number ≡ length answers → check_of scale request ≡ Ok tt
-      → after ≡ session_seat_view seat.session (asking number request pass.seen pass.mine) → IsAway scale (asked_view script after answers)
+      → IsResting rules (ready_view script seat pass answers is_full) → is_full ≡ false → number ≡ length answers → check_of rules.scale request ≡ Ok tt
+      → after ≡ session_seat_view seat.session (asking number request pass.seen pass.mine) → IsAway rules (asked_view script after answers)
   away_now script seat after pass answers is_full request number h not_full number_is accepted after_is =
-      subst (λ (s : SessionSeatView). IsAway scale (asked_view script s answers)) (sym after_is) (record {
-        served = subst (λ (b : Bool). Served scale script answers pass.mine (known_of b pass.reached)) not_full h.served;
+      subst (λ (s : SessionSeatView). IsAway rules (asked_view script s answers)) (sym after_is) (record {
+        served = subst (λ (b : Bool). Served rules script answers pass.mine (known_of b pass.reached)) not_full h.served;
         has_seen = h.has_seen;
         number_is = number_is;
         accepted = accepted;
       })
 
   -- the answer has come
-  module _ (script : List Request) (seat : SessionSeatView) (pass : PassView) (answers : List (Result ℕ Refusal)) (h : IsAway scale (asked_view script seat answers)) (session : pass.session ≡ seat.session) where
+  module _ (script : List Request) (seat : SessionSeatView) (pass : PassView) (answers : List (Result ℕ Refusal)) (h : IsAway rules (asked_view script seat answers)) (session : pass.session ≡ seat.session) where
     abbrev pub request : Request
     request = seat.asking.request
 
     -- it is to be asked again
-    pub resting_again : (why : Refusal) → IsRecordedBy seat.asking pass (Err why) → IsResting scale (ready_view script seat pass answers false)
+    pub resting_again : (why : Refusal) → IsRecordedBy rules.most seat.asking pass (Err why) → IsResting rules (ready_view script seat pass answers false)
     resting_again why recorded = record {
       seat_is = sym session;
-      served = subst (λ (m : List Item). Served scale script answers m 0) (sym recorded.1) h.served;
+      served = subst (λ (m : List Item). Served rules script answers m 0) (sym recorded.1) h.served;
       has_seen = subst (λ (n : ℕ). HasSeen n answers) (sym recorded.0) h.has_seen;
       full = λ is. absurd cc;
     }
 
-    so_refused : (why : Refusal) (known : ℕ) → IsRecordedBy seat.asking pass (Err why) → MayBeRefused known seat.asking.request why
-        → Served scale (script ++ request ∷ []) (answers ++ Err why ∷ []) pass.mine known
+    so_refused : (why : Refusal) (known : ℕ) → IsRecordedBy rules.most seat.asking pass (Err why) → MayBeRefused rules.most known seat.asking.request why
+        → Served rules (script ++ request ∷ []) (answers ++ Err why ∷ []) pass.mine known
     so_refused why known recorded may =
-        subst (λ (m : List Item). Served scale (script ++ request ∷ []) (answers ++ Err why ∷ []) m known) (sym recorded.1)
-        (refused_more scale script answers seat.asking.mine 0 known request why h.served (omega arith)
+        subst (λ (m : List Item). Served rules (script ++ request ∷ []) (answers ++ Err why ∷ []) m known) (sym recorded.1)
+        (refused_more rules script answers seat.asking.mine 0 known request why h.served (omega arith)
         (inr (h.accepted, may)))
 
-    seen_so : (why : Refusal) → IsRecordedBy seat.asking pass (Err why) → HasSeen pass.seen (answers ++ Err why ∷ [])
+    seen_so : (why : Refusal) → IsRecordedBy rules.most seat.asking pass (Err why) → HasSeen pass.seen (answers ++ Err why ∷ [])
     seen_so why recorded = seen_still answers why seat.asking.seen pass.seen recorded.0 h.has_seen
 
-    recorded_full : (why : Refusal) → MOST_ENTRIES ≤ pass.reached → IsRecordedBy seat.asking pass (Err why) → IsResting scale (ready_view (script ++ request ∷ []) seat pass (answers ++ Err why ∷ []) true)
+    recorded_full : (why : Refusal) → rules.most ≤ pass.reached → IsRecordedBy rules.most seat.asking pass (Err why) → IsResting rules (ready_view (script ++ request ∷ []) seat pass (answers ++ Err why ∷ []) true)
     recorded_full why full recorded = record {
       seat_is = sym session;
       served = so_refused why pass.reached recorded recorded.2;
@@ -104,7 +103,7 @@ module _ (scale : Scale) where
       full = λ is. full;
     }
 
-    recorded_refused : (why : Refusal) → MayBeRefused 0 seat.asking.request why → IsRecordedBy seat.asking pass (Err why) → IsResting scale (ready_view (script ++ request ∷ []) seat pass (answers ++ Err why ∷ []) false)
+    recorded_refused : (why : Refusal) → MayBeRefused rules.most 0 seat.asking.request why → IsRecordedBy rules.most seat.asking pass (Err why) → IsResting rules (ready_view (script ++ request ∷ []) seat pass (answers ++ Err why ∷ []) false)
     recorded_refused why may recorded = record {
       seat_is = sym session;
       served = so_refused why 0 recorded may;
@@ -112,7 +111,7 @@ module _ (scale : Scale) where
       full = λ is. absurd cc;
     }
 
-    recorded_done : (place : ℕ) → IsRecordedBy seat.asking pass (Ok place) → IsResting scale (ready_view (script ++ request ∷ []) seat pass (answers ++ Ok place ∷ []) false)
+    recorded_done : (place : ℕ) → IsRecordedBy rules.most seat.asking pass (Ok place) → IsResting rules (ready_view (script ++ request ∷ []) seat pass (answers ++ Ok place ∷ []) false)
     recorded_done place recorded =
         let reply = recorded.2 in
         let even = h.served.answered in
@@ -122,14 +121,14 @@ module _ (scale : Scale) where
         recorded.3 ∙ ap (λ (n : ℕ). seat.asking.mine ++ item place n request reply ∷ []) number in
         record {
           seat_is = sym session;
-          served = subst (λ (m : List Item). Served scale (script ++ request ∷ []) (answers ++ Ok place ∷ []) m 0) (sym mine)
-              (done_more scale script answers seat.asking.mine 0 0 seat.asking.seen place request reply h.served h.has_seen (omega arith) recorded.0
+          served = subst (λ (m : List Item). Served rules (script ++ request ∷ []) (answers ++ Ok place ∷ []) m 0) (sym mine)
+              (done_more rules script answers seat.asking.mine 0 0 seat.asking.seen place request reply h.served h.has_seen (omega arith) recorded.0
               (h.accepted, reply, Contains-push seat.asking.mine x));
           has_seen = subst (λ (n : ℕ). HasSeen n (answers ++ Ok place ∷ [])) (sym recorded.1) (seen_more answers place seat.asking.seen recorded.0 h.has_seen);
           full = λ is. absurd cc;
         }
 
-    recorded_any : (answer : Result ℕ Refusal) → IsRecordedBy seat.asking pass answer → IsResting scale (ready_view (script ++ request ∷ []) seat pass (answers ++ answer ∷ []) (says_full answer))
+    recorded_any : (answer : Result ℕ Refusal) → IsRecordedBy rules.most seat.asking pass answer → IsResting rules (ready_view (script ++ request ∷ []) seat pass (answers ++ answer ∷ []) (says_full answer))
     recorded_any (Ok place) recorded = recorded_done place recorded
     recorded_any (Err refusal.LogFull) recorded = recorded_full refusal.LogFull recorded.2 recorded
     recorded_any (Err refusal.NoMemory) recorded = recorded_refused refusal.NoMemory tt recorded
@@ -146,28 +145,28 @@ module _ (scale : Scale) where
     recorded_any (Err refusal.SessionBusy) recorded = absurd recorded.2
     recorded_any (Err refusal.Closed) recorded = absurd recorded.2
 
-    pub resting_recorded : (asked : List Request) (recorded : List (Result ℕ Refusal)) (answer : Result ℕ Refusal) (is_full : Bool) → IsRecordedBy seat.asking pass answer
-        → asked ≡ script ++ request ∷ [] → recorded ≡ answers ++ answer ∷ [] → is_full ≡ says_full answer → IsResting scale (ready_view asked seat pass recorded is_full)
+    pub resting_recorded : (asked : List Request) (recorded : List (Result ℕ Refusal)) (answer : Result ℕ Refusal) (is_full : Bool) → IsRecordedBy rules.most seat.asking pass answer
+        → asked ≡ script ++ request ∷ [] → recorded ≡ answers ++ answer ∷ [] → is_full ≡ says_full answer → IsResting rules (ready_view asked seat pass recorded is_full)
     resting_recorded asked recorded answer is_full is noted answered full_is =
-        subst (λ (rs : List Request). IsResting scale (ready_view rs seat pass recorded is_full)) (sym noted)
-        (subst (λ (all : List (Result ℕ Refusal)). IsResting scale (ready_view (script ++ request ∷ []) seat pass all is_full)) (sym answered)
-        (subst (λ (b : Bool). IsResting scale (ready_view (script ++ request ∷ []) seat pass (answers ++ answer ∷ []) b)) (sym full_is) (recorded_any answer is)))
+        subst (λ (rs : List Request). IsResting rules (ready_view rs seat pass recorded is_full)) (sym noted)
+        (subst (λ (all : List (Result ℕ Refusal)). IsResting rules (ready_view (script ++ request ∷ []) seat pass all is_full)) (sym answered)
+        (subst (λ (b : Bool). IsResting rules (ready_view (script ++ request ∷ []) seat pass (answers ++ answer ∷ []) b)) (sym full_is) (recorded_any answer is)))
 
   -- the session has met another
-  pub resting_met : (script : List Request) (seat : SessionSeatView) (pass after other : PassView) (answers : List (Result ℕ Refusal)) (is_full : Bool) → IsResting scale (ready_view script seat pass answers is_full)
-      → after ≡ having_met pass other → IsResting scale (ready_view script seat after answers is_full)
+  pub resting_met : (script : List Request) (seat : SessionSeatView) (pass after other : PassView) (answers : List (Result ℕ Refusal)) (is_full : Bool) → IsResting rules (ready_view script seat pass answers is_full)
+      → after ≡ having_met pass other → IsResting rules (ready_view script seat after answers is_full)
   resting_met script seat pass after other answers is_full h met =
-      subst (λ (p : PassView). IsResting scale (ready_view script seat p answers is_full)) (sym met) (record {
+      subst (λ (p : PassView). IsResting rules (ready_view script seat p answers is_full)) (sym met) (record {
         seat_is = h.seat_is;
-        served = served_further scale script answers pass.mine (known_of is_full pass.reached) (known_of is_full (max pass.reached other.reached)) (known_further is_full pass.reached (max pass.reached other.reached) (omega arith)) h.served;
+        served = served_further rules script answers pass.mine (known_of is_full pass.reached) (known_of is_full (max pass.reached other.reached)) (known_further is_full pass.reached (max pass.reached other.reached) (omega arith)) h.served;
         has_seen = λ k place at. let low = h.has_seen k place at in omega (arith, low);
         full = λ is. let full = h.full is in omega (arith, full);
       })
 
   -- the session is compared with the log
-  pub resting_audited : (script : List Request) (seat : SessionSeatView) (pass : PassView) (answers : List (Result ℕ Refusal)) (is_full : Bool) (session : ℕ) (log : List Entry) → IsResting scale (ready_view script seat pass answers is_full)
-      → pass.session ≡ session → pass.mine ≡ items_of pass.session log → pass.reached ≤ length log → Served scale script answers (items_of session log) (length log)
+  pub resting_audited : (script : List Request) (seat : SessionSeatView) (pass : PassView) (answers : List (Result ℕ Refusal)) (is_full : Bool) (session : ℕ) (log : List Entry) → IsResting rules (ready_view script seat pass answers is_full)
+      → pass.session ≡ session → pass.mine ≡ items_of pass.session log → pass.reached ≤ length log → Served rules script answers (items_of session log) (length log)
   resting_audited script seat pass answers is_full session log h session_is mine reached =
       let below = known_below is_full pass.reached in
-      subst (λ (m : List Item). Served scale script answers m (length log)) (mine ∙ ap (λ n. items_of n log) session_is)
-      (served_further scale script answers pass.mine (known_of is_full pass.reached) (length log) (omega (arith, below, reached)) h.served)
+      subst (λ (m : List Item). Served rules script answers m (length log)) (mine ∙ ap (λ n. items_of n log) session_is)
+      (served_further rules script answers pass.mine (known_of is_full pass.reached) (length log) (omega (arith, below, reached)) h.served)

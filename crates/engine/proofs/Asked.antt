@@ -2,7 +2,6 @@
 use Rattle.std.proofs.Common.{◌≡◌, ℕ, ◌≤◌, Bool, false, List, [], ◌∷◌, ◌++◌, length, Some, Result, Ok, Err, sym, ap, subst, ◌∙◌, arith, length-append}
 use Rattle.std.specs.List.{slice_get}
 use Rattle.std.proofs.lemmas.List.{take_all}
-use Rattle.schema.specs.declared.scale.Scale.{Scale}
 use Rattle.requests.specs.declared.request.Request.{Request}
 use Rattle.requests.specs.declared.refusal.Refusal.{Refusal}
 use Rattle.requests.specs.Check.{check_of}
@@ -11,78 +10,79 @@ use Rattle.commit_log.specs.Asks.{asking}
 use Rattle.commit_log.specs.Items.{items_of}
 use Rattle.commit_log.specs.PassView.{PassView, SessionSeatView, session_seat_view}
 use Rattle.executor.specs.Answers.{IsRecordedBy}
+use Rattle.engine.specs.Rules.{Rules}
 use Rattle.engine.specs.Asking.{IsAsked, IsReady, IsRefusedNext, asked_of, ready_view, says_full, asked_view}
 use Rattle.engine.specs.Served.{Served}
 use Rattle.engine.proofs.Answered.{away_now, resting_again, resting_audited, resting_first, resting_refused, resting_recorded}
 use Rattle.engine.proofs.OneMoreRequest.{few_still, one_more}
 
-module _ (scale : Scale) (scripts : List (List Request)) (script : List Request) where
+module _ (rules : Rules) (scripts : List (List Request)) (script : List Request) where
   -- before the first request
   pub ready_first : (seat : SessionSeatView) (pass : PassView) (answers : List (Result ℕ Refusal)) (room : ℕ) → slice_get scripts pass.session ≡ Some script → seat.session ≡ pass.session → pass.mine ≡ []
-      → answers ≡ [] → length script ≤ room → IsReady scale scripts (ready_view script seat pass answers false) room
+      → answers ≡ [] → length script ≤ room → IsReady rules scripts (ready_view script seat pass answers false) room
   ready_first seat pass answers room script_is seat_is new none room_is = record {
     script_is = script_is;
     few = let none_yet = ap length none in omega (arith, none_yet);
-    so_far = resting_first scale (asked_of script answers) seat pass answers seat_is new (ap (asked_of script) none) none;
+    so_far = resting_first rules (asked_of script answers) seat pass answers seat_is new (ap (asked_of script) none) none;
     room_is = room_is;
   }
 
   -- its next request is refused
-  pub ready_refused : (seat : SessionSeatView) (pass : PassView) (answers after : List (Result ℕ Refusal)) (room later : ℕ) (is_full : Bool) (why : Refusal) → IsReady scale scripts (ready_view script seat pass answers is_full) room
-      → IsRefusedNext scale (ready_view script seat pass answers is_full) why → after ≡ answers ++ Err why ∷ [] → room ≤ later → IsReady scale scripts (ready_view script seat pass after is_full) later
+  pub ready_refused : (seat : SessionSeatView) (pass : PassView) (answers after : List (Result ℕ Refusal)) (room later : ℕ) (is_full : Bool) (why : Refusal) → IsReady rules scripts (ready_view script seat pass answers is_full) room
+      → IsRefusedNext rules (ready_view script seat pass answers is_full) why → after ≡ answers ++ Err why ∷ [] → room ≤ later → IsReady rules scripts (ready_view script seat pass after is_full) later
   ready_refused seat pass answers after room later is_full why h refused pushed grown = record {
     script_is = h.script_is;
     few = subst (λ (recorded : List (Result ℕ Refusal)). length recorded ≤ length script) (sym pushed) (few_still script answers refused.0 refused.1 (Err why));
-    so_far = resting_refused scale (asked_of script answers) seat pass answers is_full refused.0 why h.so_far refused.2 (asked_of script after) after
+    so_far = resting_refused rules (asked_of script answers) seat pass answers is_full refused.0 why h.so_far refused.2 (asked_of script after) after
         (ap (asked_of script) pushed ∙ one_more script answers refused.0 refused.1 (Err why)) pushed;
     room_is = let room_is = h.room_is in omega (arith, room_is, grown);
   }
 
   -- its next request is asked
-  pub asks_next : (seat after : SessionSeatView) (pass : PassView) (answers : List (Result ℕ Refusal)) (room number : ℕ) (is_full : Bool) (request : Request) → IsReady scale scripts (ready_view script seat pass answers is_full) room
-      → is_full ≡ false → slice_get script (length answers) ≡ Some request → check_of scale request ≡ Ok tt → number ≡ length answers
-      → after ≡ session_seat_view seat.session (asking number request pass.seen pass.mine) → IsAsked scale scripts (asked_view script after answers) room
+  pub asks_next : (seat after : SessionSeatView) (pass : PassView) (answers : List (Result ℕ Refusal)) (room number : ℕ) (is_full : Bool) (request : Request) → IsReady rules scripts (ready_view script seat pass answers is_full) room
+      → is_full ≡ false → slice_get script (length answers) ≡ Some request → check_of rules.scale request ≡ Ok tt → number ≡ length answers
+      → after ≡ session_seat_view seat.session (asking number request pass.seen pass.mine) → IsAsked rules scripts (asked_view script after answers) room
   asks_next seat after pass answers room number is_full request h not_full next accepted number_is after_is = record {
     script_is = ap (λ (s : SessionSeatView). slice_get scripts s.session) after_is ∙ ap (slice_get scripts) h.so_far.seat_is ∙ h.script_is;
     next = next ∙ ap (λ (s : SessionSeatView). Some s.asking.request) (sym after_is);
-    so_far = away_now scale (asked_of script answers) seat after pass answers is_full request number h.so_far not_full number_is accepted after_is;
+    so_far = away_now rules (asked_of script answers) seat after pass answers is_full request number h.so_far not_full number_is accepted after_is;
     room_is = h.room_is;
   }
 
   -- what was asked is to be asked again, or has its answer
-  module _ (seat : SessionSeatView) (pass : PassView) (answers after : List (Result ℕ Refusal)) (room later : ℕ) (h : IsAsked scale scripts (asked_view script seat answers) room) (session : pass.session ≡ seat.session) where
+  module _ (seat : SessionSeatView) (pass : PassView) (answers after : List (Result ℕ Refusal)) (room later : ℕ) (h : IsAsked rules scripts (asked_view script seat answers) room) (session : pass.session ≡ seat.session) where
     script_here : slice_get scripts pass.session ≡ Some script
     script_here = ap (slice_get scripts) session ∙ h.script_is
 
-    pub ready_again : (why : Refusal) → IsRecordedBy seat.asking pass (Err why) → IsReady scale scripts (ready_view script seat pass answers false) room
+    pub ready_again : (why : Refusal) → IsRecordedBy rules.most seat.asking pass (Err why) → IsReady rules scripts (ready_view script seat pass answers false) room
     ready_again why recorded = record {
       script_is = script_here;
       few = few_before;
-      so_far = resting_again scale (asked_of script answers) seat pass answers h.so_far session why recorded;
+      so_far = resting_again rules (asked_of script answers) seat pass answers h.so_far session why recorded;
       room_is = h.room_is;
     }
       where
         few_before : length answers ≤ length script
         few_before = let more = few_still script answers seat.asking.request h.next (Err why) in let longer = length-append answers (Err why ∷ []) in omega (arith, more, longer)
 
-    pub ready_recorded : (answer : Result ℕ Refusal) (is_full : Bool) → is_full ≡ says_full answer → IsRecordedBy seat.asking pass answer → after ≡ answers ++ answer ∷ [] → room ≤ later
-        → IsReady scale scripts (ready_view script seat pass after is_full) later
+    pub ready_recorded : (answer : Result ℕ Refusal) (is_full : Bool) → is_full ≡ says_full answer → IsRecordedBy rules.most seat.asking pass answer → after ≡ answers ++ answer ∷ [] → room ≤ later
+        → IsReady rules scripts (ready_view script seat pass after is_full) later
     ready_recorded answer is_full full_is recorded pushed grown = record {
       script_is = script_here;
       few = subst (λ (all : List (Result ℕ Refusal)). length all ≤ length script) (sym pushed) (few_still script answers seat.asking.request h.next answer);
-      so_far = resting_recorded scale (asked_of script answers) seat pass answers h.so_far session (asked_of script after) after answer is_full recorded
+      so_far = resting_recorded rules (asked_of script answers) seat pass answers h.so_far session (asked_of script after) after answer is_full recorded
           (ap (asked_of script) pushed ∙ one_more script answers seat.asking.request h.next answer) pushed full_is;
       room_is = let room_is = h.room_is in omega (arith, room_is, grown);
     }
 
   -- the script is at its end, and the session is compared with the log
-  pub audited : (seat : SessionSeatView) (pass : PassView) (answers : List (Result ℕ Refusal)) (room session : ℕ) (is_full : Bool) (log : List Entry) → IsReady scale scripts (ready_view script seat pass answers is_full) room
+  pub audited : (seat : SessionSeatView) (pass : PassView) (answers : List (Result ℕ Refusal)) (room session : ℕ) (is_full : Bool) (log : List Entry) → IsReady rules scripts (ready_view script seat pass answers is_full) room
       → pass.session ≡ session → length answers ≡ length script → pass.mine ≡ items_of pass.session log → pass.reached ≤ length log
-      → (other : List Request) → slice_get scripts session ≡ Some other → Served scale other answers (items_of session log) (length log)
+      → (other : List Request) → slice_get scripts session ≡ Some other → Served rules other answers (items_of session log) (length log)
   audited seat pass answers room session is_full log h session_is all mine reached other found =
       let own : slice_get scripts pass.session ≡ Some other = ap (slice_get scripts) session_is ∙ found in
       let here = h.script_is in
       let same : script ≡ other = cc in
       let whole : asked_of script answers ≡ script = take_all (length answers) script (omega (arith, all)) in
-      subst (λ (r : List Request). Served scale r answers (items_of session log) (length log)) (whole ∙ same)
-      (resting_audited scale (asked_of script answers) seat pass answers is_full session log h.so_far session_is mine reached)
+      subst (λ (r : List Request). Served rules r answers (items_of session log) (length log)) (whole ∙ same)
+      (resting_audited rules (asked_of script answers) seat pass answers is_full session log h.so_far session_is mine reached)

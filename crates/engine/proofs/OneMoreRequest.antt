@@ -5,12 +5,12 @@ use Rattle.std.proofs.lemmas.Bool.Decides.{nat_tests}
 use Rattle.std.proofs.Math.Seq.{take-suc}
 use Rattle.std.proofs.lemmas.Option.{get_or_from_slice_get, slice_get_within}
 use Rattle.std.proofs.lemmas.List.Elements.{Contains-append_left, Contains-push_cases}
-use Rattle.schema.specs.declared.scale.Scale.{Scale}
 use Rattle.requests.specs.declared.request.Request.{Request}
 use Rattle.requests.specs.declared.reply.Reply.{Reply}
 use Rattle.requests.specs.declared.refusal.Refusal.{Refusal}
 use Rattle.commit_log.specs.declared.mine.Item.{Item}
 use Rattle.commit_log.specs.Items.{item}
+use Rattle.engine.specs.Rules.{Rules}
 use Rattle.engine.specs.Asking.{HasSeen, asked_of}
 use Rattle.engine.specs.Served.{IsAnswerTo, Served}
 use Rattle.engine.proofs.Together.{longer}
@@ -46,47 +46,47 @@ stays xs x y n h =
 -- ---- one request more
 
 -- an answer means the same when the session has logged more and its pass records a longer log
-answers_still : (scale : Scale) (reached further : ℕ) (mine rest : List Item) (k : ℕ) (request : Request) (answer : Result ℕ Refusal) → reached ≤ further
-    → IsAnswerTo scale reached mine k request answer → IsAnswerTo scale further (mine ++ rest) k request answer
-answers_still scale reached further mine rest k request (Ok place) grown h = (h.0, h.1, Contains-append_left mine rest (item place k request h.1) h.2)
-answers_still scale reached further mine rest k request (Err refusal) grown h = longer scale reached further request refusal grown h
+answers_still : (rules : Rules) (reached further : ℕ) (mine rest : List Item) (k : ℕ) (request : Request) (answer : Result ℕ Refusal) → reached ≤ further
+    → IsAnswerTo rules reached mine k request answer → IsAnswerTo rules further (mine ++ rest) k request answer
+answers_still rules reached further mine rest k request (Ok place) grown h = (h.0, h.1, Contains-append_left mine rest (item place k request h.1) h.2)
+answers_still rules reached further mine rest k request (Err refusal) grown h = longer rules reached further request refusal grown h
 
-answers_further : (scale : Scale) (reached further : ℕ) (mine : List Item) (k : ℕ) (request : Request) (answer : Result ℕ Refusal) → reached ≤ further
-    → IsAnswerTo scale reached mine k request answer → IsAnswerTo scale further mine k request answer
-answers_further scale reached further mine k request (Ok place) grown h = h
-answers_further scale reached further mine k request (Err refusal) grown h = longer scale reached further request refusal grown h
+answers_further : (rules : Rules) (reached further : ℕ) (mine : List Item) (k : ℕ) (request : Request) (answer : Result ℕ Refusal) → reached ≤ further
+    → IsAnswerTo rules reached mine k request answer → IsAnswerTo rules further mine k request answer
+answers_further rules reached further mine k request (Ok place) grown h = h
+answers_further rules reached further mine k request (Err refusal) grown h = longer rules reached further request refusal grown h
 
 evenly : {X Y : Type 0} (xs : List X) (x : X) (ys : List Y) (y : Y) → length xs ≡ length ys → length (xs ++ x ∷ []) ≡ length (ys ++ y ∷ [])
 evenly xs x ys y even = length-append xs (x ∷ []) ∙ ap (λ n. n + 1) even ∙ sym (length-append ys (y ∷ []))
 
 -- nothing was asked
-pub served_begun : (scale : Scale) (reached : ℕ) → Served scale [] [] [] reached
-served_begun scale reached = record {
+pub served_begun : (rules : Rules) (reached : ℕ) → Served rules [] [] [] reached
+served_begun rules reached = record {
   answered = refl;
   each = λ k request answer asked recorded. absurd cc;
   logged = λ x c. let low = c.1 in absurd (omega arith);
   ascending = λ j k place later below first second. absurd cc;
 }
 
-pub done_more : (scale : Scale) (script : List Request) (answers : List (Result ℕ Refusal)) (mine : List Item) (reached further seen place : ℕ) (request : Request) (reply : Reply)
-    → Served scale script answers mine reached → HasSeen seen answers → reached ≤ further → seen ≤ place
-    → IsAnswerTo scale further (mine ++ item place (length script) request reply ∷ []) (length script) request (Ok place)
-    → Served scale (script ++ request ∷ []) (answers ++ Ok place ∷ []) (mine ++ item place (length script) request reply ∷ []) further
-done_more scale script answers mine reached further seen place request reply h saw grown behind so =
+pub done_more : (rules : Rules) (script : List Request) (answers : List (Result ℕ Refusal)) (mine : List Item) (reached further seen place : ℕ) (request : Request) (reply : Reply)
+    → Served rules script answers mine reached → HasSeen seen answers → reached ≤ further → seen ≤ place
+    → IsAnswerTo rules further (mine ++ item place (length script) request reply ∷ []) (length script) request (Ok place)
+    → Served rules (script ++ request ∷ []) (answers ++ Ok place ∷ []) (mine ++ item place (length script) request reply ∷ []) further
+done_more rules script answers mine reached further seen place request reply h saw grown behind so =
     let x = item place (length script) request reply in
     let even = h.answered in
     record {
       answered = evenly answers (Ok place) script request even;
       each = λ k r a asked recorded.
-          by_end (IsAnswerTo scale further (mine ++ x ∷ []) k r a) script request r k asked
-          (λ k_is r_is. by_end (IsAnswerTo scale further (mine ++ x ∷ []) k r a) answers (Ok place) a k recorded
-          (λ _ a_is. subst (λ n. IsAnswerTo scale further (mine ++ x ∷ []) n r a) (sym k_is)
-          (subst (λ q. IsAnswerTo scale further (mine ++ x ∷ []) (length script) q a) r_is
-          (subst (IsAnswerTo scale further (mine ++ x ∷ []) (length script) request) a_is so)))
+          by_end (IsAnswerTo rules further (mine ++ x ∷ []) k r a) script request r k asked
+          (λ k_is r_is. by_end (IsAnswerTo rules further (mine ++ x ∷ []) k r a) answers (Ok place) a k recorded
+          (λ _ a_is. subst (λ n. IsAnswerTo rules further (mine ++ x ∷ []) n r a) (sym k_is)
+          (subst (λ q. IsAnswerTo rules further (mine ++ x ∷ []) (length script) q a) r_is
+          (subst (IsAnswerTo rules further (mine ++ x ∷ []) (length script) request) a_is so)))
           (λ low _. absurd (omega arith)))
-          (λ low before. by_end (IsAnswerTo scale further (mine ++ x ∷ []) k r a) answers (Ok place) a k recorded
+          (λ low before. by_end (IsAnswerTo rules further (mine ++ x ∷ []) k r a) answers (Ok place) a k recorded
           (λ k_is _. absurd (omega arith))
-          (λ _ old. answers_still scale reached further mine (x ∷ []) k r a grown (h.each k r a before old)));
+          (λ _ old. answers_still rules reached further mine (x ∷ []) k r a grown (h.each k r a before old)));
       logged = λ y c.
           elim (Contains-push_cases mine x y c) as (λ _. slice_get (answers ++ Ok place ∷ []) y.number ≡ Some (Ok y.place)) [
             | inl before ↦ stays answers (Ok place) (Ok y.place) y.number (h.logged y before)
@@ -102,24 +102,24 @@ done_more scale script answers mine reached further seen place request reply h s
           (λ _ after. h.ascending j k earlier later below before after));
     }
 
-pub refused_more : (scale : Scale) (script : List Request) (answers : List (Result ℕ Refusal)) (mine : List Item) (reached further : ℕ) (request : Request) (refusal : Refusal)
-    → Served scale script answers mine reached → reached ≤ further
-    → IsAnswerTo scale further mine (length script) request (Err refusal)
-    → Served scale (script ++ request ∷ []) (answers ++ Err refusal ∷ []) mine further
-refused_more scale script answers mine reached further request refusal h grown so =
+pub refused_more : (rules : Rules) (script : List Request) (answers : List (Result ℕ Refusal)) (mine : List Item) (reached further : ℕ) (request : Request) (refusal : Refusal)
+    → Served rules script answers mine reached → reached ≤ further
+    → IsAnswerTo rules further mine (length script) request (Err refusal)
+    → Served rules (script ++ request ∷ []) (answers ++ Err refusal ∷ []) mine further
+refused_more rules script answers mine reached further request refusal h grown so =
     let even = h.answered in
     record {
       answered = evenly answers (Err refusal) script request even;
       each = λ k r a asked recorded.
-          by_end (IsAnswerTo scale further mine k r a) script request r k asked
-          (λ k_is r_is. by_end (IsAnswerTo scale further mine k r a) answers (Err refusal) a k recorded
-          (λ _ a_is. subst (λ n. IsAnswerTo scale further mine n r a) (sym k_is)
-          (subst (λ q. IsAnswerTo scale further mine (length script) q a) r_is
-          (subst (IsAnswerTo scale further mine (length script) request) a_is so)))
+          by_end (IsAnswerTo rules further mine k r a) script request r k asked
+          (λ k_is r_is. by_end (IsAnswerTo rules further mine k r a) answers (Err refusal) a k recorded
+          (λ _ a_is. subst (λ n. IsAnswerTo rules further mine n r a) (sym k_is)
+          (subst (λ q. IsAnswerTo rules further mine (length script) q a) r_is
+          (subst (IsAnswerTo rules further mine (length script) request) a_is so)))
           (λ low _. absurd (omega arith)))
-          (λ low before. by_end (IsAnswerTo scale further mine k r a) answers (Err refusal) a k recorded
+          (λ low before. by_end (IsAnswerTo rules further mine k r a) answers (Err refusal) a k recorded
           (λ k_is _. absurd (omega arith))
-          (λ _ old. answers_further scale reached further mine k r a grown (h.each k r a before old)));
+          (λ _ old. answers_further rules reached further mine k r a grown (h.each k r a before old)));
       logged = λ y c. stays answers (Err refusal) (Ok y.place) y.number (h.logged y c);
       ascending = λ j k earlier later below first second.
           by_end (earlier < later) answers (Err refusal) (Ok earlier) j first
@@ -136,11 +136,11 @@ seen_still answers refusal before after same saw k there at =
     (λ _ recorded. let low : there < before = saw k there recorded in omega arith)
 
 -- What a session was served, when the log has come to reach further.
-pub served_further : (scale : Scale) (script : List Request) (answers : List (Result ℕ Refusal)) (mine : List Item) (reached further : ℕ) → reached ≤ further
-    → Served scale script answers mine reached → Served scale script answers mine further
-served_further scale script answers mine reached further grown h = record {
+pub served_further : (rules : Rules) (script : List Request) (answers : List (Result ℕ Refusal)) (mine : List Item) (reached further : ℕ) → reached ≤ further
+    → Served rules script answers mine reached → Served rules script answers mine further
+served_further rules script answers mine reached further grown h = record {
   answered = h.answered;
-  each = λ k r a asked recorded. answers_further scale reached further mine k r a grown (h.each k r a asked recorded);
+  each = λ k r a asked recorded. answers_further rules reached further mine k r a grown (h.each k r a asked recorded);
   logged = h.logged;
   ascending = h.ascending;
 }

@@ -4,12 +4,12 @@ use Rattle.std.specs.List.{slice_get}
 use Rattle.std.specs.Option.{option_map}
 use Rattle.std.proofs.lemmas.Option.{slice_get-map, slice_get_within}
 use Rattle.rows.specs.declared.limits.TheConstants.{SESSIONS}
-use Rattle.schema.specs.declared.scale.Scale.{Scale}
 use Rattle.requests.specs.declared.request.Request.{Request}
 use Rattle.requests.specs.declared.refusal.Refusal.{Refusal}
 use Rattle.commit_log.specs.declared.entry.Entry.{Entry}
 use Rattle.commit_log.specs.Items.{items_of}
 use Rattle.commit_log.specs.PassView.{PassView, SessionSeatView, new_pass, new_seat}
+use Rattle.engine.specs.Rules.{Rules}
 use Rattle.engine.specs.Served.{Served, ServedEach}
 use Rattle.engine.specs.Sessions.{AreAskedFrom, AreNewFrom}
 use Rattle.engine.specs.declared.session.Left.{Left}
@@ -68,20 +68,20 @@ none_next first session entries before here s from up =
 -- ---- sessions that were served
 
 -- one script more that was served its answers
-pub each_next : (scale : Scale) (scripts : List (List Request)) (entries : List Entry) (answers after : List (List (Result ℕ Refusal))) (k : ℕ) (script : List Request) (recorded : List (Result ℕ Refusal))
-    → ServedEach scale scripts entries answers → length answers ≡ k → slice_get scripts k ≡ Some script
-    → Served scale script recorded (items_of k entries) (length entries) → after ≡ answers ++ recorded ∷ [] → ServedEach scale scripts entries after
-each_next scale scripts entries answers after k script recorded before count asked served pushed =
-    subst (ServedEach scale scripts entries) (sym pushed)
+pub each_next : (rules : Rules) (scripts : List (List Request)) (entries : List Entry) (answers after : List (List (Result ℕ Refusal))) (k : ℕ) (script : List Request) (recorded : List (Result ℕ Refusal))
+    → ServedEach rules scripts entries answers → length answers ≡ k → slice_get scripts k ≡ Some script
+    → Served rules script recorded (items_of k entries) (length entries) → after ≡ answers ++ recorded ∷ [] → ServedEach rules scripts entries after
+each_next rules scripts entries answers after k script recorded before count asked served pushed =
+    subst (ServedEach rules scripts entries) (sym pushed)
     (λ s asked_there recorded_there is_asked is_recorded.
-    by_end (Served scale asked_there recorded_there (items_of s entries) (length entries)) answers recorded recorded_there s is_recorded
+    by_end (Served rules asked_there recorded_there (items_of s entries) (length entries)) answers recorded recorded_there s is_recorded
     (λ s_is recorded_is.
     let at : k ≡ s = omega arith in
     let again : slice_get scripts k ≡ Some asked_there = ap (slice_get scripts) at ∙ is_asked in
     let script_is : script ≡ asked_there = cc in
-    subst (λ n. Served scale asked_there recorded_there (items_of n entries) (length entries)) at
-    (subst (λ a. Served scale asked_there a (items_of k entries) (length entries)) recorded_is
-    (subst (λ q. Served scale q recorded (items_of k entries) (length entries)) script_is served)))
+    subst (λ n. Served rules asked_there recorded_there (items_of n entries) (length entries)) at
+    (subst (λ a. Served rules asked_there a (items_of k entries) (length entries)) recorded_is
+    (subst (λ q. Served rules q recorded (items_of k entries) (length entries)) script_is served)))
     (λ _ old. before s asked_there recorded_there is_asked old))
 
 -- what holds of each item, by its place, and of one more
@@ -112,9 +112,9 @@ at_right [] ys n = let none : 0 + n ≡ n = omega arith in ap (slice_get ys) non
 at_right (x ∷ xs) ys n = let next : suc (length xs) + n ≡ suc (length xs + n) = omega arith in ap (slice_get (x ∷ (xs ++ ys))) next ∙ at_right xs ys n
 
 -- the scripts that were served are among all that was asked
-pub served_among : (scale : Scale) (scripts more : List (List Request)) (entries : List Entry) (answers : List (List (Result ℕ Refusal))) → length answers ≡ length scripts
-    → ServedEach scale scripts entries answers → ServedEach scale (scripts ++ more) entries answers
-served_among scale scripts more entries answers even each = λ s script recorded asked is_recorded.
+pub served_among : (rules : Rules) (scripts more : List (List Request)) (entries : List Entry) (answers : List (List (Result ℕ Refusal))) → length answers ≡ length scripts
+    → ServedEach rules scripts entries answers → ServedEach rules (scripts ++ more) entries answers
+served_among rules scripts more entries answers even each = λ s script recorded asked is_recorded.
     let low : s < length answers = slice_get_within answers s recorded is_recorded in
     each s script recorded (sym (at_left scripts more s (omega (arith, low, even))) ∙ asked) is_recorded
 

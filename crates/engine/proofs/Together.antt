@@ -6,7 +6,6 @@ use Rattle.std.proofs.lemmas.Bool.Decides.{nat_tests}
 use Rattle.std.proofs.lemmas.List.Elements.{Contains-append_left, Contains-append_right, Contains-append_cases, Contains-push_cases, Contains-push}
 use Rattle.rows.specs.declared.limits.TheConstants.{SESSIONS}
 use Rattle.schema.specs.Database.{Database}
-use Rattle.schema.specs.declared.scale.Scale.{Scale}
 use Rattle.requests.specs.declared.request.Request.{Request}
 use Rattle.requests.specs.declared.reply.Reply.{Reply}
 use Rattle.requests.specs.declared.refusal.Refusal.{Refusal}
@@ -17,6 +16,7 @@ use Rattle.commit_log.specs.Log.{IsLegal}
 use Rattle.commit_log.specs.declared.mine.Item.{Item}
 use Rattle.commit_log.specs.Items.{entry_of, item, items_from, items_of}
 use Rattle.executor.specs.Answers.{MayBeRefused}
+use Rattle.engine.specs.Rules.{Rules, rules_of}
 use Rattle.engine.specs.Outcome.{item_at, IsRefusal, IsOutcome}
 use Rattle.engine.specs.Served.{IsAnswerTo, ServedEach}
 
@@ -120,12 +120,12 @@ logged_by_session es place e h =
 -- ---- the outcome
 
 -- a refusal still holds when the log is longer
-pub longer : (scale : Scale) (reached entries : ℕ) (request : Request) (refusal : Refusal) → reached ≤ entries
-    → IsRefusal scale reached request refusal → IsRefusal scale entries request refusal
-longer scale reached entries request why grown (inl refused) = inl refused
-longer scale reached entries request why grown (inr (accepted, reason)) = inr (accepted, still why reason)
+pub longer : (rules : Rules) (reached entries : ℕ) (request : Request) (refusal : Refusal) → reached ≤ entries
+    → IsRefusal rules reached request refusal → IsRefusal rules entries request refusal
+longer rules reached entries request why grown (inl refused) = inl refused
+longer rules reached entries request why grown (inr (accepted, reason)) = inr (accepted, still why reason)
   where
-    still : (one : Refusal) → MayBeRefused reached request one → MayBeRefused entries request one
+    still : (one : Refusal) → MayBeRefused rules.most reached request one → MayBeRefused rules.most entries request one
     still (refusal.Died group holder) r = r
     still refusal.NoMemory r = r
     still refusal.LogFull r = omega arith
@@ -141,18 +141,19 @@ longer scale reached entries request why grown (inr (accepted, reason)) = inr (a
     still refusal.SessionBusy r = r
     still refusal.Closed r = r
 
-pub together : (opening : Database) (scripts : List (List Request)) (entries : List Entry) (last : Database) (answers : List (List (Result ℕ Refusal)))
-    → IsLegal opening entries last → length answers ≡ length scripts
+pub together : (opening : Database) (most : ℕ) (scripts : List (List Request)) (entries : List Entry) (last : Database) (answers : List (List (Result ℕ Refusal)))
+    → IsLegal opening entries last → length entries ≤ most → length answers ≡ length scripts
     → ((place : ℕ) (e : Entry) → slice_get entries place ≡ Some e → e.session < SESSIONS)
-    → ServedEach opening.scale scripts entries answers
+    → ServedEach (rules_of opening most) scripts entries answers
     → ((s : ℕ) → length scripts ≤ s → s < SESSIONS → items_of s entries ≡ [])
-    → IsOutcome opening scripts entries last answers
-together opening scripts entries last answers legal even known each others =
-    let scale = opening.scale in
+    → IsOutcome opening most scripts entries last answers
+together opening most scripts entries last answers legal few even known each others =
+    let rules = rules_of opening most in
     let none : (s : ℕ) (x : Item) → items_of s entries ≡ [] → Contains (items_of s entries) x → ⊥ =
     λ s x empty c. let d : Contains [] x = subst (λ l. Contains l x) empty c in let low = d.1 in omega arith in
     record {
       legal = legal;
+      few = few;
       answered = λ s.
           elim (slice_get scripts s) as (λ o. slice_get scripts s ≡ o → option_map length (slice_get answers s) ≡ option_map length o) [
             | Some script ↦ λ e.
@@ -199,7 +200,7 @@ together opening scripts entries last answers legal even known each others =
           let h = each s script.0 recorded.0 script.1 recorded.1 in
           let answer = partner script.0 recorded.0 k request (sym h.answered) script.2 in
           at_both answers recorded.0 s k recorded.1 ∙ answer.1
-          ∙ ap Some (refuses_so scale (length entries) (items_of s entries) k request refusal answer.0 refuses (h.each k request answer.0 script.2 answer.1));
+          ∙ ap Some (refuses_so rules (length entries) (items_of s entries) k request refusal answer.0 refuses (h.each k request answer.0 script.2 answer.1));
     }
   where
     by_order : (a b : ℕ) (G : Type 0) → (a < b → G) → (b ≤ a → G) → G
@@ -207,8 +208,8 @@ together opening scripts entries last answers legal even known each others =
     by_order zero (suc b) G less more = less (omega arith)
     by_order (suc a) (suc b) G less more = by_order a b G (λ l. less (omega arith)) (λ m. more (omega arith))
 
-    refuses_so : (scale : Scale) (reached : ℕ) (mine : List Item) (k : ℕ) (request : Request) (refusal : Refusal) (answer : Result ℕ Refusal)
-        → check_of scale request ≡ Err refusal → IsAnswerTo scale reached mine k request answer → answer ≡ Err refusal
-    refuses_so scale reached mine k request refusal (Ok place) refuses h = let accepted = h.0 in absurd cc
-    refuses_so scale reached mine k request refusal (Err other) refuses (inl so) = cc
-    refuses_so scale reached mine k request refusal (Err other) refuses (inr so) = let accepted : check_of scale request ≡ Ok tt = so.0 in absurd cc
+    refuses_so : (rules : Rules) (reached : ℕ) (mine : List Item) (k : ℕ) (request : Request) (refusal : Refusal) (answer : Result ℕ Refusal)
+        → check_of rules.scale request ≡ Err refusal → IsAnswerTo rules reached mine k request answer → answer ≡ Err refusal
+    refuses_so rules reached mine k request refusal (Ok place) refuses h = let accepted = h.0 in absurd cc
+    refuses_so rules reached mine k request refusal (Err other) refuses (inl so) = cc
+    refuses_so rules reached mine k request refusal (Err other) refuses (inr so) = let accepted : check_of rules.scale request ≡ Ok tt = so.0 in absurd cc

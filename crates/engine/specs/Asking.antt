@@ -1,13 +1,12 @@
 -- A session that asks one request after another, interactively or by a script.
 use Rattle.std.specs.Prelude.{◌≡◌, ℕ, ◌<◌, ◌≤◌, Bool, true, false, List, take, length, Some, Result, Ok, Err, if◌then◌else◌}
 use Rattle.std.specs.List.{slice_get}
-use Rattle.rows.specs.declared.limits.TheConstants.{MOST_ENTRIES}
-use Rattle.schema.specs.declared.scale.Scale.{Scale}
 use Rattle.requests.specs.declared.request.Request.{Request}
 use Rattle.requests.specs.declared.refusal.Refusal.{Refusal}
 use Rattle.requests.specs.declared.refusal.Refusal.TheVariants.{LogFull}
 use Rattle.requests.specs.Check.{check_of}
 use Rattle.commit_log.specs.PassView.{PassView, SessionSeatView}
+use Rattle.engine.specs.Rules.{Rules}
 use Rattle.engine.specs.Outcome.{IsRefusal}
 use Rattle.engine.specs.Served.{Served}
 
@@ -37,11 +36,11 @@ abbrev pub ready_view : List Request → SessionSeatView → PassView → List (
 ready_view script seat pass answers is_full = record { script = script; seat = seat; pass = pass; answers = answers; is_full = is_full }
 
 -- A session that has its pass. It was asked exactly these requests, and each answer is the result of its request.
-pub record IsResting (scale : Scale) (s : ReadyView) : Type 0 where
+pub record IsResting (rules : Rules) (s : ReadyView) : Type 0 where
   pub seat_is : s.seat.session ≡ s.pass.session
-  pub served : Served scale s.script s.answers s.pass.mine (known_of s.is_full s.pass.reached)
+  pub served : Served rules s.script s.answers s.pass.mine (known_of s.is_full s.pass.reached)
   pub has_seen : HasSeen s.pass.seen s.answers
-  pub full : s.is_full ≡ true → MOST_ENTRIES ≤ s.pass.reached
+  pub full : s.is_full ≡ true → rules.most ≤ s.pass.reached
 
 -- what contracts see of a session whose next request is in flight
 pub record AskedView : Type 0 where
@@ -54,11 +53,11 @@ asked_view script seat answers = record { script = script; seat = seat; answers 
 
 -- A session whose pass goes with its request: its seat records what it asked, and what the pass was then. Before, it was asked
 -- exactly these requests, and each answer is the result of its request.
-pub record IsAway (scale : Scale) (s : AskedView) : Type 0 where
-  pub served : Served scale s.script s.answers s.seat.asking.mine 0
+pub record IsAway (rules : Rules) (s : AskedView) : Type 0 where
+  pub served : Served rules s.script s.answers s.seat.asking.mine 0
   pub has_seen : HasSeen s.seat.asking.seen s.answers
   pub number_is : s.seat.asking.number ≡ length s.answers
-  pub accepted : check_of scale s.seat.asking.request ≡ Ok tt
+  pub accepted : check_of rules.scale s.seat.asking.request ≡ Ok tt
 
 -- ---- a session that has a script
 
@@ -67,20 +66,20 @@ abbrev pub asked_of : List Request → List (Result ℕ Refusal) → List Reques
 asked_of script answers = take (length answers) script
 
 -- It was asked the first requests of its script. There is capacity for all answers.
-pub record IsReady (scale : Scale) (scripts : List (List Request)) (s : ReadyView) (room : ℕ) : Type 0 where
+pub record IsReady (rules : Rules) (scripts : List (List Request)) (s : ReadyView) (room : ℕ) : Type 0 where
   pub script_is : slice_get scripts s.pass.session ≡ Some s.script
   pub few : length s.answers ≤ length s.script
-  pub so_far : IsResting scale (ready_view (asked_of s.script s.answers) s.seat s.pass s.answers s.is_full)
+  pub so_far : IsResting rules (ready_view (asked_of s.script s.answers) s.seat s.pass s.answers s.is_full)
   pub room_is : length s.script ≤ room
 
 -- The next request of its script is in flight.
-pub record IsAsked (scale : Scale) (scripts : List (List Request)) (s : AskedView) (room : ℕ) : Type 0 where
+pub record IsAsked (rules : Rules) (scripts : List (List Request)) (s : AskedView) (room : ℕ) : Type 0 where
   pub script_is : slice_get scripts s.seat.session ≡ Some s.script
   pub next : slice_get s.script (length s.answers) ≡ Some s.seat.asking.request
-  pub so_far : IsAway scale (asked_view (asked_of s.script s.answers) s.seat s.answers)
+  pub so_far : IsAway rules (asked_view (asked_of s.script s.answers) s.seat s.answers)
   pub room_is : length s.script ≤ room
 
 -- the session's next request may be refused for this reason
-abbrev pub IsRefusedNext : Scale → ReadyView → Refusal → Type 0
-IsRefusedNext scale s why =
-    (request : Request) × (slice_get s.script (length s.answers) ≡ Some request) × IsRefusal scale (known_of s.is_full s.pass.reached) request why
+abbrev pub IsRefusedNext : Rules → ReadyView → Refusal → Type 0
+IsRefusedNext rules s why =
+    (request : Request) × (slice_get s.script (length s.answers) ≡ Some request) × IsRefusal rules (known_of s.is_full s.pass.reached) request why

@@ -1,12 +1,12 @@
 -- A session that asks interactively: its caller has every answer, and what it proves.
 use Rattle.std.specs.Prelude.{◌≡◌, ℕ, ◌+◌, ◌<◌, ◌≤◌, List, [], ◌∷◌, ◌++◌, length, map, Result, Ok, Err}
-use Rattle.schema.specs.declared.scale.Scale.{Scale}
 use Rattle.requests.specs.declared.request.Request.{Request}
 use Rattle.requests.specs.declared.reply.Reply.{Reply}
 use Rattle.requests.specs.declared.refusal.Refusal.{Refusal}
 use Rattle.requests.specs.Check.{check_of}
 use Rattle.commit_log.specs.Items.{item}
 use Rattle.commit_log.specs.PassView.{PassView, having_met}
+use Rattle.engine.specs.Rules.{Rules}
 use Rattle.engine.specs.Asking.{IsAway, IsResting, ReadyView, AskedView}
 use Rattle.engine.specs.Outcome.{IsRefusal}
 use Rattle.engine.specs.declared.session.AskFault.{AskFault}
@@ -16,19 +16,19 @@ use Rattle.engine.specs.declared.session.Left.{Left}
 -- The result of a request. Either it was carried out: its entry is behind all that the session had seen, the session has logged
 -- this one more, and it has seen the log up to there. Or it was refused, for a reason that IsRefusal permits: the session has
 -- logged and seen what it had.
-abbrev pub Came : Scale → ReadyView → Request → PassView → Result ℕ Refusal → Type 0
-Came scale before request after (Ok place) =
-    (check_of scale request ≡ Ok tt) × (before.pass.seen ≤ place) × (after.seen ≡ place + 1)
+abbrev pub Came : Rules → ReadyView → Request → PassView → Result ℕ Refusal → Type 0
+Came rules before request after (Ok place) =
+    (check_of rules.scale request ≡ Ok tt) × (before.pass.seen ≤ place) × (after.seen ≡ place + 1)
     × (reply : Reply) × (after.mine ≡ before.pass.mine ++ item place (length before.script) request reply ∷ [])
-Came scale before request after (Err why) =
-    (after.seen ≡ before.pass.seen) × (after.mine ≡ before.pass.mine) × IsRefusal scale after.reached request why
+Came rules before request after (Err why) =
+    (after.seen ≡ before.pass.seen) × (after.mine ≡ before.pass.mine) × IsRefusal rules after.reached request why
 
 -- the session has asked this request and has had this answer
-pub record Asks (scale : Scale) (before : ReadyView) (request : Request) (after : ReadyView) (answer : Result ℕ Refusal) : Type 0 where
+pub record Asks (rules : Rules) (before : ReadyView) (request : Request) (after : ReadyView) (answer : Result ℕ Refusal) : Type 0 where
   pub session_is : after.pass.session ≡ before.pass.session
   pub noted : after.script ≡ before.script ++ request ∷ []
   pub answered : after.answers ≡ before.answers ++ answer ∷ []
-  pub came : Came scale before request after.pass answer
+  pub came : Came rules before request after.pass answer
 
 -- the session has met another; only what it has seen is changed
 pub record HasMet (before other after : ReadyView) : Type 0 where
@@ -66,15 +66,15 @@ abbrev pub asker_view : ReadyView → Request → AskerView
 asker_view before request = record { before = before; request = request }
 
 -- the next request has this number, and there is capacity to keep it and its answer
-pub record IsCalling (scale : Scale) (s : ReadyView) (number room_to_ask room_to_answer : ℕ) : Type 0 where
-  pub before : IsResting scale s
+pub record IsCalling (rules : Rules) (s : ReadyView) (number room_to_ask room_to_answer : ℕ) : Type 0 where
+  pub before : IsResting rules s
   pub number_is : number ≡ length s.answers
   pub can_keep : length s.script < room_to_ask
   pub can_answer : length s.answers < room_to_answer
 
 -- this request is in flight, and there is capacity to keep it and its answer
-pub record IsCalled (scale : Scale) (s : AskedView) (request : Request) (room_to_ask room_to_answer : ℕ) : Type 0 where
-  pub so_far : IsAway scale s
+pub record IsCalled (rules : Rules) (s : AskedView) (request : Request) (room_to_ask room_to_answer : ℕ) : Type 0 where
+  pub so_far : IsAway rules s
   pub request_is : s.seat.asking.request ≡ request
   pub can_keep : length s.script < room_to_ask
   pub can_answer : length s.answers < room_to_answer

@@ -1,3 +1,4 @@
+pub mod Rules
 pub mod Outcome
 pub mod Served
 pub mod Asking

@@ -19,6 +19,7 @@ pub record IsNamedFor {J : Type 0} (log : LogNames J) (groups : GroupNames J) (n
   pub tables_are : log.opening ≡ tables
   pub warehouses : groups.warehouses ≡ tables.scale.warehouses
   pub agreements : AreNamed tables.scale.warehouses groups.committed groups.work opening.groups.items
+  pub most_is : log.most ≡ opening.log.most
   pub length_is : log.length ≡ opening.log.length
   pub mine : (session : ℕ) → session < SESSIONS → log.mine session ≡ table_of opening.log.mine session
   pub asks : (session : ℕ) → session < SESSIONS → log.asks session ≡ table_of opening.log.asks session

@@ -4,6 +4,7 @@ ghost use Rattle.requests.specs.Check.{check_of};
 ghost use Rattle.executor.specs.Answers.{IsRecordedBy};
 ghost use Rattle.engine.specs.Asking as spec;
 ghost use Rattle.engine.specs.Asking.{IsRefusedNext};
+ghost use Rattle.engine.specs.Rules.{rules_of};
 ghost use Rattle.engine.specs.Served.{ServedIn};
 
 use crate::{Answers, ServeNames};
@@ -38,10 +39,11 @@ impl<'a, J: ServeNames> Model for Ready<'a, J> {
 
     ghost use Rattle.std.specs.Prelude.{vec_capacity};
     ghost use Rattle.engine.specs.Asking.{IsReady, ready_view};
+    ghost use Rattle.engine.specs.Rules.{rules_of};
 
     ghost view = { λ r. ready_view r.script.now r.seat r.pass r.answers.items r.is_full };
 
-    ghost invariant = { λ r. IsReady J.opening.scale J.scripts (ready_view r.script.now r.seat r.pass r.answers.items r.is_full) (vec_capacity r.answers) };
+    ghost invariant = { λ r. IsReady (rules_of J.opening J.most) J.scripts (ready_view r.script.now r.seat r.pass r.answers.items r.is_full) (vec_capacity r.answers) };
 }
 
 /// A session one of whose requests is in flight; its pass goes with the request. Invariant: its requests before have these
@@ -61,10 +63,11 @@ impl<'a, J: ServeNames> Model for Asked<'a, J> {
 
     ghost use Rattle.std.specs.Prelude.{vec_capacity};
     ghost use Rattle.engine.specs.Asking.{IsAsked, asked_view};
+    ghost use Rattle.engine.specs.Rules.{rules_of};
 
     ghost view = { λ a. asked_view a.script.now a.seat a.answers.items };
 
-    ghost invariant = { λ a. IsAsked J.opening.scale J.scripts (asked_view a.script.now a.seat a.answers.items) (vec_capacity a.answers) };
+    ghost invariant = { λ a. IsAsked (rules_of J.opening J.most) J.scripts (asked_view a.script.now a.seat a.answers.items) (vec_capacity a.answers) };
 }
 
 /// The result of `Ready::next`.
@@ -126,7 +129,7 @@ impl<'a, J: ServeNames> Ready<'a, J> {
 
     // Answers its next request with a refusal.
     fn refused(self, refusal: Refusal, tries: u32) -> Ready<'a, J>
-        requires { IsRefusedNext J.opening.scale self refusal }
+        requires { IsRefusedNext (rules_of J.opening J.most) self refusal }
     {
         let Ready {
             script,
@@ -200,7 +203,7 @@ impl<'a, J: ServeNames> Ready<'a, J> {
     pub(crate) fn audit(mut self, log: &mut Log<J>, session: usize) -> Option<Answers>
         ensures served { IfSome result (λ answers. (script : _)
             → slice_get J.scripts session ≡ Some script
-            → ServedIn J.opening.scale session log.old script answers) }
+            → ServedIn (rules_of J.opening J.most) session log.old script answers) }
         ensures same { log.new ≡ log.old }
     {
         if self.pass.session() as usize != session
@@ -237,7 +240,7 @@ impl<'a, J: ServeNames> Asked<'a, J> {
     // Takes the pass back with this answer.
     fn answered(self, pass: Pass<J>, answer: Result<u32, Refusal>, tries: u32) -> Ready<'a, J>
         requires session { pass.session ≡ self.seat.session }
-        requires recorded { IsRecordedBy self.seat.asking pass answer }
+        requires recorded { IsRecordedBy J.most self.seat.asking pass answer }
     {
         let Asked {
             script,

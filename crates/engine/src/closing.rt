@@ -7,6 +7,7 @@ ghost use Rattle.requests.specs.declared.request.Request.{Request};
 ghost use Rattle.engine.specs.Interactive.{asked_by, recorded_by};
 ghost use Rattle.engine.specs.Closing.{tables_left, want_of_kind, wants_of_all, AreSettled, IsBackAt, IsSettledAt};
 ghost use Rattle.engine.specs.Outcome.{IsOutcomeOf};
+ghost use Rattle.engine.specs.Rules.{rules_of};
 ghost use Rattle.engine.specs.Served.{ServedEach};
 ghost use Rattle.engine.specs.Sessions.{AreAskedFrom};
 
@@ -45,7 +46,7 @@ pub fn close<J: ServeNames, G: Gate + Drop>(
     requires catalog { catalog ≡ shared_of J.opening }
     requires within { IsWithinScale J.opening }
     ensures outcome { IfOk result (λ outcome.
-        IsOutcomeOf J.opening (scripts.now ++ outcome.asked.items) outcome) }
+        IsOutcomeOf J.opening J.most (scripts.now ++ outcome.asked.items) outcome) }
     ensures asked { IfOk result (λ outcome. outcome.asked.items ≡ asked_by left.items) }
     ensures recorded { IfOk result (λ outcome.
         drop (length scripts.now) outcome.answers.items ≡ recorded_by left.items) }
@@ -96,7 +97,7 @@ fn audit_served<J: ServeNames>(
     requires scripts { J.scripts ≡ scripts.now }
     ensures count { IfOk result (λ answers. length answers.items ≡ length scripts.now) }
     ensures each { IfOk result (λ answers.
-        ServedEach J.opening.scale scripts.now log.old answers.items) }
+        ServedEach (rules_of J.opening J.most) scripts.now log.old answers.items) }
     ensures same { log.new ≡ log.old }
 {
     let mut places = places.into_iter();
@@ -128,8 +129,8 @@ fn audit_left<J: ServeNames>(
         answers.new.items ≡ answers.old.items ++ recorded_by left.items) }
     ensures each { IfOk result (λ _. (scripts : List (List Request))
         → AreAskedFrom (length answers.old.items) scripts left.items
-        → ServedEach J.opening.scale scripts log.old answers.old.items
-        → ServedEach J.opening.scale scripts log.old answers.new.items) }
+        → ServedEach (rules_of J.opening J.most) scripts log.old answers.old.items
+        → ServedEach (rules_of J.opening J.most) scripts log.old answers.new.items) }
     ensures same { log.new ≡ log.old }
 {
     let mut asked = Vec::with_capacity(alloc, left.len())?;

@@ -277,7 +277,8 @@ impl<J: ServeNames, G: Gate, R: Wait> AtWork<'_, '_, J, G, R> {
     // An action reports to the meeting of its phase; no lock is held. With the last report the transaction goes on.
     fn take_report(&mut self, report: Report<J>) {
         let slot = report.slot();
-        if let Some(following) = report.report(self.alloc) {
+        let (following, _receipt) = report.report(self.alloc);
+        if let Some(following) = following {
             self.run_on(slot, following);
         }
     }
@@ -379,7 +380,8 @@ impl<J: ServeNames, G: Gate, R: Wait> AtWork<'_, '_, J, G, R> {
     // over.
     fn report_back(&mut self, place: CompletionPlace) {
         let slot = place.slot();
-        let Some(completion) = place.report() else {
+        let (completion, _receipt) = place.report();
+        let Some(completion) = completion else {
             return;
         };
         match self.engine.complete(self.rt, completion) {

@@ -1,8 +1,8 @@
 use requests::Request;
 
 /// A hook that is called while requests are served, and that may hold an executor up. It is not called for a request that the
-/// check refuses, nor for one that can't begin since an allocation failed; for a request asked interactively, only `commit` is
-/// called. The engine's contracts hold whatever a gate does.
+/// check refuses, nor for one that can't begin since an allocation failed. For a request asked interactively, the thread that asks
+/// calls `asked` and `answered`, so they hold only this session up. The engine's contracts hold whatever a gate does.
 pub trait Gate {
     /// The session's request of this number is in flight for the first time.
     fn asked(&self, session: u32, number: u32, request: &Request);

@@ -1,6 +1,7 @@
 //! Opens an engine over tables, for scripts.
 ghost use Rattle.std.specs.Prelude.{◌≡◌, ◌≤◌, ◌<◌, All, IfOk, vec_len};
 ghost use Rattle.partitions.specs.Parts.{shared_of};
+ghost use Rattle.commit_log.specs.Limits.{AreLimits};
 ghost use Rattle.slices.specs.Openings.{AreOpenedFor};
 ghost use Rattle.engine.specs.Interactive.{HasAskedNothing};
 ghost use Rattle.engine.specs.Opening.{IsNamedFor, IsToOpen};
@@ -14,8 +15,8 @@ use crate::moves::Moves;
 use crate::opening_scale::OpeningScale;
 use crate::parking::Parking;
 use crate::place::Place;
-use crate::{Gate, Idle, ServeNames, Session};
-use commit_log::{Log, LogBook, Pass, SessionSeat, UnnamedLog};
+use crate::{Gate, Idle, ServeNames, ServeOptions, Session};
+use commit_log::{Log, LogBook, LogLimit, Pass, SessionSeat, UnnamedLog};
 use executor::{CompletionOwner, CountedShard, PhaseOwner};
 use partitions::Catalog;
 use queues::Sender;
@@ -43,14 +44,20 @@ pub struct Opening {
 }
 
 impl Opening {
-    /// Opens the agreements of the tables' groups and of a log without entries, for this many sessions. Returns NoMemory if an
-    /// allocation fails; nothing is left then.
-    pub fn open(alloc: Global, tables: &Tables, sessions: usize) -> Result<Opening, NoMemory>
+    /// Opens the agreements of the tables' groups and of a log without entries, which may have at most `log_limit`, for this many
+    /// sessions. Returns NoMemory if an allocation fails; nothing is left then.
+    pub fn open(
+        alloc: Global,
+        tables: &Tables,
+        sessions: usize,
+        log_limit: LogLimit,
+    ) -> Result<Opening, NoMemory>
         ensures groups { IfOk result (λ opening. AreOpenedFor tables.now opening.groups.items) }
         ensures sessions { IfOk result (λ opening. opening.sessions ≡ sessions) }
+        ensures limit { IfOk result (λ opening. opening.log.most ≡ log_limit) }
     {
         let groups = open_groups(alloc, tables)?;
-        let log = UnnamedLog::open(alloc)?;
+        let log = UnnamedLog::with_limit(alloc, log_limit)?;
         Ok(Opening {
             groups,
             log,
@@ -75,24 +82,20 @@ pub struct Opened<'a, J: ServeNames, G: Gate> {
     pub idle: Idle<J>,
 }
 
-/// Opens an engine over these tables, with this many executors, for these scripts and moves. Session s asks script s; the
-/// sessions after these, as many as the opening has, ask interactively. An inbox holds at most `room` messages; a message whose
-/// inbox is full waits at its sender. If there can't be one of the moves (`MoveOrder::is_within`), the executors may never end.
+/// Opens an engine over these tables, for these scripts. Session s asks script s; the sessions after these, as many as the opening
+/// has, ask interactively. If there can't be one of the moves (`MoveOrder::is_within`), the executors may never end.
 /// Returns NoMemory if an allocation fails; nothing is left then.
 pub fn open<'a, J: ServeNames, G: Gate + Drop>(
     alloc: Global,
     opening: Opening,
     tables: Tables,
     scripts: &'a [Script],
-    executors: u32,
-    tries: u32,
-    room: usize,
-    moves: &'a [MoveOrder],
+    options: &ServeOptions<'a>,
     gate: G,
 ) -> Result<Opened<'a, J, G>, NoMemory>
-    requires room { 0 < room }
+    requires limits { AreLimits options.now.limits }
     requires named { IsNamedFor J.LogNames J.GroupNames J.scripts tables scripts.now opening }
-    requires some { 1 ≤ executors }
+    requires some { 1 ≤ options.now.executors }
     requires most { opening.sessions ≤ SESSIONS }
     ensures catalog { IfOk result (λ opened. opened.catalog ≡ shared_of tables) }
     ensures idle { IfOk result (λ opened. opened.idle.first ≡ opening.sessions) }
@@ -104,20 +107,20 @@ pub fn open<'a, J: ServeNames, G: Gate + Drop>(
         sessions: count,
     } = opening;
     let scale = tables.scale();
-    let routing = Routing::opening(&scale, executors);
+    let routing = Routing::opening(&scale, options.executors);
     let (boxes, seats) = named_all::<J>(alloc, scale.warehouses, groups)?;
     let (catalog, slices) = cut(alloc, tables, boxes)?;
     let interactive = count.saturating_sub(scripts.len());
     let (mut executors, mut senders) = open_idle(
         alloc,
-        executors,
+        options.executors,
         scale.warehouses,
-        room,
+        options.limits.inbox as usize,
         interactive as u32,
     )?;
     open_shards(alloc, &mut executors, &routing, slices)?;
     begin_sessions(&mut executors, &routing, scripts)?;
-    let moves = Moves::new(moves);
+    let moves = Moves::new(options.moves);
     if let Some(order) = moves.begin_next() {
         begin_move(&mut executors, order)?;
     }
@@ -129,11 +132,11 @@ pub fn open<'a, J: ServeNames, G: Gate + Drop>(
         places,
         sessions,
         idle,
-    } = open_places(alloc, lanes, count, scripts, &mut senders, tries)?;
+    } = open_places(alloc, lanes, count, scripts, &mut senders, options.tries)?;
     let engine = Engine {
         scale: OpeningScale::new(scale),
         scripts,
-        tries,
+        tries: options.tries,
         routing: SharedRouting::open(alloc, &routing)?,
         moves,
         gate,

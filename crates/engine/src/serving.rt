@@ -1,6 +1,8 @@
 //! Serves scripts and clients by executors, each in a thread of its own.
 ghost use Rattle.std.specs.Prelude.{◌≡◌, ◌≤◌, ◌<◌, ◌+◌, [], ◌++◌, drop, length, vec_len, All, IfOk, OnOk, IfErr, IfSome, IfNone};
 ghost use Rattle.schema.specs.Consistency.{Consistent};
+ghost use Rattle.rows.specs.declared.limits.TheConstants.{MOST_ENTRIES};
+ghost use Rattle.commit_log.specs.Limits.{AreLimits};
 ghost use Rattle.range_moves.specs.Orders.{IsWithin};
 ghost use Rattle.engine.specs.Interactive.{HasAskedNothing, asked_by, recorded_by};
 ghost use Rattle.engine.specs.Faults.{AreWithin, IsFaultOf, IsFirstBad, IsOfServing};
@@ -13,22 +15,26 @@ use crate::engine::Engine;
 use crate::executing::AtWork;
 use crate::opening::{Opened, Opening, open};
 use crate::threads::{Meanwhile, Work, work_on_each};
-use crate::{Client, CloseFault, Gate, Left, OpenGate, Outcome, ServeFault, ServeNames, Session};
+use crate::{
+    Client, CloseFault, Gate, Left, OpenGate, Outcome, ServeFault, ServeNames, ServeOptions,
+    Session,
+};
+use commit_log::{Limits, LogLimit};
 use consistency::first_broken;
 use range_moves::MoveOrder;
 use requests::Script;
-use rows::{INBOX, SESSIONS};
+use rows::{INBOX, MOST_ENTRIES, SESSIONS};
 use schema::Tables;
 use std::alloc::Global;
 use std::marker::Brand;
 use std::sync::{Mutex, Wait};
 use std::thread::Threads;
 
-/// Serves the scripts from the opening tables. Script s is session s, which asks its requests one after the other. `executors`
-/// executors share the tables' warehouses, each in a thread of its own: warehouse w is at executor
-/// `(w-1) * executors / warehouses`. A request that was refused with Died or NoMemory is asked again until it was asked `tries`
-/// times. The gate is called for each request that the check accepts and that begins. The moves are made meanwhile, one after
-/// the other, all of them: the warehouses of a move's range go to its executor, and requests go on.
+/// Serves the scripts from the opening tables. Script s is session s, which asks its requests one after the other. The executors
+/// share the tables' warehouses, each in a thread of its own: warehouse w is at executor `(w-1) * executors / warehouses`. A
+/// request that was refused with Died or NoMemory is asked again until it was asked `tries` times. The gate is called for each
+/// request that the check accepts and that begins. The moves are made meanwhile, one after the other, all of them: the warehouses
+/// of a move's range go to its executor, and requests go on.
 ///
 /// Errors: `BadMove` is the place, from 0, of the first move that there can't be: its range ends before it begins, or one of its
 /// numbers is out of range. It is checked before anything else. `NotConsistent` is the least of the consistency conditions 1 to
@@ -41,50 +47,21 @@ pub fn serve<R: Threads + Wait + Sync, G: Gate + Send + Sync + Drop>(
     alloc: Global,
     opening: Tables,
     scripts: &[Script],
-    executors: u32,
-    tries: u32,
-    moves: &[MoveOrder],
+    options: &ServeOptions<'_>,
     gate: G,
 ) -> Result<Outcome, ServeFault>
     requires some { 1 ≤ length scripts.now }
     requires most { length scripts.now ≤ SESSIONS }
-    requires executors { 1 ≤ executors }
-    ensures outcome { IfOk result (IsOutcomeOf opening scripts.now) }
+    requires executors { 1 ≤ options.now.executors }
+    requires limits { AreLimits options.now.limits }
+    ensures outcome { IfOk result (IsOutcomeOf opening options.now.limits.log scripts.now) }
     ensures interactive { IfOk result (λ outcome. outcome.asked.items ≡ []) }
     ensures consistent { OnOk result (Consistent opening) }
-    ensures within { OnOk result (AreWithin opening executors moves.now) }
-    ensures fault { IfErr result (λ fault. IsFaultOf opening executors moves.now fault) }
+    ensures within { OnOk result (AreWithin opening options.now.executors options.now.moves.now) }
+    ensures fault { IfErr result (λ fault.
+        IsFaultOf opening options.now.executors options.now.moves.now fault) }
 {
-    serve_with_room(
-        rt, alloc, opening, scripts, executors, tries, INBOX, moves, gate,
-    )
-}
-
-/// Like `serve`, with inboxes that hold `room` messages each. A message whose inbox is full waits at its sender.
-pub fn serve_with_room<R: Threads + Wait + Sync, G: Gate + Send + Sync + Drop>(
-    rt: &R,
-    alloc: Global,
-    opening: Tables,
-    scripts: &[Script],
-    executors: u32,
-    tries: u32,
-    room: usize,
-    moves: &[MoveOrder],
-    gate: G,
-) -> Result<Outcome, ServeFault>
-    requires some { 1 ≤ length scripts.now }
-    requires most { length scripts.now ≤ SESSIONS }
-    requires executors { 1 ≤ executors }
-    requires room { 0 < room }
-    ensures outcome { IfOk result (IsOutcomeOf opening scripts.now) }
-    ensures interactive { IfOk result (λ outcome. outcome.asked.items ≡ []) }
-    ensures consistent { OnOk result (Consistent opening) }
-    ensures within { OnOk result (AreWithin opening executors moves.now) }
-    ensures fault { IfErr result (λ fault. IsFaultOf opening executors moves.now fault) }
-{
-    serve_all(
-        rt, alloc, opening, scripts, 0, executors, tries, room, moves, gate, &Nobody,
-    )
+    serve_all(rt, alloc, opening, scripts, 0, options, gate, &Nobody)
 }
 
 /// Has a client ask interactively by `sessions` sessions, from the opening tables. `executors` executors share the tables'
@@ -103,23 +80,30 @@ pub fn serve_client<R: Threads + Wait + Sync, C: Client>(
 ) -> Result<Outcome, ServeFault>
     requires most { sessions ≤ SESSIONS }
     requires executors { 1 ≤ executors }
-    ensures outcome { IfOk result (λ outcome. IsOutcomeOf opening outcome.asked.items outcome) }
+    ensures outcome { IfOk result (λ outcome.
+        IsOutcomeOf opening MOST_ENTRIES outcome.asked.items outcome) }
     ensures sessions { IfOk result (λ outcome. length outcome.asked.items ≡ sessions) }
     ensures promised { IfOk result (λ outcome.
         C.promises client.now opening outcome.asked.items outcome.answers.items) }
     ensures consistent { OnOk result (Consistent opening) }
     ensures fault { IfErr result (λ fault. IsFaultOf opening executors [] fault) }
 {
+    let options = ServeOptions {
+        executors,
+        tries: 1,
+        limits: Limits {
+            log: MOST_ENTRIES as u32,
+            inbox: INBOX as u32,
+        },
+        moves: &[],
+    };
     serve_all(
         rt,
         alloc,
         opening,
         &[],
         sessions,
-        executors,
-        1,
-        INBOX,
-        &[],
+        &options,
         OpenGate,
         client,
     )
@@ -152,35 +136,32 @@ fn serve_all<R: Threads + Wait + Sync, G: Gate + Send + Sync + Drop, C: Client>(
     opening: Tables,
     scripts: &[Script],
     sessions: usize,
-    executors: u32,
-    tries: u32,
-    room: usize,
-    moves: &[MoveOrder],
+    options: &ServeOptions<'_>,
     gate: G,
     client: &C,
 ) -> Result<Outcome, ServeFault>
     requires most { length scripts.now + sessions ≤ SESSIONS }
-    requires executors { 1 ≤ executors }
-    requires room { 0 < room }
+    requires executors { 1 ≤ options.now.executors }
+    requires limits { AreLimits options.now.limits }
     ensures outcome { IfOk result (λ outcome.
-        IsOutcomeOf opening (scripts.now ++ outcome.asked.items) outcome) }
+        IsOutcomeOf opening options.now.limits.log (scripts.now ++ outcome.asked.items) outcome) }
     ensures asked { IfOk result (λ outcome. length outcome.asked.items ≡ sessions) }
     ensures promised { IfOk result (λ outcome. C.promises client.now opening outcome.asked.items
         (drop (length scripts.now) outcome.answers.items)) }
     ensures consistent { OnOk result (Consistent opening) }
-    ensures within { OnOk result (AreWithin opening executors moves.now) }
-    ensures fault { IfErr result (λ fault. IsFaultOf opening executors moves.now fault) }
+    ensures within { OnOk result (AreWithin opening options.now.executors options.now.moves.now) }
+    ensures fault { IfErr result (λ fault.
+        IsFaultOf opening options.now.executors options.now.moves.now fault) }
 {
-    if let Some(place) = first_bad(moves, opening.scale().warehouses, executors) {
+    if let Some(place) = first_bad(options.moves, opening.scale().warehouses, options.executors) {
         return Err(ServeFault::BadMove(place));
     }
     if let Some(condition) = first_broken(alloc, &opening)? {
         return Err(ServeFault::NotConsistent(condition));
     }
-    let opened = Opening::open(alloc, &opening, scripts.len() + sessions)?;
-    serve_from::<Brand, R, G, C>(
-        rt, alloc, opened, opening, scripts, executors, tries, room, moves, gate, client,
-    )
+    let log_limit = LogLimit::new(options.limits.log);
+    let opened = Opening::open(alloc, &opening, scripts.len() + sessions, log_limit)?;
+    serve_from::<Brand, R, G, C>(rt, alloc, opened, opening, scripts, options, gate, client)
 }
 
 // The place of the first move that there can't be.
@@ -208,19 +189,16 @@ fn serve_from<
     opening: Opening,
     tables: Tables,
     scripts: &[Script],
-    executors: u32,
-    tries: u32,
-    room: usize,
-    moves: &[MoveOrder],
+    options: &ServeOptions<'_>,
     gate: G,
     client: &C,
 ) -> Result<Outcome, ServeFault>
-    requires room { 0 < room }
+    requires limits { AreLimits options.now.limits }
     requires named { IsNamedFor J.LogNames J.GroupNames J.scripts tables scripts.now opening }
-    requires some { 1 ≤ executors }
+    requires some { 1 ≤ options.now.executors }
     requires most { opening.sessions ≤ SESSIONS }
     ensures outcome { IfOk result (λ outcome.
-        IsOutcomeOf tables (scripts.now ++ outcome.asked.items) outcome) }
+        IsOutcomeOf tables J.most (scripts.now ++ outcome.asked.items) outcome) }
     ensures asked { IfOk result (λ outcome.
         length scripts.now + length outcome.asked.items ≡ opening.sessions) }
     ensures promised { IfOk result (λ outcome. C.promises client.now tables outcome.asked.items
@@ -233,9 +211,7 @@ fn serve_from<
         catalog,
         sessions,
         idle,
-    } = open::<J, G>(
-        alloc, opening, tables, scripts, executors, tries, room, moves, gate,
-    )?;
+    } = open::<J, G>(alloc, opening, tables, scripts, options, gate)?;
     let (executors, left) = work_all(rt, alloc, &engine, executors, client, sessions)?;
     match close(alloc, engine, executors, catalog, left, idle, scripts) {
         Ok(outcome) => Ok(outcome),
@@ -283,8 +259,10 @@ fn work_all<
         client,
         sessions,
     };
+    // Room for the executors' return: without it, what is served would be lost at the end.
+    let back = Vec::with_capacity(alloc, crew.executors.len())?;
     let left = work_on_each(rt, alloc, &crew, crew.executors.len(), asking)?;
-    Ok((crew.into_executors()?, left))
+    Ok((crew.into_executors(back)?, left))
 }
 
 /// A client, its sessions, and the engine by which they ask.
@@ -308,16 +286,11 @@ struct Crew<'e, 'a, J: ServeNames, G: Gate, R: Wait> {
 }
 
 impl<J: ServeNames, G: Gate, R: Wait> Crew<'_, '_, J, G, R> {
-    // The executors, once all threads have ended. An executor that is not back is `Unsettled`.
-    fn into_executors(self) -> Result<Vec<Executor<J>>, ServeFault>
+    // Puts the executors into this list, once all threads have ended. An executor that is not back is `Unsettled`.
+    fn into_executors(self, mut back: Vec<Executor<J>>) -> Result<Vec<Executor<J>>, ServeFault>
         ensures { IfErr result (λ fault. IsOfServing fault) }
     {
-        let Crew {
-            alloc,
-            executors,
-            ..
-        } = self;
-        let mut back = Vec::with_capacity(alloc, executors.len())?;
+        let Crew { executors, .. } = self;
         for executor in executors {
             let Some(executor) = executor.into_inner() else {
                 return Err(ServeFault::Unsettled);

@@ -5,6 +5,7 @@ ghost use Rattle.commit_log.specs.Items.{items_of};
 ghost use Rattle.executor.specs.Answers.{IsRecordedBy};
 ghost use Rattle.engine.specs.Asking.{known_of};
 ghost use Rattle.engine.specs.Outcome.{IsRefusal};
+ghost use Rattle.engine.specs.Rules.{rules_of};
 ghost use Rattle.engine.specs.Served.{ServedIn};
 ghost use Rattle.engine.specs.Interactive.{Asks, HasAskedNothing, HasMet, IsBackIn};
 
@@ -46,10 +47,11 @@ impl<J: ServeNames> Model for Session<J> {
     ghost Value = { ReadyView };
 
     ghost use Rattle.engine.specs.Asking.{IsResting, ready_view};
+    ghost use Rattle.engine.specs.Rules.{rules_of};
 
     ghost view = { λ s. ready_view s.requests.items s.seat s.pass s.answers.items s.is_full };
 
-    ghost invariant = { λ s. IsResting J.opening.scale (ready_view s.requests.items s.seat s.pass s.answers.items s.is_full) };
+    ghost invariant = { λ s. IsResting (rules_of J.opening J.most) (ready_view s.requests.items s.seat s.pass s.answers.items s.is_full) };
 }
 
 /// A session with its next request, and with capacity to keep the request and its answer.
@@ -73,10 +75,11 @@ impl<J: ServeNames> Model for Asker<J> {
     ghost use Rattle.std.specs.Prelude.{vec_capacity};
     ghost use Rattle.engine.specs.Asking.{ready_view};
     ghost use Rattle.engine.specs.Interactive.{IsCalling, asker_view};
+    ghost use Rattle.engine.specs.Rules.{rules_of};
 
     ghost view = { λ s. asker_view (ready_view s.requests.items s.seat s.pass s.answers.items s.is_full) s.request };
 
-    ghost invariant = { λ s. IsCalling J.opening.scale (ready_view s.requests.items s.seat s.pass s.answers.items s.is_full) s.number (vec_capacity s.requests) (vec_capacity s.answers) };
+    ghost invariant = { λ s. IsCalling (rules_of J.opening J.most) (ready_view s.requests.items s.seat s.pass s.answers.items s.is_full) s.number (vec_capacity s.requests) (vec_capacity s.answers) };
 }
 
 /// A session whose request is in flight; its pass goes with the request.
@@ -97,10 +100,11 @@ impl<J: ServeNames> Model for Away<J> {
     ghost use Rattle.std.specs.Prelude.{vec_capacity};
     ghost use Rattle.engine.specs.Asking.{asked_view};
     ghost use Rattle.engine.specs.Interactive.{IsCalled};
+    ghost use Rattle.engine.specs.Rules.{rules_of};
 
     ghost view = { λ s. asked_view s.requests.items s.seat s.answers.items };
 
-    ghost invariant = { λ s. IsCalled J.opening.scale (asked_view s.requests.items s.seat s.answers.items) s.request (vec_capacity s.requests) (vec_capacity s.answers) };
+    ghost invariant = { λ s. IsCalled (rules_of J.opening J.most) (asked_view s.requests.items s.seat s.answers.items) s.request (vec_capacity s.requests) (vec_capacity s.answers) };
 }
 
 /// Why a session has no answer to a request.
@@ -190,7 +194,7 @@ impl<J: ServeNames> Session<J> {
         engine: &Engine<'_, J, G>,
         request: Request,
     ) -> Result<(Session<J>, Result<u32, Refusal>), AskFault<J>>
-        ensures asks { IfOk result (λ r. Asks J.opening.scale self request r.0 r.1) }
+        ensures asks { IfOk result (λ r. Asks (rules_of J.opening J.most) self request r.0 r.1) }
         ensures back { IfErr result (IsBackIn self) }
     {
         let Ok(number) = u32::try_from(self.answers.len()) else {
@@ -272,9 +276,9 @@ pub fn meet<J: ServeNames>(one: &mut Session<J>, other: &mut Session<J>)
 impl<J: ServeNames> Asker<J> {
     // Answers the request with a refusal.
     fn refused(self, refusal: Refusal) -> (Session<J>, Result<u32, Refusal>)
-        requires { IsRefusal J.opening.scale
+        requires { IsRefusal (rules_of J.opening J.most)
             (known_of self.before.is_full self.before.pass.reached) self.request refusal }
-        ensures { Asks J.opening.scale self.before self.request result.0 result.1 }
+        ensures { Asks (rules_of J.opening J.most) self.before self.request result.0 result.1 }
     {
         let Asker {
             seat,
@@ -309,7 +313,7 @@ impl<J: ServeNames> Asker<J> {
     ) -> Option<(Session<J>, Result<u32, Refusal>)>
         requires accepted { check_of J.opening.scale self.request ≡ Ok tt }
         requires open { self.before.is_full ≡ false }
-        ensures { IfSome result (λ r. Asks J.opening.scale self.before self.request r.0 r.1) }
+        ensures { IfSome result (λ r. Asks (rules_of J.opening J.most) self.before self.request r.0 r.1) }
     {
         let Asker {
             mut seat,
@@ -335,6 +339,9 @@ impl<J: ServeNames> Asker<J> {
         };
         match begun {
             Ok(flow) => {
+                engine
+                    .gate
+                    .asked(away.seat.session(), number, &away.request);
                 away.send(rt, engine, slot, home, flow);
                 let recorded = engine.wait_for_answer(rt, slot)?;
                 let (mut pass, answer) = recorded.into_parts();
@@ -342,6 +349,9 @@ impl<J: ServeNames> Asker<J> {
                     return None;
                 }
                 away.seat.look(&mut pass);
+                engine
+                    .gate
+                    .answered(away.seat.session(), number, &away.request);
                 Some(away.answered(pass, answer))
             }
             Err(pass) => Some(away.answered(pass, Err(Refusal::NoMemory))),
@@ -377,7 +387,7 @@ impl<J: ServeNames> Away<J> {
         answer: Result<u32, Refusal>,
     ) -> (Session<J>, Result<u32, Refusal>)
         requires session { pass.session ≡ self.seat.session }
-        requires recorded { IsRecordedBy self.seat.asking pass answer }
+        requires recorded { IsRecordedBy J.most self.seat.asking pass answer }
         ensures answer { result.1 ≡ answer }
         ensures noted { result.0.script ≡ self.script ++ self.seat.asking.request ∷ [] }
         ensures answered { result.0.answers ≡ self.answers ++ answer ∷ [] }
@@ -412,7 +422,7 @@ impl<J: ServeNames> Left<J> {
         ensures asked { IfSome result (λ r. r.0 ≡ self.session.script) }
         ensures recorded { IfSome result (λ r. r.1 ≡ self.session.answers) }
         ensures served { IfSome result (λ r.
-            ServedIn J.opening.scale number log.old self.session.script r.1) }
+            ServedIn (rules_of J.opening J.most) number log.old self.session.script r.1) }
         ensures same { log.new ≡ log.old }
     {
         let Left { session } = self;

@@ -8,7 +8,7 @@ use Rattle.transactions.specs.Progresses.{works_of}
 use Rattle.transactions.specs.Acting.{IsRanBy}
 use Rattle.executor.specs.declared.phase_owner.AgreedPhase.{AgreedPhase}
 use Rattle.executor.specs.declared.phase_owner.Said.{Said}
-use Rattle.executor.specs.AgreedPhases.{AreHandles, IsOfPhase}
+use Rattle.executor.specs.AgreedPhases.{AreHandles, IsOfPhase, IsHandle}
 use Rattle.executor.specs.Carrying.{AreSaidIn, IsCarriedAt, IsOn, agreed_phase_of}
 use Rattle.executor.specs.Flows.{FlowView}
 use Rattle.executor.specs.Phases.{AreAllRans, CarriesMeeting, rans_said}
@@ -57,12 +57,12 @@ module _ {J : Type 0} where
   long_said (said ∷ items) = ap suc (long_said items)
 
 -- one handle more
-pub one_handle_more : {X : Type 0} (value_of : X → TableId) (meeting : TableId) (handles : List X) (last : X) → AreHandles value_of meeting handles → value_of last ≡ meeting → AreHandles value_of meeting (handles ++ last ∷ [])
+pub one_handle_more : {X : Type 0} (value_of : X → TableId) (meeting : TableId) (handles : List (Option X)) (last : X) → AreHandles value_of meeting handles → value_of last ≡ meeting → AreHandles value_of meeting (handles ++ Some last ∷ [])
 one_handle_more value_of meeting [] last are is = (is, tt)
 one_handle_more value_of meeting (handle ∷ handles) last are is = (are.0, one_handle_more value_of meeting handles last are.1 is)
 
 -- the handles but the last one, and that one
-pub handles_but_last : {X : Type 0} (value_of : X → TableId) (meeting : TableId) (handles : List X) (last : X) → AreHandles value_of meeting (handles ++ last ∷ []) → AreHandles value_of meeting handles × (value_of last ≡ meeting)
+pub handles_but_last : {X : Type 0} (value_of : X → TableId) (meeting : TableId) (handles : List (Option X)) (last : Option X) → AreHandles value_of meeting (handles ++ last ∷ []) → AreHandles value_of meeting handles × IsHandle value_of meeting last
 handles_but_last value_of meeting [] last are = (tt, are.0)
 handles_but_last value_of meeting (handle ∷ handles) last are = let others = handles_but_last value_of meeting handles last are.1 in ((are.0, others.0), others.1)
 

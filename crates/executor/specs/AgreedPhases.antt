@@ -77,13 +77,18 @@ pub record IsPlaceIn (meeting : TableId) (slot : ℕ) (place : PlaceView AgreedP
   pub room : meeting.slots ≡ MOST_ACTIONS
   pub phase : IsOfPhase slot place.of_round.places place.of_round.topic
 
+-- this is the meeting
+abbrev pub IsHandle : {X : Type 0} → (X → TableId) → TableId → Option X → Type 0
+IsHandle value_of meeting None = ⊥
+IsHandle value_of meeting (Some handle) = value_of handle ≡ meeting
+
 -- each of these is the meeting
-abbrev pub AreHandles : {X : Type 0} → (X → TableId) → TableId → List X → Type 0
+abbrev pub AreHandles : {X : Type 0} → (X → TableId) → TableId → List (Option X) → Type 0
 AreHandles value_of meeting [] = Unit {0}
-AreHandles value_of meeting (handle ∷ handles) = (value_of handle ≡ meeting) × AreHandles value_of meeting handles
+AreHandles value_of meeting (handle ∷ handles) = IsHandle value_of meeting handle × AreHandles value_of meeting handles
 
 -- The places are of the meeting, and of a phase of the slot; the meeting is there once more for each of them.
-pub record ArePlacesIn {X : Type 0} (value_of : X → TableId) (meeting : X) (handles : List X) (slot : ℕ) (places : PlacesView AgreedPhase) : Type 0 where
+pub record ArePlacesIn {X : Type 0} (value_of : X → TableId) (meeting : X) (handles : List (Option X)) (slot : ℕ) (places : PlacesView AgreedPhase) : Type 0 where
   pub here : places.of_round.meeting ≡ value_of meeting
   pub room : (value_of meeting).slots ≡ MOST_ACTIONS
   pub phase : IsOfPhase slot places.of_round.places places.of_round.topic

@@ -1,6 +1,5 @@
 -- What an answer contains, and which claims go back with it.
 use Rattle.std.specs.Prelude.{◌≡◌, ◌≤◌, ◌+◌, ℕ, Bool, true, false, List, [], ◌∷◌, ◌++◌, All, Contains, Result, Ok, Err}
-use Rattle.rows.specs.declared.limits.TheConstants.{MOST_ENTRIES}
 use Rattle.requests.specs.declared.request.Request.{Request}
 use Rattle.requests.specs.declared.reply.Reply.{Reply}
 use Rattle.requests.specs.declared.refusal.Refusal.{Refusal}
@@ -26,26 +25,26 @@ pub record AnswerView : Type 0 where
 abbrev pub answer_view : ℕ → ℕ → PassView → Result ℕ Refusal → AnswerView
 answer_view age number pass answer = record { age = age; number = number; pass = pass; answer = answer }
 
--- A request in flight may be refused for this reason, when the pass has seen the log reach this many entries: an allocation
--- failed; or the log has its most entries; or an action died on a group of the request's footprint, whoever holds it. It may be
+-- A request in flight may be refused for this reason, when the log has at most `most` entries and the pass has seen it reach
+-- `entries`: an allocation failed; or these are the most; or an action died on a group of the request's footprint, whoever holds it. It may be
 -- refused for nothing else.
-abbrev pub MayBeRefused : ℕ → Request → Refusal → Type 0
-MayBeRefused entries request NoMemory = Unit {0}
-MayBeRefused entries request LogFull = MOST_ENTRIES ≤ entries
-MayBeRefused entries request (Died group holder) = Contains (groups_of (footprint request)) group
-MayBeRefused entries request _ = ⊥
+abbrev pub MayBeRefused : ℕ → ℕ → Request → Refusal → Type 0
+MayBeRefused most entries request NoMemory = Unit {0}
+MayBeRefused most entries request LogFull = most ≤ entries
+MayBeRefused most entries request (Died group holder) = Contains (groups_of (footprint request)) group
+MayBeRefused most entries request _ = ⊥
 
 -- The pass has seen and logged what it had when the session asked, and the answer: an entry behind all that it had seen; or, for
 -- a refusal, nothing more, and the request may be refused for this reason.
-abbrev pub IsRecordedBy : Asking → PassView → Result ℕ Refusal → Type 0
-IsRecordedBy asks pass (Ok place) =
+abbrev pub IsRecordedBy : ℕ → Asking → PassView → Result ℕ Refusal → Type 0
+IsRecordedBy most asks pass (Ok place) =
     (asks.seen ≤ place) × (pass.seen ≡ place + 1) × (shown : Reply) × (pass.mine ≡ asks.mine ++ item place asks.number asks.request shown ∷ [])
-IsRecordedBy asks pass (Err why) = (pass.seen ≡ asks.seen) × (pass.mine ≡ asks.mine) × MayBeRefused pass.reached asks.request why
+IsRecordedBy most asks pass (Err why) = (pass.seen ≡ asks.seen) × (pass.mine ≡ asks.mine) × MayBeRefused most pass.reached asks.request why
 
 -- an answer is to the request that its session asked with the pass, and the pass records it
-pub record CarriesAnswer (t : AnswerView) : Type 0 where
+pub record CarriesAnswer (most : ℕ) (t : AnswerView) : Type 0 where
   pub number_is : t.pass.asks.number ≡ t.number
-  pub recorded : IsRecordedBy t.pass.asks t.pass t.answer
+  pub recorded : IsRecordedBy most t.pass.asks t.pass t.answer
 
 -- ---- what goes back
 

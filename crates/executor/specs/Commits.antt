@@ -1,6 +1,5 @@
 -- A transaction is appended to the log.
 use Rattle.std.specs.Prelude.{◌≡◌, ◌⊎◌, ◌<◌, ◌≤◌, ◌↔◌, ℕ, false, List, [], ◌∷◌, ◌++◌, All, length, map, Ok, Err}
-use Rattle.rows.specs.declared.limits.TheConstants.{MOST_ENTRIES}
 use Rattle.schema.specs.Database.{Database}
 use Rattle.requests.specs.declared.request.Request.{Request}
 use Rattle.requests.specs.declared.reply.Reply.{Reply}
@@ -60,9 +59,9 @@ abbrev pub refusing : CommitView → PassView → Refusal → ReleaseView
 refusing c pass why = release_view (answer_view c.age c.number pass (Err why)) (returns_view c.slot false c.held) c.phase_owner
 
 -- The log has one entry more, at its end; or it refused the entry and is unchanged. It refuses an entry with LogFull exactly if
--- it is full.
-abbrev pub Commits : CommitView → List Entry → ReleaseView → List Entry → Type 0
-Commits c old release new =
-    ((length old < MOST_ENTRIES) × ((release ≡ logging c (length old)) × (new ≡ old ++ entry_committed c ∷ [])))
-    ⊎ ((why : AppendFault) × (((why ≡ fault.LogFull) ↔ (MOST_ENTRIES ≤ length old))
+-- it has the most entries that it may have.
+abbrev pub Commits : ℕ → CommitView → List Entry → ReleaseView → List Entry → Type 0
+Commits most c old release new =
+    ((length old < most) × ((release ≡ logging c (length old)) × (new ≡ old ++ entry_committed c ∷ [])))
+    ⊎ ((why : AppendFault) × (((why ≡ fault.LogFull) ↔ (most ≤ length old))
     × ((release ≡ refusing c (after_refusal why (length old) c.pass) (why_refused why)) × (new ≡ old))))

@@ -1,5 +1,5 @@
 -- The claims of a finished transaction that go back by messages, and the meeting to which their actions report.
-use Rattle.std.specs.Prelude.{◌≡◌, ◌+◌, ℕ, Option, Some, None, length}
+use Rattle.std.specs.Prelude.{◌≡◌, ◌+◌, ◌<◌, ℕ, Option, Some, None, length}
 use Rattle.atomic_table.specs.Seated.{TableId}
 use Rattle.rendezvous.specs.Meetings.{PlaceView, PlacesView}
 use Rattle.rendezvous.specs.declared.rule.Anything.{Anything}
@@ -53,6 +53,12 @@ module _ {J : Type 0} where
   -- these claims have gone, and the others are left
   abbrev pub IsNextBack : CompletionView J → CompletionView J → GivenBack J → Type 0
   IsNextBack old new given = (new.first ≡ None) × IsFirstOrLast old.first old.returns new.returns given
+
+  -- these claims are all of this slot, and of no more actions than a transaction has
+  pub record MayComplete (slot : ℕ) (first : GivenBack J) (returns : ReturnsView) : Type 0 where
+    pub first_is : (giving_of first).slot ≡ slot
+    pub others_are : returns.slot ≡ slot
+    pub few : length returns.held < MOST_ACTIONS
 
   -- the claims are of this slot
   abbrev pub AreFirstOf : ℕ → Option (GivenBack J) → Type 0

@@ -56,7 +56,7 @@ fn begin<J: Names>(
     let Ok(acts) = Vec::with_capacity(alloc, count) else {
         return Err((flow, phase_owner));
     };
-    match phase_owner.begin(alloc, &flow, count) {
+    match phase_owner.begin(&flow, count) {
         Ok(places) => Ok(send_out(places, flow, works, acts)),
         Err(phase_owner) => Err((flow, phase_owner)),
     }

@@ -95,7 +95,7 @@ impl<J: Names> Commit<J> {
     /// Appends the transaction's entry to the log, or refuses the transaction if an allocation fails or the log is full. Returns
     /// its release: the claims are to be settled if it was logged and not rolled back, and else to be undone.
     pub fn commit(self, log: &mut Log<J>) -> Release<J>
-        ensures { Commits self log.old result log.new }
+        ensures { Commits J.most self log.old result log.new }
     {
         let Commit {
             transaction,

@@ -1,11 +1,12 @@
 //! The completion of a transaction: the claims that go back by messages, and the meeting to which their actions report.
-ghost use Rattle.std.specs.Prelude.{◌≡◌, IfErr, IfNone, IfOk, IfSome, Some};
-ghost use Rattle.executor.specs.Completions.{IsNextBack, completion_owner_view, completion_place_view, completion_view, going};
+ghost use Rattle.std.specs.Prelude.{◌≡◌, ◌↔◌, IfErr, IfNone, IfOk, IfSome, IsSome, Some, is_some};
+ghost use Rattle.rendezvous.specs.Stages.{is_last};
+ghost use Rattle.executor.specs.Completions.{IsNextBack, MayComplete, completion_owner_view, completion_place_view, completion_view, going};
 ghost use Rattle.executor.specs.Released.{giving_of};
 
 use crate::{GivenBack, Returns};
 use commit_log::Names;
-use rendezvous::{Anything, Convener, Meeting, Place, Places, Reported};
+use rendezvous::{Anything, Convener, Meeting, Place, Places, Receipt, Reported};
 use schema::NoMemory;
 use std::alloc::Global;
 use std::marker::{Brand, Model};
@@ -111,10 +112,11 @@ impl CompletionOwner {
     }
 
     /// Begins the completion of a transaction, whose claims go back by messages: first these, which were taken out of the others,
-    /// then the others. Returns `None` if they are of another slot, or of more actions than a transaction has. Never allocates or
-    /// waits.
+    /// then the others. Returns `None` exactly if they are of another slot, or of more actions than a transaction has. Never
+    /// allocates or waits.
     pub fn begin<J: Names>(self, first: GivenBack<J>, returns: Returns<J>) -> Option<Completion<J>>
-        ensures { IfSome result (λ completion. completion ≡ completion_view (Some first) returns) }
+        ensures some { IfSome result (λ completion. completion ≡ completion_view (Some first) returns) }
+        ensures exact { IsSome result ↔ MayComplete self.slot first returns }
     {
         let CompletionOwner {
             slot,
@@ -192,25 +194,27 @@ impl CompletionPlace {
     }
 
     /// Reports that the claims of its action are back. The last report of a completion gets the completion owner; another one gets
-    /// `None`. Never allocates or waits.
-    pub fn report(self) -> Option<CompletionOwner>
-        ensures { IfSome result (λ owner. owner ≡ completion_owner_view self.slot) }
+    /// `None`. Which it was is in the receipt: of the receipts of all places exactly one is of the last report
+    /// (`rendezvous::Meeting::compare`). Never allocates or waits.
+    pub fn report(self) -> (Option<CompletionOwner>, Receipt<(), Anything>)
+        ensures owner { IfSome result.0 (λ owner. owner ≡ completion_owner_view self.slot) }
+        ensures last { is_some result.0 ≡ is_last result.1.stage }
     {
         let CompletionPlace {
             slot,
             meeting,
             place,
         } = self;
-        // (nobody compares receipts)
-        let (reported, _receipt) = meeting.report(place, ());
+        let (reported, receipt) = meeting.report(place, ());
         let Reported::Last(mut results) = reported else {
-            return None;
+            return (None, receipt);
         };
         while let Some(()) = meeting.next_result(&mut results) {}
-        Some(CompletionOwner {
+        let owner = CompletionOwner {
             slot,
             meeting,
             convener: results.finish(),
-        })
+        };
+        (Some(owner), receipt)
     }
 }

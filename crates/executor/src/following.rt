@@ -1,6 +1,7 @@
 //! The step after a phase.
-ghost use Rattle.std.specs.Prelude.{◌≡◌, ◌≤◌, ◌+◌, ◌++◌, [], ◌∷◌, All, IfSome, None, length};
+ghost use Rattle.std.specs.Prelude.{◌≡◌, ◌≤◌, ◌+◌, ◌++◌, [], ◌∷◌, All, IfSome, None, is_some, length};
 ghost use Rattle.partitions.specs.Parts.{shared_of};
+ghost use Rattle.rendezvous.specs.Stages.{is_last};
 ghost use Rattle.executor.specs.Flows.{IsAskedBy, flow_view};
 ghost use Rattle.transactions.specs.Acting.{AreUndoneBy};
 ghost use Rattle.executor.specs.Answers.{MayBeRefused};
@@ -10,7 +11,7 @@ ghost use Rattle.executor.specs.Phases.{last_report_view, rans_said};
 ghost use Rattle.transactions.specs.SortedOut.{IsReadyFor, found_in, held_in, refusal_of};
 
 use crate::flow::Transaction;
-use crate::phase_owner::{LastReport, Said};
+use crate::phase_owner::{LastReport, PhaseReceipt, Said};
 use crate::{Commit, Flow, Paused, PhaseOwner, Release, Report};
 use commit_log::Names;
 use std::alloc::Global;
@@ -32,15 +33,20 @@ pub enum Following<J: Names> {
 
 impl<J: Names> Report<J> {
     /// Reports to the meeting of its phase, without a lock. If another action of the phase has not reported yet, returns `None`. The
-    /// last report returns the step after the phase. If an action died, the transaction is refused for the first death by place;
+    /// last report returns the step after the phase. Which it was is in the receipt: of the receipts of all actions of the phase
+    /// exactly one is of the last report (`rendezvous::Meeting::compare`). If an action died, the transaction is refused for the first death by place;
     /// else, if an action found no memory, it is refused with NoMemory. Else the results are gathered: the next phase begins or the
     /// transaction is to be logged, or it is refused with NoMemory if an allocation fails. Never waits.
-    pub fn report(self, alloc: Global) -> Option<Following<J>>
-        ensures { IfSome result (FollowsMeeting (shared_of J.opening) self.slot) }
+    pub fn report(self, alloc: Global) -> (Option<Following<J>>, PhaseReceipt<J>)
+        ensures follows { IfSome result.0 (FollowsMeeting (shared_of J.opening) self.slot) }
+        ensures last { is_some result.0 ≡ is_last result.1.stage }
     {
         let Report { ran, place, flow } = self;
-        let last = place.report(Said { ran, flow })?;
-        Some(last.follow(alloc))
+        let (last, receipt) = place.report(Said { ran, flow });
+        match last {
+            Some(last) => (Some(last.follow(alloc)), receipt),
+            None => (None, receipt),
+        }
     }
 }
 
@@ -109,7 +115,7 @@ pub(crate) fn following_of<J: Names>(
         transaction.pass }
     requires undone { All (AreUndoneBy transaction.age) held }
     requires may { IfSome sorted.refusal
-        (MayBeRefused transaction.pass.reached transaction.body.value.request) }
+        (MayBeRefused J.most transaction.pass.reached transaction.body.value.request) }
     requires met { sorted.refusal ≡ None
         → HasMetUnder (shared_of J.opening) transaction.body.value.request
         transaction.body.value.progress held sorted.found.items }

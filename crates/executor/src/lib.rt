@@ -33,6 +33,6 @@ pub use flow::Flow;
 pub use following::Following;
 pub use giving_back::{Settle, Undo};
 pub use paused::{Paused, Tried};
-pub use phase_owner::{AgreedPhase, PhaseOwner, PhasePlace, Said};
+pub use phase_owner::{AgreedPhase, PhaseOwner, PhasePlace, PhaseReceipt, Said};
 pub use release::{GivenBack, Release, Returns, SessionAnswer};
 pub use shards::ExecutorShards;

@@ -1,14 +1,16 @@
 //! The phase of a transaction, its owner, and the places of its actions in the meeting to which they report.
-ghost use Rattle.std.specs.Prelude.{◌≡◌, ◌↔◌, ◌<◌, ◌≤◌, ◌++◌, [], IfErr, IfNone, IfOk, IfSome, IsSome, length, option_to_list};
+ghost use Rattle.std.specs.Prelude.{◌≡◌, ◌↔◌, ◌<◌, ◌≤◌, ◌++◌, [], IfErr, IfNone, IfOk, IfSome, IsSome, is_some, length, option_to_list};
 ghost use Rattle.std.specs.Arc.{arc_value};
+ghost use Rattle.rendezvous.specs.Stages.{is_last};
 ghost use Rattle.partitions.specs.Parts.{shared_of};
 ghost use Rattle.executor.specs.AgreedPhases.{phase_owner_view, phase_place_view, phase_places_view, without_next, AreHandles};
 ghost use Rattle.executor.specs.Carrying.{agreed_phase_of, AreAllSaid, IsSaidAt};
 ghost use Rattle.transactions.specs.Progresses.{works_of};
 
 use crate::Flow;
+use arrayvec::ArrayVec;
 use commit_log::{LogNames, Names};
-use rendezvous::{Convener, Meeting, Place, Places, Reported, Results, Topic};
+use rendezvous::{Convener, Meeting, Place, Places, Receipt, Reported, Results, Topic};
 use schema::NoMemory;
 use std::alloc::Global;
 use std::marker::{Brand, Model};
@@ -44,7 +46,11 @@ impl<J: LogNames + GroupNames> Topic<Said<J>> for AgreedPhase {
 }
 
 /// The meeting to which the actions of the transactions in a slot report, phase after phase.
-pub(crate) type PhaseMeeting<J> = Meeting<Said<J>, AgreedPhase>;
+pub(crate) type SlotMeeting<J> = Meeting<Said<J>, AgreedPhase>;
+
+/// What is left of an action's place once it has reported. Of the receipts of all places of a phase exactly one is of the last report
+/// (`rendezvous::Meeting::compare`). It has no bytes, and nobody has to keep it.
+pub type PhaseReceipt<J> = Receipt<Said<J>, AgreedPhase>;
 
 /// Has all places of the meeting of a slot. While it is there, no action of a transaction is in flight in the slot, and it alone can
 /// begin the next phase of one.
@@ -53,7 +59,7 @@ pub(crate) type PhaseMeeting<J> = Meeting<Said<J>, AgreedPhase>;
 #[derive(Drop)]
 pub struct PhaseOwner<J: Names> {
     slot: usize,
-    meeting: Arc<PhaseMeeting<J>, Global>,
+    meeting: Arc<SlotMeeting<J>, Global>,
     convener: Convener<Said<J>, AgreedPhase>,
 }
 
@@ -78,7 +84,7 @@ impl<J: Names> Model for PhaseOwner<J> {
 #[derive(Drop)]
 pub struct PhasePlace<J: Names> {
     slot: usize,
-    meeting: Arc<PhaseMeeting<J>, Global>,
+    meeting: Arc<SlotMeeting<J>, Global>,
     place: Place<Said<J>, AgreedPhase>,
 }
 
@@ -119,15 +125,19 @@ impl<J: Names> PhaseOwner<J> {
     }
 }
 
+// Owner's handles of the meeting. They lie where their list does, so no phase takes memory for them. None is `None`: only the
+// places of the list that are free are.
+type Handles<J> = ArrayVec<Option<Arc<SlotMeeting<J>, Global>>, MOST_ACTIONS>;
+
 /// The places of a phase that begins, as many as it has actions.
 ///
 /// Contracts see the slot, the phase, the number of the next place, and how many are left.
 #[derive(Drop)]
 pub(crate) struct PhasePlaces<J: Names> {
     slot: usize,
-    meeting: Arc<PhaseMeeting<J>, Global>,
+    meeting: Arc<SlotMeeting<J>, Global>,
     // The meeting once more for each place that is left.
-    handles: Vec<Arc<PhaseMeeting<J>, Global>>,
+    handles: Handles<J>,
     places: Places<Said<J>, AgreedPhase>,
 }
 
@@ -147,14 +157,9 @@ impl<J: Names> Model for PhasePlaces<J> {
 }
 
 impl<J: Names> PhaseOwner<J> {
-    /// Begins the next phase of a transaction, of this many actions. Returns the places of the phase; if an allocation fails, returns
-    /// the phase owner unchanged.
-    pub(crate) fn begin(
-        self,
-        alloc: Global,
-        flow: &Flow<J>,
-        count: usize,
-    ) -> Result<PhasePlaces<J>, PhaseOwner<J>>
+    /// Begins the next phase of a transaction, of this many actions. Returns the places of the phase. An error is that the meeting
+    /// can't have as many owners more; it returns the phase owner unchanged. Never allocates.
+    pub(crate) fn begin(self, flow: &Flow<J>, count: usize) -> Result<PhasePlaces<J>, PhaseOwner<J>>
         requires slot { flow.now.slot ≡ self.slot }
         requires count { count ≡ length (works_of flow.now.progress) }
         requires some { 1 ≤ count }
@@ -163,7 +168,7 @@ impl<J: Names> PhaseOwner<J> {
             places ≡ phase_places_view self.slot (agreed_phase_of flow.now) 0 count) }
         ensures err { IfErr result (λ back. back ≡ self) }
     {
-        let Ok(handles) = handles_of(alloc, &self.meeting, count) else {
+        let Ok(handles) = handles_of(&self.meeting, count) else {
             return Err(self);
         };
         let PhaseOwner {
@@ -181,19 +186,19 @@ impl<J: Names> PhaseOwner<J> {
     }
 }
 
-// The meeting so many times more. An error is an allocation that failed.
+// The meeting so many times more. An error is that it can't have as many owners more.
 fn handles_of<J: Names>(
-    alloc: Global,
-    meeting: &Arc<PhaseMeeting<J>, Global>,
+    meeting: &Arc<SlotMeeting<J>, Global>,
     count: usize,
-) -> Result<Vec<Arc<PhaseMeeting<J>, Global>>, NoMemory>
+) -> Result<Handles<J>, NoMemory>
+    requires few { count ≤ MOST_ACTIONS }
     ensures each { IfOk result (λ handles.
         AreHandles arc_value (arc_value meeting.now) handles.items) }
     ensures count { IfOk result (λ handles. length handles.items ≡ count) }
 {
-    let mut handles = Vec::with_capacity(alloc, count)?;
+    let mut handles = ArrayVec::new();
     for _ in 0..count {
-        handles.push_reserved(Arc::try_clone(meeting)?);
+        handles.push(Some(Arc::try_clone(meeting)?));
     }
     Ok(handles)
 }
@@ -207,7 +212,10 @@ impl<J: Names> PhasePlaces<J> {
             × (self.new ≡ without_next self.old)) }
     {
         let place = self.meeting.hand_out(&mut self.places)?;
-        let Some(meeting) = self.handles.pop() else {
+        let Some(handle) = self.handles.pop() else {
+            unreachable!()
+        };
+        let Some(meeting) = handle else {
             unreachable!()
         };
         Some(PhasePlace {
@@ -226,29 +234,31 @@ impl<J: Names> PhasePlace<J> {
         self.slot
     }
 
-    /// Reports for its action. The last report of a phase gets all reports; another one gets `None`. Never allocates or waits.
-    pub(crate) fn report(self, said: Said<J>) -> Option<LastReport<J>>
+    /// Reports for its action. The last report of a phase gets all reports; another one gets `None`. Which it was is in the receipt.
+    /// Never allocates or waits.
+    pub(crate) fn report(self, said: Said<J>) -> (Option<LastReport<J>>, PhaseReceipt<J>)
         requires said { IsSaidAt (shared_of J.opening) self.agreed_phase self.number said }
-        ensures slot { IfSome result (λ last.
+        ensures slot { IfSome result.0 (λ last.
             (last.slot ≡ self.slot) × (self.agreed_phase.slot ≡ self.slot)) }
-        ensures all { IfSome result (λ last.
+        ensures all { IfSome result.0 (λ last.
             AreAllSaid (shared_of J.opening) self.agreed_phase last.items) }
+        ensures last { is_some result.0 ≡ is_last result.1.stage }
     {
         let PhasePlace {
             slot,
             meeting,
             place,
         } = self;
-        // (nobody compares receipts)
-        let (reported, _receipt) = meeting.report(place, said);
-        match reported {
-            Reported::NotLast => None,
-            Reported::Last(results) => Some(LastReport {
-                slot,
-                meeting,
-                results,
-            }),
-        }
+        let (reported, receipt) = meeting.report(place, said);
+        let Reported::Last(results) = reported else {
+            return (None, receipt);
+        };
+        let last = LastReport {
+            slot,
+            meeting,
+            results,
+        };
+        (Some(last), receipt)
     }
 }
 
@@ -258,7 +268,7 @@ impl<J: Names> PhasePlace<J> {
 #[derive(Drop)]
 pub(crate) struct LastReport<J: Names> {
     slot: usize,
-    meeting: Arc<PhaseMeeting<J>, Global>,
+    meeting: Arc<SlotMeeting<J>, Global>,
     results: Results<Said<J>, AgreedPhase>,
 }
 

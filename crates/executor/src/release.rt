@@ -38,7 +38,7 @@ impl<J: Names> Model for SessionAnswer<J> {
 
     ghost view = { λ t. answer_view t.age t.number t.pass t.answer };
 
-    ghost invariant = { λ t. CarriesAnswer (answer_view t.age t.number t.pass t.answer) };
+    ghost invariant = { λ t. CarriesAnswer J.most (answer_view t.age t.number t.pass t.answer) };
 }
 
 impl<J: Names> SessionAnswer<J> {
@@ -60,7 +60,7 @@ impl<J: Names> SessionAnswer<J> {
     pub fn into_parts(self) -> (Pass<J>, Result<u32, Refusal>)
         ensures pass { result.0 ≡ self.pass }
         ensures answer { result.1 ≡ self.answer }
-        ensures recorded { IsRecordedBy self.pass.asks self.pass self.answer }
+        ensures recorded { IsRecordedBy J.most self.pass.asks self.pass self.answer }
     {
         (self.pass, self.answer)
     }
@@ -210,7 +210,7 @@ impl<J: Names> Release<J> {
     ) -> Release<J>
         requires asked { IsAskedBy transaction.number transaction.body.value.request
             transaction.pass }
-        requires may { MayBeRefused transaction.pass.reached transaction.body.value.request why }
+        requires may { MayBeRefused J.most transaction.pass.reached transaction.body.value.request why }
         requires undone { All (AreUndoneBy transaction.age) held }
         requires whole { OwnsPhaseOf transaction.slot phase_owner }
         ensures { result ≡ refused phase_owner (transaction_view transaction) held why }

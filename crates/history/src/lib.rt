@@ -11,4 +11,4 @@ pub use laws::{
     admission_fits, answer_fits, empty_history_fits, entry_fits, quiet_event_fits,
     unanswered_in_any_order,
 };
-pub use schedule::{MOST_ROUNDS, Output, Scheduled};
+pub use schedule::{LockChange, MOST_ROUNDS, Output, Scheduled};

@@ -1,4 +1,5 @@
 use crate::{Event, EventAnswer};
+use local_locks::LockEntry;
 
 /// The greatest number of rounds of one item of a schedule.
 pub const MOST_ROUNDS: u32 = 100_000;
@@ -23,4 +24,14 @@ pub enum Output {
     Quiet,
     /// The rounds ended with the last permitted round.
     Limit,
+}
+
+/// The entries of a warehouse's lock table, once an event has changed them.
+#[derive(Debug, Drop, PartialEq, Eq)]
+pub struct LockChange {
+    /// The number of outputs before the change.
+    pub outputs: usize,
+    pub w_id: u32,
+    /// In the order in which the groups were taken; empty if none is held or waited for.
+    pub entries: Vec<LockEntry>,
 }

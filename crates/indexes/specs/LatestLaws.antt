@@ -1,7 +1,6 @@
 -- Laws of the look-up of latest orders, for any places of the districts.
 use Rattle.std.specs.Prelude.{◌≡◌, ℕ, List, Some, IfSome}
 use Rattle.std.specs.FinMap as map
-use Rattle.rows.specs.declared.keys.CustomerKey.{CustomerKey}
 use Rattle.rows.specs.declared.keys.OrderKey.{OrderKey}
 use Rattle.rows.specs.declared.records.Order.{Order}
 use Rattle.schema.specs.Database.{Database, customer_of_order}

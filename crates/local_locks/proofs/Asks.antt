@@ -4,7 +4,7 @@ use Rattle.std.specs.Prelude.{All, Contains}
 use Rattle.std.specs.List.{flat_map}
 use Rattle.std.specs.List.Sorted.{IsPermutation}
 use Rattle.std.proofs.Math.ListN.{drop_of_length-le}
-use Rattle.std.proofs.lemmas.List.{append-nil, get_or-map, map-append, take_all}
+use Rattle.std.proofs.lemmas.List.{append-nil, get_or-map, take_all}
 use Rattle.std.proofs.lemmas.List.Elements.{All-contains_itself, All-push, All-weaker}
 use Rattle.requests.specs.declared.group.Group.{Group}
 use Rattle.requests.specs.declared.group.Group.TheVariants.{Warehouse}
@@ -20,8 +20,8 @@ use Rattle.local_locks.specs.declared.rulings.Ruling.TheVariants.{Free}
 use Rattle.local_locks.specs.LockTableView.{HeldClaim, Stand, LockTableView, left_in}
 use Rattle.local_locks.specs.Conflicts.{IsFree, MustWait, MustDie}
 use Rattle.local_locks.specs.GroupWants.{IsOwn, CanAsk, group_wants}
-use Rattle.local_locks.specs.Asking.{Grants, claim_for, held_for, waiting}
-use Rattle.local_locks.specs.Locks.{LockView, lock_view, WaiterView, waiter_view, waiting_of, holding, holdings_of, stand_in, locking, AreLocksOf, IsParked}
+use Rattle.local_locks.specs.Asking.{Grants, claim_for, held_for}
+use Rattle.local_locks.specs.Locks.{LockView, lock_view, WaiterView, waiter_view, holding, holdings_of, stand_in, locking, AreLocksOf, IsParked}
 use Rattle.local_locks.specs.Rulings.{Spot, spot, spots_of, conflicting_at, IsRuling}
 use Rattle.local_locks.specs.Granting.{AreGranted, IsOpen, stand_at, claim_at, held_at}
 use Rattle.local_locks.proofs.Members.{contains_here}
@@ -89,10 +89,10 @@ all_open age locks wanted free =
     none_of [] none = refl
     none_of (x ∷ xs) none = absurd (none x (contains_here x xs))
 
-pub granted_all : (warehouses w_id age : ℕ) (by : Holder) (wants : List Want) (locks new : List LockView) (waiters later : List WaiterView) (claims : List ClaimView) → AreLocksOf warehouses w_id locks → All (IsOwn warehouses w_id) wants
+pub granted_all : (warehouses w_id age : ℕ) (by : Holder) (wants : List Want) (locks new : List LockView) (waiters later : List WaiterView) (places after : List ℕ) (claims : List ClaimView) → AreLocksOf warehouses w_id locks → All (IsOwn warehouses w_id) wants
     → IsRuling age locks (flat_map spots_of wants) Free → claims ≡ map (claim_at by (map stand_in locks)) (flat_map spots_of wants) → AreGranted warehouses by (flat_map spots_of wants) locks new
-    → Grants by wants (locking w_id locks waiters) claims (locking w_id new later)
-granted_all warehouses w_id age by wants locks new waiters later claims are own free made granted =
+    → Grants by wants (locking w_id locks waiters places) claims (locking w_id new later after)
+granted_all warehouses w_id age by wants locks new waiters later places after claims are own free made granted =
     let home = home_there warehouses w_id locks are in
     let holdings : map (held_at by (map stand_in locks)) (flat_map spots_of wants) ≡ map (held_for by) (group_wants wants) =
     group_wanted_same warehouses w_id wants (held_at by (map stand_in locks)) (held_for by) home own (same_holding warehouses w_id by locks are) in
@@ -118,23 +118,18 @@ pub parked_more : (warehouses w_id : ℕ) (waiters : List WaiterView) (by : Hold
 parked_more warehouses w_id waiters by wants count all can home is =
     All-push (IsParked warehouses w_id) waiters (waiter_view by wants count) all (record { can = can; room = omega (arith, is, group_wanted_length warehouses w_id wants home can.own) })
 
-pub waits_more : (w_id : ℕ) (locks : List LockView) (waiters : List WaiterView) (by : Holder) (wants : List Want) (count : ℕ)
-    → locking w_id locks (waiters ++ waiter_view by wants count ∷ []) ≡ record (locking w_id locks waiters) { waiters = map waiting_of waiters ++ waiting by wants ∷ [] }
-waits_more w_id locks waiters by wants count =
-    ap (λ ws. record (locking w_id locks waiters) { waiters = ws }) (map-append waiting_of waiters (waiter_view by wants count ∷ []))
-
 -- ---- as the table's code has it
 
 pub still_locks : (warehouses w_id : ℕ) (by : Holder) (wanted : List Spot) (locks shown new back : List LockView) → shown ≡ locks → back ≡ new → AreLocksOf warehouses w_id locks → AreGranted warehouses by wanted shown new → AreLocksOf warehouses w_id back
 still_locks warehouses w_id by wanted locks shown new back showing same are granted =
     subst (AreLocksOf warehouses w_id) (sym same) (granted.locks w_id (subst (AreLocksOf warehouses w_id) (sym showing) are))
 
-pub answered_free : (warehouses w_id age : ℕ) (by : Holder) (wants : List Want) (table : LockTableView) (locks shown new back : List LockView) (waiters later : List WaiterView) (before claims : List ClaimView) → locking w_id locks waiters ≡ table
+pub answered_free : (warehouses w_id age : ℕ) (by : Holder) (wants : List Want) (table : LockTableView) (locks shown new back : List LockView) (waiters later : List WaiterView) (places after : List ℕ) (before claims : List ClaimView) → locking w_id locks waiters places ≡ table
     → shown ≡ locks → back ≡ new → before ≡ [] → AreLocksOf warehouses w_id locks → All (IsOwn warehouses w_id) wants → IsRuling age locks (flat_map spots_of wants) Free
-    → claims ≡ before ++ map (claim_at by (map stand_in shown)) (flat_map spots_of wants) → AreGranted warehouses by (flat_map spots_of wants) shown new → Grants by wants table claims (locking w_id back later)
-answered_free warehouses w_id age by wants table locks shown new back waiters later before claims view showing same none are own free made granted =
-    let P : List LockView → Type 0 = λ ls. Grants by wants (locking w_id locks waiters) claims (locking w_id ls later) in
-    let Q : LockTableView → Type 0 = λ t. Grants by wants t claims (locking w_id back later) in
+    → claims ≡ before ++ map (claim_at by (map stand_in shown)) (flat_map spots_of wants) → AreGranted warehouses by (flat_map spots_of wants) shown new → Grants by wants table claims (locking w_id back later after)
+answered_free warehouses w_id age by wants table locks shown new back waiters later places after before claims view showing same none are own free made granted =
+    let P : List LockView → Type 0 = λ ls. Grants by wants (locking w_id locks waiters places) claims (locking w_id ls later after) in
+    let Q : LockTableView → Type 0 = λ t. Grants by wants t claims (locking w_id back later after) in
     let spelt : claims ≡ map (claim_at by (map stand_in locks)) (flat_map spots_of wants) = made ∙ (λ i. none i ++ map (claim_at by (map stand_in (showing i))) (flat_map spots_of wants)) in
     let R : List LockView → Type 0 = λ ls. AreGranted warehouses by (flat_map spots_of wants) ls new in
-    subst Q view (subst P (sym same) (granted_all warehouses w_id age by wants locks new waiters later claims are own free spelt (subst R showing granted)))
+    subst Q view (subst P (sym same) (granted_all warehouses w_id age by wants locks new waiters later places after claims are own free spelt (subst R showing granted)))

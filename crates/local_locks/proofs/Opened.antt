@@ -42,7 +42,7 @@ opened_locks warehouses w_id boxes are = record {
       subst (IsLockAt warehouses w_id k) (sym (get_or-map new_lock boxes k d.ticket_box d there)) is;
 }
 
-no_holdings : (boxes : List TicketBoxView) → flat_map holdings_of (map new_lock boxes) ≡ []
+pub no_holdings : (boxes : List TicketBoxView) → flat_map holdings_of (map new_lock boxes) ≡ []
 no_holdings [] = refl
 no_holdings (b ∷ boxes) = no_holdings boxes
 
@@ -50,8 +50,8 @@ same_stands : (boxes : List TicketBoxView) → map stand_in (map new_lock boxes)
 same_stands [] = refl
 same_stands (b ∷ boxes) = ap (λ ss. stand_of b ∷ ss) (same_stands boxes)
 
-pub opened_table : (w_id : ℕ) (boxes : List TicketBoxView) → locking w_id (map new_lock boxes) [] ≡ opened w_id boxes
-opened_table w_id boxes = λ i. record { w_id = w_id; stands = same_stands boxes i; holdings = no_holdings boxes i; waiters = [] }
+pub opened_table : (w_id : ℕ) (boxes : List TicketBoxView) → locking w_id (map new_lock boxes) [] [] ≡ opened w_id boxes
+opened_table w_id boxes = λ i. record { w_id = w_id; stands = same_stands boxes i; holdings = no_holdings boxes i; waiters = []; entries = [] }
 
 pub one_more : (boxes rest next : List TicketBoxView) (locks new : List LockView) (b : TicketBoxView) (lock : LockView) → map new_lock boxes ≡ locks ++ map new_lock rest → rest ≡ b ∷ next → new ≡ locks ++ lock ∷ [] → lock ≡ new_lock b
     → map new_lock boxes ≡ new ++ map new_lock next

@@ -23,8 +23,9 @@ use Rattle.tickets.specs.Places.{IsGroupOf, place_in_warehouse}
 use Rattle.wait_die.specs.declared.deciding.Holder.{Holder}
 use Rattle.local_locks.specs.LockTableView.{HeldClaim, Stand, LockTableView, stand_of}
 use Rattle.local_locks.specs.Asking.{claimed, held_by, AreHeld, AreTogether, kept_after, left_after, leaving_in}
-use Rattle.local_locks.specs.Locks.{LockView, lock_view, Agree, IsLocked, holding, holdings_of, stand_in, IsLockAt, AreLocksOf, KeepsLocks, WaiterView, waiting_of, locking}
+use Rattle.local_locks.specs.Locks.{LockView, lock_view, Agree, IsLocked, holding, holdings_of, stand_in, groups_at, IsLockAt, AreLocksOf, KeepsLocks, WaiterView, waiting_of, locking}
 use Rattle.local_locks.proofs.Covering.{one_group}
+use Rattle.local_locks.proofs.EntryGroups.{entries_kept}
 use Rattle.local_locks.proofs.Grants.{one_lock}
 use Rattle.local_locks.proofs.InPlace.{in_place}
 use Rattle.local_locks.proofs.Members.{contains_here, contains_there}
@@ -193,16 +194,16 @@ left_stands warehouses w_id locks number old new group content are small is made
         ap (λ (t : Bool). record { group = stand.group; left = if t then content else stand.left; back = stand.back }) test
 
 -- all holdings are unchanged
-left_held : (locks : List LockView) (number : ℕ) (d new : LockView) → number < length locks → holdings_of new ≡ holdings_of (get_or locks number d) → flat_map holdings_of (set locks number new) ≡ flat_map holdings_of locks
+pub left_held : (locks : List LockView) (number : ℕ) (d new : LockView) → number < length locks → holdings_of new ≡ holdings_of (get_or locks number d) → flat_map holdings_of (set locks number new) ≡ flat_map holdings_of locks
 left_held [] number d new small same = refl
 left_held (lock ∷ locks) zero d new small same = ap (λ hs. hs ++ flat_map holdings_of locks) same
 left_held (lock ∷ locks) (suc number) d new small same = ap (λ hs. holdings_of lock ++ hs) (left_held locks number d new (omega (arith, small)) same)
 
 -- the table once something else is left in a group
-pub left_table : (warehouses w_id : ℕ) (table : LockTableView) (locks : List LockView) (waiters : List WaiterView) (number : ℕ) (d new : LockView) (group : Group) (content : Content) → locking w_id locks waiters ≡ table → AreLocksOf warehouses w_id locks
+pub left_table : (warehouses w_id : ℕ) (table : LockTableView) (locks : List LockView) (waiters : List WaiterView) (places : List ℕ) (number : ℕ) (d new : LockView) (group : Group) (content : Content) → locking w_id locks waiters places ≡ table → AreLocksOf warehouses w_id locks
     → IsGroupOf warehouses group → warehouse_of group ≡ table.w_id → number ≡ place_in_warehouse group → new ≡ lock_view (with_left (get_or locks number d).ticket_box content) (get_or locks number d).holders
-    → locking w_id (set locks number new) waiters ≡ leaving_in table group content
-left_table warehouses w_id table locks waiters number d new group content view are known home at made =
+    → locking w_id (set locks number new) waiters places ≡ leaving_in table group content
+left_table warehouses w_id table locks waiters places number d new group content view are known home at made =
     let old = get_or locks number d in
     let small : number < length locks = omega (arith, inside warehouses group known, at, are.all_there) in
     let is : old ≡ get_or locks number old = get_or_default locks number d old small in
@@ -211,7 +212,9 @@ left_table warehouses w_id table locks waiters number d new group content view a
     let same : group ≡ old.ticket_box.group = one_group warehouses group old.ticket_box.group known there.known (home ∙ sym own_home ∙ sym there.here) (sym at ∙ sym there.place) in
     let stands = left_stands warehouses w_id locks number old new group content are small is made same in
     let held = left_held locks number d new small (ap holdings_of made) in
-    (λ i. record { w_id = w_id; stands = stands i; holdings = held i; waiters = map waiting_of waiters }) ∙ ap (λ (t : LockTableView). leaving_in t group content) view
+    let entries : groups_at (map stand_in (set locks number new)) places ≡ groups_at (map stand_in locks) places =
+    ap (λ ss. groups_at ss places) stands ∙ entries_kept (left_after group content) (λ s. refl) (map stand_in locks) places in
+    (λ i. record { w_id = w_id; stands = stands i; holdings = held i; waiters = map waiting_of waiters; entries = entries i }) ∙ ap (λ (t : LockTableView). leaving_in t group content) view
 
 pub back_locks : (warehouses : ℕ) (locks : List LockView) (number : ℕ) (old new : LockView) → number < length locks → old ≡ get_or locks number old → new.ticket_box ≡ taken_back old.ticket_box → IsLocked new → KeepsLocks warehouses locks (set locks number new)
 back_locks warehouses locks number old new small is box agree = λ w_id are.

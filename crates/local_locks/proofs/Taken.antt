@@ -62,16 +62,22 @@ map_removed f xs index =
     map-append f (take index xs) (drop (suc index) xs)
     ∙ sym (λ i. take-map f index xs i ++ drop-map f (suc index) xs i)
 
-pub turn_taken : (warehouses w_id : ℕ) (table : LockTableView) (locks new : List LockView) (waiters rest : List WaiterView) (p : WaiterView) (next : Next) → locking w_id locks waiters ≡ table → IsTaken warehouses w_id locks waiters rest p next
-    → IsTurnOf next.index (waiting next.by p.wants) table (locking w_id new rest)
-turn_taken warehouses w_id table locks new waiters rest p next view t =
-    let P : LockTableView → Type 0 = λ u. IsTurnOf next.index (waiting next.by p.wants) u (locking w_id new rest) in
+-- in contracts: the action that was removed, and the others
+pub others : (warehouses w_id : ℕ) (locks : List LockView) (waiters rest : List WaiterView) (p : WaiterView) (next : Next) → IsTaken warehouses w_id locks waiters rest p next → IsPermutation (map waiting_of waiters) (waiting next.by p.wants ∷ map waiting_of rest)
+others warehouses w_id locks waiters rest p next t =
+    subst (λ (w : WaitingAction). IsPermutation (map waiting_of waiters) (w ∷ map waiting_of rest)) (ap (λ (by : Holder). waiting by p.wants) (by_taken warehouses w_id locks waiters rest p next t))
+    (IsPermutation-map waiting_of waiters (p ∷ rest) (moved warehouses w_id locks waiters rest p next t))
+
+pub turn_taken : (warehouses w_id : ℕ) (table : LockTableView) (locks new : List LockView) (waiters rest : List WaiterView) (places after : List ℕ) (p : WaiterView) (next : Next) → locking w_id locks waiters places ≡ table → IsTaken warehouses w_id locks waiters rest p next
+    → IsTurnOf next.index (waiting next.by p.wants) table (locking w_id new rest after)
+turn_taken warehouses w_id table locks new waiters rest places after p next view t =
+    let P : LockTableView → Type 0 = λ u. IsTurnOf next.index (waiting next.by p.wants) u (locking w_id new rest after) in
     let named : waiting_of p ≡ waiting next.by p.wants = ap (λ (by : Holder). waiting by p.wants) (by_taken warehouses w_id locks waiters rest p next t) in
     subst P view (record {
       inside = omega (arith, t.is.inside, length-map waiters waiting_of);
       there = λ d. get_or-map waiting_of waiters next.index p d t.is.inside ∙ ap waiting_of (sym t.taken) ∙ named;
       rest = ap (map waiting_of) t.left ∙ map_removed waiting_of waiters next.index;
-      waiters = subst (λ (w : WaitingAction). IsPermutation (map waiting_of waiters) (w ∷ map waiting_of rest)) named (IsPermutation-map waiting_of waiters (p ∷ rest) (moved warehouses w_id locks waiters rest p next t));
+      waiters = others warehouses w_id locks waiters rest p next t;
       first = All-map (WaitsIfBefore (flat_map holdings_of locks) next.by) waiting_of waiters
           (λ k d small before. records_wait warehouses w_id locks (get_or waiters k d).wants (get_or waiters k d).by.age no_lock t.locks_of (t.all k d small).can.own (t.is.first k d small before));
     })
@@ -82,9 +88,9 @@ room_taken warehouses w_id locks waiters rest p next t =
     let is = parked_taken warehouses w_id locks waiters rest p next t in
     omega (arith, is.room, group_wanted_length warehouses w_id p.wants (home_there warehouses w_id locks t.locks_of) is.can.own)
 
-pub death_taken : (warehouses w_id : ℕ) (table : LockTableView) (locks : List LockView) (waiters rest : List WaiterView) (p : WaiterView) (next : Next) (number oldest : ℕ) (d : LockView) → locking w_id locks waiters ≡ table → IsTaken warehouses w_id locks waiters rest p next
+pub death_taken : (warehouses w_id : ℕ) (table : LockTableView) (locks : List LockView) (waiters rest : List WaiterView) (places : List ℕ) (p : WaiterView) (next : Next) (number oldest : ℕ) (d : LockView) → locking w_id locks waiters places ≡ table → IsTaken warehouses w_id locks waiters rest p next
     → next.ruling ≡ Dies number oldest → (number < length locks) × MustDie table.holdings next.by.age p.wants (get_or locks number d).ticket_box.group oldest
-death_taken warehouses w_id table locks waiters rest p next number oldest d view t is =
+death_taken warehouses w_id table locks waiters rest places p next number oldest d view t is =
     let death = records_death warehouses w_id locks p.wants next.by.age number oldest d t.locks_of (parked_taken warehouses w_id locks waiters rest p next t).can.own (said_taken warehouses w_id locks waiters rest p next (Dies number oldest) t is) in
     (death.0, subst (λ (u : LockTableView). MustDie u.holdings next.by.age p.wants (get_or locks number d).ticket_box.group oldest) view death.1)
 

@@ -17,6 +17,7 @@ use Rattle.local_locks.specs.declared.table.Turn.TheVariants as turn
 use Rattle.local_locks.specs.LockTableView.{HeldClaim, WaitingAction, Stand, LockTableView, left_in}
 use Rattle.local_locks.specs.Conflicts.{IsFree, MustWait, MustDie}
 use Rattle.local_locks.specs.GroupWants.{group_wants}
+use Rattle.local_locks.specs.Entries.{entered, still_used}
 
 -- ---- grants
 
@@ -114,21 +115,26 @@ pub record IsTurnOf (index : ℕ) (waiting : WaitingAction) (old new : LockTable
 module _ {J : Type 0} where
   -- the answer to an action that asks, and the table after it
   abbrev pub Answers : Holder → List Want → LockTableView → Asked J → LockTableView → Type 0
-  Answers by wants old (asked.Granted claims) new = Grants by wants old claims.items new × (new.waiters ≡ old.waiters)
+  Answers by wants old (asked.Granted claims) new =
+      Grants by wants old claims.items new × (new.waiters ≡ old.waiters) × (new.entries ≡ entered wants old)
   Answers by wants old asked.Waits new =
-      MustWait old.holdings by.age wants × (new ≡ record old { waiters = old.waiters ++ waiting by wants ∷ [] })
+      MustWait old.holdings by.age wants
+      × (new ≡ record old { waiters = old.waiters ++ waiting by wants ∷ []; entries = entered wants old })
   Answers by wants old (asked.Dies group holder) new = MustDie old.holdings by.age wants group holder × (new ≡ old)
 
   -- the answer to an action that asks and doesn't wait, and the table after it
   abbrev pub AnswersAtOnce : Holder → List Want → LockTableView → Asked J → LockTableView → Type 0
-  AnswersAtOnce by wants old (asked.Granted claims) new = Grants by wants old claims.items new × (new.waiters ≡ old.waiters)
+  AnswersAtOnce by wants old (asked.Granted claims) new =
+      Grants by wants old claims.items new × (new.waiters ≡ old.waiters) × (new.entries ≡ entered wants old)
   AnswersAtOnce by wants old asked.Waits new = MustWait old.holdings by.age wants × (new ≡ old)
   AnswersAtOnce by wants old (asked.Dies group holder) new = MustDie old.holdings by.age wants group holder × (new ≡ old)
 
-  -- whose turn it is, the answer to that action, and the table after it
+  -- Whose turn it is, the answer to that action, and the table after it. An action that is granted keeps its entries; if
+  -- it dies, the entries that nothing else needs go.
   abbrev pub TakesTurn : LockTableView → Turn J → LockTableView → Type 0
   TakesTurn old (turn.Granted index by claims) new =
       (wants : List Want) × IsTurnOf index (waiting by wants) old new × Grants by wants old claims.items new
+      × (new.entries ≡ old.entries)
   TakesTurn old (turn.Dies index by group holder) new =
       (wants : List Want) × IsTurnOf index (waiting by wants) old new × MustDie old.holdings by.age wants group holder
-      × (new ≡ record old { waiters = new.waiters })
+      × (new ≡ record old { waiters = new.waiters; entries = still_used old.holdings new.waiters old.entries })

@@ -1,9 +1,12 @@
 pub mod LockTableView
 pub mod Conflicts
 pub mod GroupWants
+pub mod Entries
 pub mod Asking
 pub mod Locks
+pub mod LockEntries
 pub mod Rulings
+pub mod EntryPlaces
 pub mod Granting
 pub mod Turns
 pub mod Laws

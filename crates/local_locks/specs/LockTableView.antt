@@ -28,14 +28,19 @@ pub record Stand : Type 0 where
   pub back : Content
 
 -- The warehouse; the content of each of its groups, in the order of groups; all claims that are out, in any order;
--- and all waiting actions.
+-- all waiting actions; and the groups that are held or waited for, in the order in which they were taken.
 pub record LockTableView : Type 0 where
   pub w_id : ℕ
   pub stands : List Stand
   pub holdings : List HeldClaim
   pub waiters : List WaitingAction
+  pub entries : List Group
 
--- the entry of a group of the warehouse, with its content now and after an undo
+-- the groups of these contents, in their order
+abbrev pub groups_of : List Stand → List Group
+groups_of stands = map (λ stand. stand.group) stands
+
+-- a group of the warehouse, with its content now and after an undo
 abbrev pub stand_for : List Stand → Group → Stand
 stand_for stands group = slice_index_or stands (place_in_warehouse group) (record { group = group; left = nothing; back = nothing })
 
@@ -47,13 +52,13 @@ left_in stands group = (stand_for stands group).left
 abbrev pub back_in : List Stand → Group → Content
 back_in stands group = (stand_for stands group).back
 
--- this is the entry of the warehouse's group at this place
+-- this is the warehouse's group at this place
 pub record IsStandAt (warehouses w_id number : ℕ) (stand : Stand) : Type 0 where
   pub known : IsGroupOf warehouses stand.group
   pub here : warehouse_of stand.group ≡ w_id
   pub place : place_in_warehouse stand.group ≡ number
 
--- there is an entry for each group of the warehouse, in the order of groups
+-- each group of the warehouse is there, in the order of groups
 pub record AreStandsOf (warehouses w_id : ℕ) (stands : List Stand) : Type 0 where
   pub all_there : length stands ≡ 105
   pub each : (place : ℕ) (d : Stand) → place < 105 → IsStandAt warehouses w_id place (slice_index_or stands place d)
@@ -76,6 +81,6 @@ pub record AreBoxesOf (warehouses w_id : ℕ) (boxes : List TicketBoxView) : Typ
   pub all_there : length boxes ≡ 105
   pub each : (place : ℕ) (d : TicketBoxView) → place < 105 → IsBoxAt warehouses w_id place (slice_index_or boxes place d)
 
--- the table of a warehouse with these boxes: no claim is out, and no action waits
+-- the table of a warehouse with these boxes: no claim is out, no action waits, and no group has an entry
 abbrev pub opened : ℕ → List TicketBoxView → LockTableView
-opened w_id boxes = record { w_id = w_id; stands = map stand_of boxes; holdings = []; waiters = [] }
+opened w_id boxes = record { w_id = w_id; stands = map stand_of boxes; holdings = []; waiters = []; entries = [] }

@@ -2,6 +2,7 @@
 use Rattle.std.specs.Prelude.{◌≡◌, ℕ, ◌+◌, ◌<◌, ◌≤◌, List, [], Bool, true, map, length, slice_index_or, ◌==◌, if◌then◌else◌}
 use Rattle.std.specs.List.{flat_map}
 use Rattle.requests.specs.declared.group.Group.{Group}
+use Rattle.requests.specs.declared.group.Group.TheVariants.{Warehouse}
 use Rattle.groups.specs.Groups.{warehouse_of}
 use Rattle.groups.specs.declared.group_wants.Mode.{Mode}
 use Rattle.groups.specs.declared.group_wants.Mode.TheVariants.{Shared, Exclusive}
@@ -9,7 +10,7 @@ use Rattle.groups.specs.declared.wants.Want.{Want}
 use Rattle.tickets.specs.Boxes.{TicketBoxView, sharing, lent}
 use Rattle.tickets.specs.Places.{IsGroupOf, place_in_warehouse}
 use Rattle.wait_die.specs.declared.deciding.Holder.{Holder}
-use Rattle.local_locks.specs.LockTableView.{HeldClaim, WaitingAction, Stand, LockTableView, stand_of}
+use Rattle.local_locks.specs.LockTableView.{HeldClaim, WaitingAction, Stand, LockTableView, groups_of, stand_of}
 use Rattle.local_locks.specs.GroupWants.{CanAsk, group_wants}
 
 -- a group's ticket box, and the holders of the claims that are out
@@ -73,13 +74,22 @@ waiter_view by wants room = record { by = by; wants = wants; room = room }
 abbrev pub waiting_of : WaiterView → WaitingAction
 waiting_of p = record { by = p.by; wants = p.wants }
 
--- the table of these locks and waiting actions, as contracts see it
-abbrev pub locking : ℕ → List LockView → List WaiterView → LockTableView
-locking w_id locks waiters = record {
+-- the group at this place among these; a default if there is no such place
+abbrev pub group_at : List Group → ℕ → Group
+group_at groups place = slice_index_or groups place (Warehouse 0)
+
+-- the groups at these places, in the order of the places
+abbrev pub groups_at : List Stand → List ℕ → List Group
+groups_at stands places = map (group_at (groups_of stands)) places
+
+-- the table of these locks, waiting actions and places of entries, as contracts see it
+abbrev pub locking : ℕ → List LockView → List WaiterView → List ℕ → LockTableView
+locking w_id locks waiters places = record {
   w_id = w_id;
   stands = map stand_in locks;
   holdings = flat_map holdings_of locks;
   waiters = map waiting_of waiters;
+  entries = groups_at (map stand_in locks) places;
 }
 
 -- this is the lock of the warehouse's group at this place

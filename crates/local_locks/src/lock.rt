@@ -4,6 +4,7 @@ ghost use Rattle.std.specs.List.Sorted.{IsPermutation};
 ghost use Rattle.groups.specs.declared.group_wants.Mode.TheVariants.{Shared, Exclusive};
 ghost use Rattle.tickets.specs.Boxes.{sharing, taken_back, with_left};
 ghost use Rattle.tickets.specs.Claims.{fresh, leaving};
+ghost use Rattle.local_locks.specs.EntryPlaces.{is_lent, mode_lent};
 ghost use Rattle.local_locks.specs.Locks.{conflicting, given_out, lock_view, IsLocked};
 
 use agreement::Change;
@@ -53,6 +54,27 @@ impl<J: GroupNames> Lock<J> {
         ensures { result ≡ self.now.ticket_box.group }
     {
         self.ticket_box.group()
+    }
+
+    /// Returns whether a claim is out.
+    pub(crate) fn is_lent(&self) -> bool
+        ensures { result ≡ is_lent self.now }
+    {
+        !self.holders.is_empty()
+    }
+
+    /// Returns the holders of the claims that are out, in the order in which they were granted.
+    pub(crate) fn holders(&self) -> &[Holder]
+        ensures { result.now ≡ self.now.holders }
+    {
+        self.holders.as_slice()
+    }
+
+    /// Returns the mode of the claims that are out; `None` if there is none.
+    pub(crate) fn mode(&self) -> Option<Mode>
+        ensures { result ≡ mode_lent self.now }
+    {
+        self.is_lent().then_some(self.ticket_box.mode())
     }
 
     /// Returns the holders that conflict with a want of this mode.

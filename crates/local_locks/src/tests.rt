@@ -3,6 +3,7 @@ ghost use Rattle.tickets.specs.Openings.{AreNamed};
 ghost use Rattle.local_locks.specs.GroupWants.{AreApart, CanAsk, IsOwn};
 
 mod contents;
+mod entries;
 
 use crate::*;
 use agreement::Change;

@@ -1,5 +1,5 @@
 -- Where slices are, and which parcels are on their way.
-use Rattle.std.proofs.Common.{◌≡◌, ℕ, ◌+◌, ◌≤◌, ◌==◌, Bool, true, false, cond, List, [], ◌∷◌, refl, sym, ◌∙◌, ap, subst, arith}
+use Rattle.std.proofs.Common.{◌≡◌, ℕ, ◌+◌, ◌≤◌, ◌==◌, false, cond, List, [], ◌∷◌, refl, sym, ◌∙◌, ap, subst, arith}
 use Rattle.std.specs.Prelude.{All, count_by}
 use Rattle.std.proofs.lemmas.List.Elements.{All-head, All-tail}
 use Rattle.std.proofs.lemmas.List.Sums.{sum_by-cons}
@@ -8,7 +8,7 @@ use Rattle.range_moves.specs.declared.placement.Whereabouts.{Whereabouts}
 use Rattle.range_moves.specs.declared.placement.Whereabouts.TheVariants.{Rests, Leaves, Travels}
 use Rattle.range_moves.specs.declared.order.Moving.{Moving}
 use Rattle.range_moves.specs.declared.order.Moving.TheVariants.{Order, Fetch, Parcel}
-use Rattle.range_moves.specs.Placements.{PlacementsView, IsWarehouse, is_away, place_of}
+use Rattle.range_moves.specs.Placements.{PlacementsView, place_of}
 use Rattle.range_moves.specs.Traffic.{AreOwned, Dispatch, MessageToSlice, IsLocatedWith, IsRight, IsSentRight, brings, is_parcel_of, is_travelling}
 use Rattle.range_moves.proofs.Knowing.{by_bool}
 use Rattle.range_moves.proofs.Sendings.{bringing, bringing-cons, to_bring}

@@ -1,5 +1,5 @@
 -- How far each place of a round is, and what a seat at the table of a meeting knows.
-use Rattle.std.specs.Prelude.{◌≡◌, ◌⊎◌, ℕ, List, Option, Bool}
+use Rattle.std.specs.Prelude.{◌≡◌, ◌⊎◌, ℕ, List, Option, Bool, false, true}
 use Rattle.std.specs.Coded.{Coded, code_by, coded_bool, coded_list, coded_option, coded_ℕ, coded×, coded⊎}
 use base.Stored.{coded_unit}
 use mathlib.Core.Logic.{inl, inr}
@@ -11,6 +11,13 @@ pub data Stage (R : Type 0) : Type 0 where
   sits : Stage R
   gave : R → Stage R
   took : R → List R → Stage R
+
+-- whether the report of this place was the last of its round
+abbrev pub is_last : {R : Type 0} → Stage R → Bool
+is_last waits = false
+is_last sits = false
+is_last (gave own) = false
+is_last (took own results) = true
 
 -- What a seat knows: what its round is about, the number of the round, how many places the round has, and how far those places of it are
 -- that are the seat's, one after another from a number on. It also says whether the seat may convene the next round.

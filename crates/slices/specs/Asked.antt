@@ -16,9 +16,9 @@ use Rattle.local_locks.specs.Asking.{IsTurnOf, held_by, waiting}
 use Rattle.local_locks.specs.GroupWants.{group_wants}
 use Rattle.slices.specs.SliceView.{SliceView}
 
--- the claims and the waiters of the slice, without the contents of its groups
+-- the claims and the waiters of the slice, without the contents of its groups and without entries
 abbrev pub locking_in : SliceView → LockTableView
-locking_in s = record { w_id = s.home; stands = []; holdings = s.holdings; waiters = s.waiters }
+locking_in s = record { w_id = s.home; stands = []; holdings = s.holdings; waiters = s.waiters; entries = [] }
 
 -- the claim granted to this action for a want: nothing was done under it, and it records the current contents of its
 -- group

@@ -136,6 +136,15 @@ impl<J: GroupNames> Slice<J> {
         self.rows.latest()
     }
 
+    /// Returns the lock table, to be looked at.
+    pub fn locks(&self) -> &LockTable<J>
+        ensures home { result.now.w_id ≡ self.now.home }
+        ensures holdings { result.now.holdings ≡ self.now.holdings }
+        ensures waiters { result.now.waiters ≡ self.now.waiters }
+    {
+        &self.locks
+    }
+
     /// An action asks for all its groups at once, as in `LockTable::ask`. It is granted a claim on each group; or it
     /// waits, if all conflicting holders are younger; or it dies, if one of them is not younger. Returns NoMemory if an
     /// allocation fails; nothing changes then.

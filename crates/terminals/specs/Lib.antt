@@ -16,6 +16,8 @@ pub mod Schedule
 pub mod Answers
 pub mod LogRecord
 pub mod Outputs
+pub mod LockChanges
+pub mod LinesLeft
 pub mod RecordLaws
 pub mod Moves
 pub mod RequestColumns

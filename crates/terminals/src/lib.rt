@@ -34,7 +34,9 @@
 //! move of the warehouses from `lo` to `hi` to executor `to`; `T,executor`, where an executor takes a message; `X,executor`,
 //! where it sends an item; and `R` for rounds. Then comes `END,n` with the number of records before it. The output of a
 //! schedule has a record for each event, `accepted,age`, `ordered`, `took`, `sent`, `full`, `logged,place`, `moved`, `answered`
-//! and the fields of the answer, or `nothing`, and a record for rounds that ended, `quiet` or `limit`.
+//! and the fields of the answer, or `nothing`, and a record for rounds that ended, `quiet` or `limit`. A change of a lock table
+//! is `locks,w` and for each entry the group's name, `shared` or `exclusive` with the ages of the holders, and `waiting` with
+//! the ages of those that wait.
 #![tactic(auto)]
 
 mod answers;
@@ -42,6 +44,7 @@ mod choice;
 mod delivery;
 mod laws;
 mod listing;
+mod lock_changes;
 mod log_records;
 mod move_order;
 mod moves;

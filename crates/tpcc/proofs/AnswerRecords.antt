@@ -103,9 +103,9 @@ same_count (x ∷ xs) [] h = let no : Some (length x) ≡ None = h 0 in absurd c
 same_count (x ∷ xs) (y ∷ ys) h = ap suc (same_count xs ys (λ s. h (suc s)))
 
 -- the answers of an outcome name places of its log
-pub outcome_in_log : (opening : Database) (scripts : List (List Request)) (log : List Entry) (last : Database) (answers : List (List (Result ℕ Refusal))) → IsOutcome opening scripts log last answers
+pub outcome_in_log : (opening : Database) (most : ℕ) (scripts : List (List Request)) (log : List Entry) (last : Database) (answers : List (List (Result ℕ Refusal))) → IsOutcome opening most scripts log last answers
     → AreAllInLog log answers
-outcome_in_log opening scripts log last answers outcome session reported reported_is k place at =
+outcome_in_log opening most scripts log last answers outcome session reported reported_is k place at =
     let there : item_at answers session k ≡ Some (Ok place) = ap (option_and_then (λ (l : List (Result ℕ Refusal)). slice_get l k)) reported_is ∙ at in
     let stands = outcome.done session k place there in
     slice_get_within log place (entry_of session k stands.0 stands.2) stands.3

@@ -16,6 +16,7 @@ use Rattle.history.specs.Fits.{IsLoggedBelow}
 use Rattle.history.specs.Schedules.{Turn, Round, Plays, Follows, EndAs, outputs_in_round, outputs_of_turn, outputs_of_round, steps_from, steps_of_round}
 use Rattle.terminals.specs.Outputs.{IsReportedBelow, NameEntries}
 use Rattle.world.specs.declared.simulating.Simulation.{Simulation}
+use Rattle.world.specs.declared.setup.Setup.{Setup}
 use Rattle.world.specs.Openings.{Simulates}
 
 -- of two lists together, what holds of each
@@ -92,7 +93,7 @@ module _ (n : ℕ) where
       )
 
 -- so do the outputs of a simulation
-pub outputs_named : (opening : Database) (executors : ℕ) (schedule : List Scheduled) (s : Simulation) → Simulates Brand opening executors schedule s → NameEntries s.log.items s.outputs.items
-outputs_named opening executors schedule s simulates =
-    reported_of_all (length s.log.items) executors schedule s.outputs.items simulates.steps simulates.plays
+pub outputs_named : (opening : Database) (setup : Setup) (schedule : List Scheduled) (s : Simulation) → Simulates Brand opening setup schedule s → NameEntries s.log.items s.outputs.items
+outputs_named opening setup schedule s simulates =
+    reported_of_all (length s.log.items) setup.executors schedule s.outputs.items simulates.steps simulates.plays
     (subst (λ log. All (λ x. IsLoggedBelow (length log) x.answer) simulates.steps) (sym simulates.log) simulates.fits.recorded.named)

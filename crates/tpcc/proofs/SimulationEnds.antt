@@ -5,18 +5,18 @@ use Rattle.files.specs.Sending.{BeginsToWrite, OfFirst}
 use Rattle.files.specs.Written.{csv_text}
 use Rattle.files.proofs.Sent.{begins_none}
 use Rattle.commit_log.specs.declared.entry.Entry.{Entry}
-use Rattle.history.specs.declared.schedule.Output.{Output}
-use Rattle.terminals.specs.Outputs.{AreOutputs}
+use Rattle.terminals.specs.LockChanges.{AreLines, Line}
 use Rattle.history.specs.declared.schedule.Scheduled.{Scheduled}
+use Rattle.world.specs.declared.setup.Setup.{Setup}
 use Rattle.world.specs.declared.simulating.Simulation.{Simulation}
 use Rattle.tpcc.specs.declared.command_fault.CommandFault.{CommandFault}
 use Rattle.tpcc.specs.declared.command_fault.CommandFault.TheVariants.{NoMemory, File, Failed, NotConsistent, BadMove, NoWarehouse, NoThread, Unsettled, NotIdle}
 use Rattle.tpcc.specs.EarlyEnds.{IsOfGathering, IsOfPlaying}
 use Rattle.tpcc.specs.Sim.{IsSimulation}
 
-module _ («data» source : Option (List ℕ)) (executors : ℕ) (asked : Bool) (schedule : List Scheduled) (simulation : Simulation)
-    (is : IsSimulation «data» source executors schedule simulation) where
-  pub of_gathering : (fault : CommandFault) → IsOfGathering asked simulation.tables fault → IsOfPlaying «data» source executors asked fault
+module _ («data» source : Option (List ℕ)) (setup : Setup) (asked : Bool) (schedule : List Scheduled) (simulation : Simulation)
+    (is : IsSimulation «data» source setup schedule simulation) where
+  pub of_gathering : (fault : CommandFault) → IsOfGathering asked simulation.tables fault → IsOfPlaying «data» source setup asked fault
   of_gathering NoMemory of = tt
   of_gathering (File path fault) of = absurd of
   of_gathering (Failed path number) of = absurd of
@@ -27,12 +27,12 @@ module _ («data» source : Option (List ℕ)) (executors : ℕ) (asked : Bool) 
   of_gathering Unsettled of = absurd of
   of_gathering NotIdle of = (of.0, (schedule, simulation, is, of.1))
 
--- no output is printed
-pub no_output : (sink : Option (List ℕ)) (log : List Entry) (outputs : List Output) → BeginsToWrite sink sink (OfFirst (AreOutputs log) outputs)
-no_output sink log outputs = ([], (0, tt), begins_none sink (csv_text []))
+-- no line is printed
+pub no_output : (sink : Option (List ℕ)) (log : List Entry) (lines : List Line) → BeginsToWrite sink sink (OfFirst (AreLines log) lines)
+no_output sink log lines = ([], (0, tt), begins_none sink (csv_text []))
 
 -- all of them are some first ones
-pub all-first : (log : List Entry) (outputs : List Output) (rows : List (List (List ℕ))) → AreOutputs log outputs rows → OfFirst (AreOutputs log) outputs rows
-all-first log outputs rows are =
-    let Are : List Output → Type 0 = λ l. AreOutputs log l rows in
-    (length outputs, subst Are (sym (take_all (length outputs) outputs (omega arith))) are)
+pub all-first : (log : List Entry) (lines : List Line) (rows : List (List (List ℕ))) → AreLines log lines rows → OfFirst (AreLines log) lines rows
+all-first log lines rows are =
+    let Are : List Line → Type 0 = λ l. AreLines log l rows in
+    (length lines, subst Are (sym (take_all (length lines) lines (omega arith))) are)

@@ -14,6 +14,7 @@ use Rattle.requests.specs.declared.request.Request.{Request}
 use Rattle.terminals.specs.FirstFault.{log_fault, moves_fault, schedule_fault, script_fault}
 use Rattle.terminals.specs.Script.{IsScript}
 use Rattle.history.specs.declared.schedule.Scheduled.{Scheduled}
+use Rattle.world.specs.declared.setup.Setup.{Setup}
 use Rattle.world.specs.declared.simulating.Simulation.{Simulation}
 use Rattle.world.specs.declared.world.GatherFault.{GatherFault}
 use Rattle.world.specs.declared.world.GatherFault.TheVariants as gather
@@ -27,7 +28,7 @@ use Rattle.files.specs.Place.{Gives}
 use Rattle.tpcc.specs.Faults.{IsFirst, IsOfReading, IsOfWriting, IsOfWritingSome, standard_output}
 use Rattle.tpcc.specs.Effects.{Source}
 use Rattle.tpcc.specs.Run.{GivesMoves, RunInputs}
-use Rattle.tpcc.specs.Sim.{IsSimulation, SimInputs}
+use Rattle.tpcc.specs.Sim.{IsSimulation, SimInputs, setup_of}
 
 -- the source gives tables
 abbrev pub GivesTables : Option (List ℕ) → Type 0
@@ -124,13 +125,13 @@ IsOfGathering asked gathered _ = ⊥
 
 -- The faults of simulating. NoMemory: always possible. NotConsistent: this condition is the first that the tables of `data` break. NotIdle:
 -- tables were asked for, and a transaction is active or a move outstanding at the end of the simulation.
-abbrev pub IsOfPlaying : Option (List ℕ) → Option (List ℕ) → ℕ → Bool → CommandFault → Type 0
-IsOfPlaying «data» source executors asked fault.NoMemory = Unit {0}
-IsOfPlaying «data» source executors asked (fault.NotConsistent condition) = (tables : Database) × Gives «data» (AreRecords tables) × BreaksFirst tables condition
-IsOfPlaying «data» source executors asked fault.NotIdle =
+abbrev pub IsOfPlaying : Option (List ℕ) → Option (List ℕ) → Setup → Bool → CommandFault → Type 0
+IsOfPlaying «data» source setup asked fault.NoMemory = Unit {0}
+IsOfPlaying «data» source setup asked (fault.NotConsistent condition) = (tables : Database) × Gives «data» (AreRecords tables) × BreaksFirst tables condition
+IsOfPlaying «data» source setup asked fault.NotIdle =
     (asked ≡ true)
-    × ((schedule : List Scheduled) × (simulation : Simulation) × IsSimulation «data» source executors schedule simulation × (simulation.tables ≡ Err gather.NotIdle))
-IsOfPlaying «data» source executors asked _ = ⊥
+    × ((schedule : List Scheduled) × (simulation : Simulation) × IsSimulation «data» source setup schedule simulation × (simulation.tables ≡ Err gather.NotIdle))
+IsOfPlaying «data» source setup asked _ = ⊥
 
 -- a fault of the log, the standard output, the picture or the file of the tables
 abbrev pub IsOfShowing : SimSettings → CommandFault → Type 0
@@ -142,5 +143,5 @@ IsOfSimulating s inputs of =
     IsOfReading s.«data».now inputs.«data».remaining inputs.«data».lasts IsFaultOf of
     ⊎ (GivesTables inputs.«data».remaining
     × IsOfReading s.schedule.now inputs.schedule.remaining inputs.schedule.lasts (IsFirst schedule_fault) of)
-    ⊎ IsOfPlaying inputs.«data».remaining inputs.schedule.remaining s.executors (is_some s.tables) of
+    ⊎ IsOfPlaying inputs.«data».remaining inputs.schedule.remaining (setup_of s) (is_some s.tables) of
     ⊎ IsOfShowing s of

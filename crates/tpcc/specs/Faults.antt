@@ -78,7 +78,7 @@ pub record IsOfWritingOneOf (paths : List (Bor (List ℕ))) (of : CommandFault) 
 
 -- the path of the standard output in a fault
 abbrev pub standard_output : List ℕ
-standard_output = codes "standard output"
+standard_output = codes "-"
 
 -- the text of a fault and, below, its line; a failure to read or write has the number 10
 abbrev pub reported_text : CommandFault → List ℕ

@@ -14,6 +14,7 @@ use Rattle.terminals.specs.LogRecord.{IsLog}
 use Rattle.terminals.specs.Moves.{AreMoves}
 use Rattle.terminals.specs.Script.{IsScript}
 use Rattle.terminals.specs.Answers.{AreAnswers, AreInLog}
+use Rattle.command_line.specs.declared.settings.run.RunSettings.{RunSettings}
 use Rattle.tpcc.specs.declared.command_fault.CommandFault.{CommandFault}
 use Rattle.files.specs.Sending.{BeginsToWrite, OfFirst, Writes}
 use Rattle.tpcc.specs.Effects.{Change, CommandOutput, Source}
@@ -72,18 +73,18 @@ pub record RunOutputs (F : Type 0) : Type 0 where
 abbrev pub run_outputs : {F : Type 0} → Option F → Option F → RunOutputs F
 run_outputs log tables = record { log = log; tables = tables }
 
--- The scripts that the texts give were served by that many executors on the tables that the dataset gives, which are consistent, with this log,
+-- The scripts that the texts give were served as the settings ask, on the tables that the dataset gives, which are consistent, with this log,
 -- these last tables and these answers. All moves are possible.
-pub record AreServed (executors : ℕ) (texts : RunTexts) (log : List Entry) (last : Database) (answers : List (List (Result ℕ Refusal))) : Type 0 where
+pub record AreServed (settings : RunSettings) (texts : RunTexts) (log : List Entry) (last : Database) (answers : List (List (Result ℕ Refusal))) : Type 0 where
   pub opening : Database
   pub is_dataset : Gives texts.«data» (AreRecords opening)
   pub consistent : Consistent opening
   pub moves : List MoveOrder
   pub are_moves : GivesMoves texts.moves moves
-  pub within : AreWithin opening executors moves
+  pub within : AreWithin opening settings.executors moves
   pub scripts : List (List Request)
   pub are_scripts : AllZip (λ source script. Gives source (IsScript script)) texts.scripts scripts
-  pub outcome : IsOutcome opening scripts log last answers
+  pub outcome : IsOutcome opening settings.log_limit scripts log last answers
 
 module _ {F : Type 0} (contents : F → Option (List ℕ)) (files : RunOutputs F) (output : CommandOutput) where
   -- The records of all answers were printed. Then the files, if there are such, got their names: first the log with its records, then the tables
@@ -104,13 +105,13 @@ module _ {F : Type 0} (contents : F → Option (List ℕ)) (files : RunOutputs F
       × Writes output.printed.before output.printed.after (AreAllAnswers log 0 answers)
       × NamesFile contents files.log output.named.before output.named.after (IsLog log))
 
-module _ {F : Type 0} (contents : F → Option (List ℕ)) (executors : ℕ) (texts : RunTexts) (files : RunOutputs F) (output : CommandOutput) where
+module _ {F : Type 0} (contents : F → Option (List ℕ)) (settings : RunSettings) (texts : RunTexts) (files : RunOutputs F) (output : CommandOutput) where
   -- nothing was printed, and no file has got its name; or the scripts were served, and a part of the output was made (`HandsOutSome`)
   abbrev pub ServesSome : Type 0
   ServesSome =
       ((output.printed.after ≡ output.printed.before) × (output.named.after ≡ output.named.before))
       ⊎ ((log : List Entry) × (last : Database) × (answers : List (List (Result ℕ Refusal)))
-      × AreServed executors texts log last answers × HandsOutSome contents files output log answers)
+      × AreServed settings texts log last answers × HandsOutSome contents files output log answers)
 
   -- The scripts that the texts give were served on the tables that the dataset gives, all output was made (`HandsOut`), and no fault was
   -- reported.
@@ -118,6 +119,6 @@ module _ {F : Type 0} (contents : F → Option (List ℕ)) (executors : ℕ) (te
     pub log : List Entry
     pub last : Database
     pub answers : List (List (Result ℕ Refusal))
-    pub are_served : AreServed executors texts log last answers
+    pub are_served : AreServed settings texts log last answers
     pub handed_out : HandsOut contents files output log last answers
     pub no_fault : reported.after ≡ reported.before

@@ -8,13 +8,15 @@ use Rattle.history.specs.declared.schedule.Scheduled.{Scheduled}
 use Rattle.history.specs.declared.schedule.Output.{Output}
 use Rattle.world.specs.declared.simulating.Simulation.{Simulation}
 use Rattle.world.specs.declared.world.GatherFault.{GatherFault}
+use Rattle.world.specs.declared.setup.Setup.{Setup}
 use Rattle.world.specs.Openings.{Simulates}
 use Rattle.picture.specs.declared.asides.Aside.{Aside}
 use Rattle.picture.specs.Drawing.{drawing_text}
 use Rattle.dataset.specs.Records.{AreRecords}
 use Rattle.terminals.specs.LogRecord.{IsLog}
-use Rattle.terminals.specs.Outputs.{AreOutputs}
+use Rattle.terminals.specs.LockChanges.{AreLines, Line, lines}
 use Rattle.terminals.specs.Schedule.{IsSchedule}
+use Rattle.command_line.specs.declared.settings.sim.SimSettings.{SimSettings}
 use Rattle.tpcc.specs.declared.command_fault.CommandFault.{CommandFault}
 use Rattle.tpcc.specs.Effects.{Change, CommandOutput, Source}
 use Rattle.tpcc.specs.OutputFiles.{NamedTexts, Shelves}
@@ -53,12 +55,20 @@ abbrev pub played_schedule : ℕ → List Scheduled → List Output → List Ent
 played_schedule executors schedule outputs entries =
     record { executors = executors; schedule = schedule; outputs = outputs; entries = entries }
 
--- the schedule, which `source` gives, was simulated on the tables that `data` gives, with that many executors and this result
-pub record IsSimulation («data» source : Option (List ℕ)) (executors : ℕ) (schedule : List Scheduled) (simulation : Simulation) : Type 0 where
+-- how the settings ask the world to be set up
+abbrev pub setup_of : SimSettings → Setup
+setup_of s = record { executors = s.executors; limits = record { log = s.log_limit; inbox = s.inbox } }
+
+-- what a simulation prints: its outputs, with the lock tables that have changed among them
+abbrev pub lines_of : Simulation → List Line
+lines_of simulation = lines 0 simulation.outputs.items simulation.locks.items
+
+-- the schedule, which `source` gives, was simulated on the tables that `data` gives, in a world set up so, with this result
+pub record IsSimulation («data» source : Option (List ℕ)) (setup : Setup) (schedule : List Scheduled) (simulation : Simulation) : Type 0 where
   pub opening : Database
   pub is_dataset : Gives «data» (AreRecords opening)
   pub is_schedule : Gives source (IsSchedule schedule)
-  pub simulates : Simulates Brand opening executors schedule simulation
+  pub simulates : Simulates Brand opening setup schedule simulation
 
 module _ {F : Type 0} (contents : F → Option (List ℕ)) where
   -- the file, if there is one, has got its name with the picture of the played schedule
@@ -74,16 +84,16 @@ module _ {F : Type 0} (contents : F → Option (List ℕ)) where
   NamesTables None named named' gathered = named' ≡ named
   NamesTables (Some file) named named' gathered = (last : Database) × (gathered ≡ Ok last) × NamesFile contents (Some file) named named' (AreRecords last)
 
-  module _ (executors : ℕ) (schedule : List Scheduled) (simulation : Simulation) (files : SimOutputs F) (output : CommandOutput) where
-    -- The records of all outputs of the simulation were printed. The files, if there are such, have got their names in this order: the log with
+  module _ (setup : Setup) (schedule : List Scheduled) (simulation : Simulation) (files : SimOutputs F) (output : CommandOutput) where
+    -- The records of all lines of the simulation were printed. The files, if there are such, have got their names in this order: the log with
     -- the records of the simulation's log, the picture with the drawing of its outputs, and the tables with the records of its tables.
     pub record Shows : Type 0 where
-      pub printed : Writes output.printed.before output.printed.after (AreOutputs simulation.log.items simulation.outputs.items)
+      pub printed : Writes output.printed.before output.printed.after (AreLines simulation.log.items (lines_of simulation))
       pub with_log : NamedTexts
       pub with_picture : NamedTexts
       pub logged : NamesFile contents files.log output.named.before with_log (IsLog simulation.log.items)
       pub drawn : NamesPicture files.picture with_log with_picture
-          (played_schedule executors schedule simulation.outputs.items simulation.log.items)
+          (played_schedule setup.executors schedule simulation.outputs.items simulation.log.items)
       pub gathered : NamesTables files.tables with_picture output.named.after simulation.tables
 
     -- A beginning of these records was printed, and no file has got its name; or all were printed, the log, if there is one, has got its name,
@@ -91,28 +101,28 @@ module _ {F : Type 0} (contents : F → Option (List ℕ)) where
     abbrev pub ShowsSome : Type 0
     ShowsSome =
         (BeginsToWrite output.printed.before output.printed.after
-        (OfFirst (AreOutputs simulation.log.items) simulation.outputs.items)
+        (OfFirst (AreLines simulation.log.items) (lines_of simulation))
         × (output.named.after ≡ output.named.before))
-        ⊎ (Writes output.printed.before output.printed.after (AreOutputs simulation.log.items simulation.outputs.items)
+        ⊎ (Writes output.printed.before output.printed.after (AreLines simulation.log.items (lines_of simulation))
         × (with_log : NamedTexts) × NamesFile contents files.log output.named.before with_log (IsLog simulation.log.items)
         × ((output.named.after ≡ with_log)
         ⊎ NamesPicture files.picture with_log output.named.after
-        (played_schedule executors schedule simulation.outputs.items simulation.log.items)))
+        (played_schedule setup.executors schedule simulation.outputs.items simulation.log.items)))
 
-  module _ (executors : ℕ) (inputs : SimInputs) (files : SimOutputs F) (output : CommandOutput) where
+  module _ (setup : Setup) (inputs : SimInputs) (files : SimOutputs F) (output : CommandOutput) where
     -- nothing was printed, and no file has got its name; or the schedule was simulated, and a part of the output was made (`ShowsSome`)
     abbrev pub SimulatesSome : Type 0
     SimulatesSome =
         ((output.printed.after ≡ output.printed.before) × (output.named.after ≡ output.named.before))
         ⊎ ((schedule : List Scheduled) × (simulation : Simulation)
-        × IsSimulation inputs.«data».remaining inputs.schedule.remaining executors schedule simulation
-        × ShowsSome executors schedule simulation files output)
+        × IsSimulation inputs.«data».remaining inputs.schedule.remaining setup schedule simulation
+        × ShowsSome setup schedule simulation files output)
 
     -- The schedule that the input gives was simulated on the tables that the dataset gives, all output was made (`Shows`), and no fault was
     -- reported.
     pub record SimulatesAll (reported : Change (Option (List CommandFault))) : Type 0 where
       pub schedule : List Scheduled
       pub simulation : Simulation
-      pub is_simulation : IsSimulation inputs.«data».remaining inputs.schedule.remaining executors schedule simulation
-      pub shows : Shows executors schedule simulation files output
+      pub is_simulation : IsSimulation inputs.«data».remaining inputs.schedule.remaining setup schedule simulation
+      pub shows : Shows setup schedule simulation files output
       pub no_fault : reported.after ≡ reported.before

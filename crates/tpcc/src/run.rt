@@ -19,8 +19,8 @@ use crate::summary::Summary;
 use crate::tally::Tally;
 use crate::watch::Watch;
 use command_line::{RunSettings, Status};
-use commit_log::Entry;
-use engine::{Answers, Outcome, serve};
+use commit_log::{Entry, Limits};
+use engine::{Answers, Outcome, ServeOptions, serve};
 use files::Input;
 use range_moves::MoveOrder;
 use requests::Script;
@@ -34,7 +34,7 @@ use std::sync::Wait;
 use std::thread::Threads;
 use terminals::{read_moves, read_script, write_answers};
 
-/// Serves the scripts on the dataset with as many executors as the settings ask for. An error is the exit status.
+/// Serves the scripts on the dataset by as many executors as the settings ask for, within their limits. An error is the exit status.
 ///
 /// Input: `data` is read first, then the scripts in order, then the moves. The first fault ends the command, and
 /// nothing is run.
@@ -73,12 +73,12 @@ pub fn run_over<
     requires moves { is_some moves ≡ is_some settings.now.moves }
     requires log { is_some log ≡ is_some settings.now.log }
     requires tables { is_some tables ≡ is_some settings.now.tables }
-    ensures serves { OnOk result (Serves F.contents settings.now.executors
+    ensures serves { OnOk result (Serves F.contents settings.now
         (texts_of (D.remaining «data») (map S.remaining scripts.old) (option_map S.remaining moves))
         (run_outputs log tables)
         (output_of A.contents answers.old answers.new N.named output_files.old output_files.new)
         (change E.reported errors.old errors.new)) }
-    ensures some { OnErr result (ServesSome F.contents settings.now.executors
+    ensures some { OnErr result (ServesSome F.contents settings.now
         (texts_of (D.remaining «data») (map S.remaining scripts.old) (option_map S.remaining moves))
         (run_outputs log tables)
         (output_of A.contents answers.old answers.new N.named output_files.old output_files.new)) }
@@ -133,12 +133,12 @@ fn run<
     requires moves { is_some moves ≡ is_some settings.now.moves }
     requires log { is_some log ≡ is_some settings.now.log }
     requires tables { is_some tables ≡ is_some settings.now.tables }
-    ensures serves { OnOk result (Serves F.contents settings.now.executors
+    ensures serves { OnOk result (Serves F.contents settings.now
         (texts_of (D.remaining «data») (map S.remaining scripts.old) (option_map S.remaining moves))
         (run_outputs log tables)
         (output_of A.contents answers.old answers.new N.named output_files.old output_files.new)
         (change E.reported errors.old errors.new)) }
-    ensures some { OnErr result (ServesSome F.contents settings.now.executors
+    ensures some { OnErr result (ServesSome F.contents settings.now
         (texts_of (D.remaining «data») (map S.remaining scripts.old) (option_map S.remaining moves))
         (run_outputs log tables)
         (output_of A.contents answers.old answers.new N.named output_files.old output_files.new)) }
@@ -150,16 +150,16 @@ fn run<
     let scripts = read_scripts(alloc, &settings.scripts, scripts)?;
     let moves = read_orders(alloc, settings.moves, moves)?;
     let _ = watch.prepare(alloc, scripts.as_slice());
-    let outcome = match serve(
-        rt,
-        alloc,
-        opening,
-        scripts.as_slice(),
-        settings.executors,
-        settings.tries,
-        moves.as_slice(),
-        &watch,
-    ) {
+    let options = ServeOptions {
+        executors: settings.executors,
+        tries: settings.tries,
+        limits: Limits {
+            log: settings.log_limit,
+            inbox: settings.inbox,
+        },
+        moves: moves.as_slice(),
+    };
+    let outcome = match serve(rt, alloc, opening, scripts.as_slice(), &options, &watch) {
         Ok(outcome) => outcome,
         Err(fault) => return Err(CommandFault::of_serving(fault)),
     };

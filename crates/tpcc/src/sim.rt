@@ -1,14 +1,15 @@
 ghost use Rattle.std.specs.Prelude.{◌≡◌, ◌⊎◌, is_some, IfOk, IfErr, OnOk, OnErr};
 ghost use Rattle.terminals.specs.FirstFault.{schedule_fault};
-ghost use Rattle.terminals.specs.Outputs.{AreOutputs, NameEntries};
+ghost use Rattle.terminals.specs.LockChanges.{AreLines, lines};
+ghost use Rattle.terminals.specs.Outputs.{NameEntries};
 ghost use Rattle.terminals.specs.Schedule.{IsSchedule};
 ghost use Rattle.files.specs.Sending.{BeginsToWrite, OfFirst, Writes};
 ghost use Rattle.files.specs.Place.{Gives};
 ghost use Rattle.tpcc.specs.Effects.{change, output_of, source_of};
 ghost use Rattle.tpcc.specs.EarlyEnds.{IsOfGathering, IsOfShowing, IsOfSimulating};
 ghost use Rattle.tpcc.specs.Faults.{IsFirst, IsOfReading, IsOfWriting, IsOfWritingSome, standard_output, EndsEarly};
-ghost use Rattle.command_line.specs.Settings.{HasExecutors};
-ghost use Rattle.tpcc.specs.Sim.{NamesPicture, NamesTables, Shows, ShowsSome, SimulatesAll, SimulatesSome, played_schedule, sim_inputs, sim_outputs};
+ghost use Rattle.command_line.specs.Settings.{IsPlayable};
+ghost use Rattle.tpcc.specs.Sim.{NamesPicture, NamesTables, Shows, ShowsSome, SimulatesAll, SimulatesSome, played_schedule, setup_of, sim_inputs, sim_outputs};
 
 use crate::command_fault::CommandFault;
 use crate::output_files::OutputFiles;
@@ -17,22 +18,22 @@ use crate::streams::{
     STANDARD_OUTPUT, finished, name_printed, read_tables, write_entries, write_tables,
 };
 use command_line::{SimSettings, Status};
-use commit_log::Entry;
+use commit_log::{Entry, Limits};
 use files::Input;
-use history::{Output, Scheduled};
+use history::{LockChange, Output, Scheduled};
 use picture::write_picture;
 use schema::{Scale, Tables};
 use std::alloc::Global;
 use std::io::Write;
 use terminals::{read_schedule, write_outputs};
-use world::{GatherFault, OpenFault, Simulation, simulate};
+use world::{GatherFault, OpenFault, Setup, Simulation, simulate};
 
 /// Simulates a schedule on the dataset, event by event. An error is the exit status.
 ///
 /// Input: `data` is read first, then the schedule. The first fault ends the command, and nothing is run.
 ///
-/// Output: the log is written to `log` and brought to the disk; the records of all outputs are printed to `reported`;
-/// the log gets its name on `output_files`; the picture of the schedule and its outputs is written to `picture` and
+/// Output: the log is written to `log` and brought to the disk; the records of all outputs are printed to `reported`, with
+/// `--locks` also the lock tables that events have changed, after the output of the event; the log gets its name on `output_files`; the picture of the schedule and its outputs is written to `picture` and
 /// gets its name; the tables are written to `tables` and get theirs. There are no tables if a transaction is active or
 /// a move outstanding at the end, or if an allocation for them fails; that is a fault only if tables are asked for.
 ///
@@ -58,16 +59,16 @@ pub fn sim_over<
     output_files: &mut N,
     errors: &mut E,
 ) -> Result<(), Status>
-    requires executors { HasExecutors settings.now }
+    requires limits { IsPlayable settings.now }
     requires log { is_some log ≡ is_some settings.now.log }
     requires picture { is_some picture ≡ is_some settings.now.picture }
     requires tables { is_some tables ≡ is_some settings.now.tables }
-    ensures simulates { OnOk result (SimulatesAll F.contents settings.entry.now.executors
+    ensures simulates { OnOk result (SimulatesAll F.contents (setup_of settings.entry.now)
         (sim_inputs (source_of D.remaining D.lasts «data») (source_of S.remaining S.lasts schedule))
         (sim_outputs log picture tables)
         (output_of A.contents reported.old reported.new N.named output_files.old output_files.new)
         (change E.reported errors.old errors.new)) }
-    ensures some { OnErr result (SimulatesSome F.contents settings.entry.now.executors
+    ensures some { OnErr result (SimulatesSome F.contents (setup_of settings.entry.now)
         (sim_inputs (source_of D.remaining D.lasts «data») (source_of S.remaining S.lasts schedule))
         (sim_outputs log picture tables)
         (output_of A.contents reported.old reported.new
@@ -113,16 +114,16 @@ fn sim<
     output_files: &mut N,
     errors: &mut E,
 ) -> Result<(), CommandFault<'a>>
-    requires executors { HasExecutors settings.now }
+    requires limits { IsPlayable settings.now }
     requires log { is_some log ≡ is_some settings.now.log }
     requires picture { is_some picture ≡ is_some settings.now.picture }
     requires tables { is_some tables ≡ is_some settings.now.tables }
-    ensures simulates { OnOk result (SimulatesAll F.contents settings.entry.now.executors
+    ensures simulates { OnOk result (SimulatesAll F.contents (setup_of settings.entry.now)
         (sim_inputs (source_of D.remaining D.lasts «data») (source_of S.remaining S.lasts schedule))
         (sim_outputs log picture tables)
         (output_of A.contents reported.old reported.new N.named output_files.old output_files.new)
         (change E.reported errors.old errors.new)) }
-    ensures some { OnErr result (SimulatesSome F.contents settings.entry.now.executors
+    ensures some { OnErr result (SimulatesSome F.contents (setup_of settings.entry.now)
         (sim_inputs (source_of D.remaining D.lasts «data») (source_of S.remaining S.lasts schedule))
         (sim_outputs log picture tables)
         (output_of A.contents reported.old reported.new
@@ -135,11 +136,19 @@ fn sim<
     let scale = opening.scale();
     let schedule = read_items(alloc, settings.schedule, schedule)?;
     errors.begin("playing", schedule.len(), "items");
-    let simulation = match simulate(alloc, opening, settings.executors, schedule.as_slice()) {
+    let setup = Setup {
+        executors: settings.executors,
+        limits: Limits {
+            log: settings.log_limit,
+            inbox: settings.inbox,
+        },
+    };
+    let watches_locks = settings.locks;
+    let simulation = match simulate(alloc, opening, &setup, schedule.as_slice(), watches_locks) {
         Ok(simulation) => simulation,
         Err(OpenFault::NoMemory) => return Err(CommandFault::NoMemory),
         Err(OpenFault::NotConsistent(number)) => return Err(CommandFault::NotConsistent(number)),
-        Err(OpenFault::BadExecutors) => unreachable!(),
+        Err(OpenFault::BadExecutors | OpenFault::BadLimit) => unreachable!(),
     };
     show(
         alloc,
@@ -169,16 +178,16 @@ fn show<'a, A: Write, F: Write + Drop, N: OutputFiles<F>>(
     tables: Option<F>,
     output_files: &mut N,
 ) -> Result<(), CommandFault<'a>>
-    requires executors { HasExecutors settings.now }
+    requires limits { IsPlayable settings.now }
     requires entries { NameEntries simulation.now.log.items simulation.now.outputs.items }
     requires log { is_some log ≡ is_some settings.now.log }
     requires picture { is_some picture ≡ is_some settings.now.picture }
     requires tables { is_some tables ≡ is_some settings.now.tables }
-    ensures all { OnOk result (Shows F.contents settings.entry.now.executors
+    ensures all { OnOk result (Shows F.contents (setup_of settings.entry.now)
         schedule.now simulation.now (sim_outputs log picture tables)
         (output_of A.contents reported.old reported.new
         N.named output_files.old output_files.new)) }
-    ensures some { OnErr result (ShowsSome F.contents settings.entry.now.executors
+    ensures some { OnErr result (ShowsSome F.contents (setup_of settings.entry.now)
         schedule.now simulation.now (sim_outputs log picture tables)
         (output_of A.contents reported.old reported.new
         N.named output_files.old output_files.new)) }
@@ -189,7 +198,8 @@ fn show<'a, A: Write, F: Write + Drop, N: OutputFiles<F>>(
     let entries = simulation.log.as_slice();
     let outputs = simulation.outputs.as_slice();
     let log = write_entries(alloc, settings.log, log, entries, output_files)?;
-    let printed = print_outputs(alloc, reported, outputs, entries);
+    let locks = simulation.locks.as_slice();
+    let printed = print_outputs(alloc, reported, outputs, locks, entries);
     name_printed(printed, log, output_files)?;
     draw(
         alloc,
@@ -226,21 +236,23 @@ fn read_items<'a, S: Input + Drop>(
     }
 }
 
-// Prints the outputs of the schedule. After an error a beginning of them was printed.
+// Prints the outputs of the schedule, with the lock tables that have changed among them. After an error a beginning of them was
+// printed.
 fn print_outputs<A: Write>(
     alloc: Global,
     sink: &mut A,
     outputs: &[Output],
+    locks: &[LockChange],
     entries: &[Entry],
 ) -> Result<(), CommandFault<'static>>
     requires { NameEntries entries.now outputs.now }
     ensures printed { OnOk result (Writes (A.contents sink.old) (A.contents sink.new)
-        (AreOutputs entries.now outputs.now)) }
+        (AreLines entries.now (lines 0 outputs.now locks.now))) }
     ensures begun { OnErr result (BeginsToWrite (A.contents sink.old) (A.contents sink.new)
-        (OfFirst (AreOutputs entries.now) outputs.now)) }
+        (OfFirst (AreLines entries.now) (lines 0 outputs.now locks.now))) }
     ensures fault { IfErr result (IsOfWriting standard_output) }
 {
-    match write_outputs(alloc, sink, outputs, entries) {
+    match write_outputs(alloc, sink, outputs, locks, entries) {
         Ok(()) => Ok(()),
         Err(error) => Err(CommandFault::of_file(STANDARD_OUTPUT, error)),
     }
@@ -280,7 +292,7 @@ fn draw<'a, F: Write + Drop, N: OutputFiles<F>>(
     scale: &Scale,
     output_files: &mut N,
 ) -> Result<(), CommandFault<'a>>
-    requires executors { HasExecutors settings.now }
+    requires limits { IsPlayable settings.now }
     requires asked { is_some picture ≡ is_some settings.now.picture }
     ensures named { OnOk result (NamesPicture F.contents picture
         (N.named output_files.old) (N.named output_files.new)
@@ -295,14 +307,9 @@ fn draw<'a, F: Write + Drop, N: OutputFiles<F>>(
         unreachable!()
     };
     let mut whole = sink;
+    let executors = settings.executors;
     match write_picture(
-        alloc,
-        &mut whole,
-        schedule,
-        outputs,
-        entries,
-        scale,
-        settings.executors,
+        alloc, &mut whole, schedule, outputs, entries, scale, executors,
     ) {
         Ok(()) => finished(path, whole, output_files),
         Err(error) => Err(CommandFault::of_file(path, error)),

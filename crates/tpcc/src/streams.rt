@@ -23,7 +23,7 @@ use std::io::Write;
 use terminals::{write_log, write_script};
 
 /// The path of the standard output in a fault.
-pub const STANDARD_OUTPUT: &str = "standard output";
+pub const STANDARD_OUTPUT: &str = "-";
 
 /// Reads the tables of the dataset of that path.
 pub fn read_tables<'a, D: Input + Drop>(

@@ -1,5 +1,5 @@
 -- The claims of a transaction that is logged.
-use Rattle.std.proofs.Common.{ℕ, ◌⊎◌, inl, inr, List, [], ◌∷◌, map, sym, ap, subst}
+use Rattle.std.proofs.Common.{ℕ, inl, inr, List, [], ◌∷◌, map, sym, ap, subst}
 use Rattle.std.specs.Prelude.{All}
 use Rattle.std.proofs.lemmas.List.Elements.{All-cons, All-head, All-nil, All-tail}
 use Rattle.requests.specs.declared.reply.Reply.{Reply}
@@ -53,11 +53,11 @@ all_logged_given shown age (cs ∷ held) h =
 
 module _ {J : Type 0} where
   -- so they are, whatever came of it at the log
-  pub given_back : (age : ℕ) (entry : Entry) (pass : PassView) (old new : LogAndClaims) (logged : Logged J)
-      → Logs entry pass old logged new → All (AreUndoneBy age) old.held → All (AreGivenBy logged.is_settled age) new.held
-  given_back age entry pass old new logged (inl logs) undone =
+  pub given_back : (age most : ℕ) (entry : Entry) (pass : PassView) (old new : LogAndClaims) (logged : Logged J)
+      → Logs most entry pass old logged new → All (AreUndoneBy age) old.held → All (AreGivenBy logged.is_settled age) new.held
+  given_back age most entry pass old new logged (inl logs) undone =
       subst (λ (l : Logged J). All (AreGivenBy l.is_settled age) new.held) (sym logs.2)
       (subst (λ (hs : List (List ClaimView)). All (AreGivenBy (is_settled entry.reply) age) hs) (sym logs.4) (all_logged_given entry.reply age old.held undone))
-  given_back age entry pass old new logged (inr refused) undone =
+  given_back age most entry pass old new logged (inr refused) undone =
       subst (λ (l : Logged J). All (AreGivenBy l.is_settled age) new.held) (sym refused.2)
       (subst (λ (hs : List (List ClaimView)). All (AreUndoneBy age) hs) (sym refused.4) undone)

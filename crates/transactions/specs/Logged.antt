@@ -8,7 +8,6 @@ use Rattle.tickets.specs.Claims.{ClaimView}
 use Rattle.commit_log.specs.declared.entry.Entry.{Entry}
 use Rattle.commit_log.specs.declared.log_book.AppendFault.{AppendFault}
 use Rattle.commit_log.specs.declared.log_book.AppendFault.TheVariants as fault
-use Rattle.rows.specs.declared.limits.TheConstants.{MOST_ENTRIES}
 use Rattle.commit_log.specs.Claimed.{claims_logged}
 use Rattle.commit_log.specs.Items.{item}
 use Rattle.commit_log.specs.PassView.{PassView, after_item, after_refusal}
@@ -43,10 +42,11 @@ module _ {J : Type 0} where
   refused_for why entries pass = record { answer = Err (why_refused why); pass = after_refusal why entries pass; is_settled = false }
 
   -- The log has one entry more, at its end, behind all that the session has seen, and the claims are as the log leaves them; or
-  -- it refused the entry, and log and claims are unchanged. It refuses an entry with LogFull exactly if it is full.
-  abbrev pub Logs : Entry → PassView → LogAndClaims → Logged J → LogAndClaims → Type 0
-  Logs entry pass old logged new =
-      ((length old.log < MOST_ENTRIES) × (pass.seen ≤ length old.log) × (logged ≡ logged_at (length old.log) entry pass)
+  -- it refused the entry, and log and claims are unchanged. It refuses an entry with LogFull exactly if it has the most entries
+  -- that it may have.
+  abbrev pub Logs : ℕ → Entry → PassView → LogAndClaims → Logged J → LogAndClaims → Type 0
+  Logs most entry pass old logged new =
+      ((length old.log < most) × (pass.seen ≤ length old.log) × (logged ≡ logged_at (length old.log) entry pass)
       × (new.log ≡ old.log ++ entry ∷ []) × (new.held ≡ map (claims_logged entry.reply) old.held))
-      ⊎ ((why : AppendFault) × ((why ≡ fault.LogFull) ↔ (MOST_ENTRIES ≤ length old.log)) × (logged ≡ refused_for why (length old.log) pass)
+      ⊎ ((why : AppendFault) × ((why ≡ fault.LogFull) ↔ (most ≤ length old.log)) × (logged ≡ refused_for why (length old.log) pass)
       × (new.log ≡ old.log) × (new.held ≡ old.held))

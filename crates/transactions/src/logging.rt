@@ -31,7 +31,7 @@ impl<J: Names> HeldClaims<J> {
         requires accepted { IsAccepted J.opening.scale entry.request }
         requires carried_out { IsCarriedOut J.opening entry.request
             (all_claims self.old) entry.reply }
-        ensures { Logs entry pass (log_and_claims log.old self.old) result
+        ensures { Logs J.most entry pass (log_and_claims log.old self.old) result
             (log_and_claims log.new self.new) }
     {
         let is_settled = is_settled(&entry.reply);

@@ -60,7 +60,7 @@ module _ {J : Type 0} where
 
   pub outgoing_something : (executor : ℕ) (p : Outgoing J) (old new : Core J) (answer : EventAnswer) → SendsOutgoing executor p old answer new → answer ≡ Nothing → ⊥
   outgoing_something executor (outgoing.Envelope l) old new answer said is = delivers_something (has_room l.to old) executor l old new answer said is
-  outgoing_something executor (outgoing.Item i) old new answer said is = sends_something i _ said.0 answer said.1.0 is
+  outgoing_something executor (outgoing.Item i) old new answer said is = sends_something old.log_limit i _ said.0 answer said.1.0 is
   outgoing_something executor outgoing.Arrived old new answer said is = arrived_something (old.placements.awaited - 1) (sym said.0 ∙ is)
 
   send_nothing : (executor : ℕ) (posts : List (Outgoing J)) (old new : Core J) (answer : EventAnswer) → SendsFirst executor posts old answer new → (answer ≡ Nothing) ↔ (posts ≡ [])

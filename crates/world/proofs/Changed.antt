@@ -267,7 +267,7 @@ module _ {J : Type 0} where
         let p : Outgoing J = outgoing.Item i in
         let parts = said.0 in
         let there = there_out shared w h executor p rest first in
-        let changes = item_changes i w.parts parts answer (is_outgoing shared w h executor p rest first) said.1.0 in
+        let changes = item_changes w.log_limit i w.parts parts answer (is_outgoing shared w h executor p rest first) said.1.0 in
         let more = map (outgoing_by w.placements) parts.outbox in
         subst (λ (v : Core J). SendChanges executor w v) (sym said.1.1) (record {
           sent = p;

@@ -126,19 +126,19 @@ module _ {J : Type 0} where
     rest = λ k. record (said k) { log = new.log };
   }
 
-  commits_log : (commit : Commit J) (old new : Parts J) (answer : EventAnswer) → Commits commit old answer new → ItemChanges (item.Commit commit) old new
-  commits_log commit old new answer said = record { log = by said.logs; rest = subst (λ (w : Parts J). ChangesLog old w) (sym said.over) refl }
+  commits_log : (log_limit : ℕ) (commit : Commit J) (old new : Parts J) (answer : EventAnswer) → Commits log_limit commit old answer new → ItemChanges (item.Commit commit) old new
+  commits_log log_limit commit old new answer said = record { log = by said.logs; rest = subst (λ (w : Parts J). ChangesLog old w) (sym said.over) refl }
     where
-      by : Logs (entry_of commit) commit.transaction.pass (log_and_claims old.log commit.transaction.held) said.logged (log_and_claims said.log said.held) → MayLog (item.Commit commit) old.log new.log
+      by : Logs log_limit (entry_of commit) commit.transaction.pass (log_and_claims old.log commit.transaction.held) said.logged (log_and_claims said.log said.held) → MayLog (item.Commit commit) old.log new.log
       by (inl logs) = inr (ap (λ (w : Parts J). w.log) said.over ∙ logs.3)
       by (inr refused) = inl (ap (λ (w : Parts J). w.log) said.over ∙ refused.3)
 
-  pub item_changes : (i : Item J) (old new : Parts J) (answer : EventAnswer) → IsNoPush i → SendsItem i old answer new → ItemChanges i old new
-  item_changes (item.Push m) old new answer no_push said = absurd no_push
-  item_changes (item.Report r) old new answer no_push said = desk_alone (item.Report r) old new (into_desk r.slot said.1.0 _ old new said.1.1.1.1)
-  item_changes (item.Ended slot) old new answer no_push said = desk_alone (item.Ended slot) old new (active_desk slot _ old new said.1.1.1)
-  item_changes (item.Commit commit) old new answer no_push said = commits_log commit old new answer said
-  item_changes (item.Reply recorded) old new answer no_push said =
+  pub item_changes : (log_limit : ℕ) (i : Item J) (old new : Parts J) (answer : EventAnswer) → IsNoPush i → SendsItem log_limit i old answer new → ItemChanges i old new
+  item_changes log_limit (item.Push m) old new answer no_push said = absurd no_push
+  item_changes log_limit (item.Report r) old new answer no_push said = desk_alone (item.Report r) old new (into_desk r.slot said.1.0 _ old new said.1.1.1.1)
+  item_changes log_limit (item.Ended slot) old new answer no_push said = desk_alone (item.Ended slot) old new (active_desk slot _ old new said.1.1.1)
+  item_changes log_limit (item.Commit commit) old new answer no_push said = commits_log log_limit commit old new answer said
+  item_changes log_limit (item.Reply recorded) old new answer no_push said =
       let same = said.1.1.1 in
       desk_alone (item.Reply recorded) old new
       (λ k. record { catalog = same.0 k; shards = same.1.0 k; inbox = same.1.1.0 k; outbox = new.outbox; desk = new.desk; log = same.1.1.1.1.0 k })

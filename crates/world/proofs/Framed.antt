@@ -1,7 +1,6 @@
 -- What an event does with one executor's queues in hand, it does with all queues as one.
 use Rattle.std.proofs.Common.{◌≡◌, inl, inr, ℕ, Bool, true, false, List, [], ◌∷◌, ◌++◌, length, Option, Some, None, Err, refl, sym, ◌∙◌, ap, subst, append_assoc, nat_lt, ⊎_elim}
 use Rattle.std.specs.List.{slice_get}
-use Rattle.rows.specs.declared.limits.TheConstants.{INBOX}
 use Rattle.partitions.specs.Parts.{SharedTables}
 use Rattle.requests.specs.declared.request.Request.{Request}
 use Rattle.requests.specs.declared.refusal.Refusal.{Refusal}
@@ -27,11 +26,11 @@ use Rattle.world.specs.declared.world.Parts.{Parts}
 use Rattle.world.specs.Flights.{nothing, part_item}
 use Rattle.world.specs.Following.{putting, refusal_of}
 use Rattle.world.specs.Sound.{IsSoundWith, IsSoundItem}
-use Rattle.world.specs.Events.{Commits, GathersInto, MeetsAs, MeetsUnless, Pushes, Reports, ReportsInto, SendsItem, goes_on}
+use Rattle.world.specs.Events.{Commits, GathersInto, MeetsAs, MeetsUnless, Reports, ReportsInto, SendsItem, goes_on}
 use Rattle.world.specs.Happening.{Admits, SubmitsAt, SubmitsInto, SubmitsUnless, can_admit, refusal_at, submission}
 use Rattle.world.specs.Worlds.{Advances}
 use Rattle.world.proofs.Happened.{stays, submits_into}
-use Rattle.world.proofs.ItemsSent.{SendsOn, sends_on, sends_push}
+use Rattle.world.proofs.ItemsSent.{SendsOn, sends_on}
 use Rattle.world.proofs.Reordered.{queued}
 use Rattle.world.proofs.Sorting.{carried_there}
 
@@ -69,8 +68,8 @@ module _ {J : Type 0} (messages : List (Message J)) (items : List (Item J)) wher
   reports_framed : (r : Report J) (old new : Parts J) → Reports r old new → Reports r (framed old) (framed new)
   reports_framed r old new said = (said.0, (said.1.0, (said.1.1.0, into_framed r.slot said.0 _ old new said.1.1.1)))
 
-  commits_framed : (commit : Commit J) (old new : Parts J) (answer : EventAnswer) → Commits commit old answer new → Commits commit (framed old) answer (framed new)
-  commits_framed commit old new answer said = record {
+  commits_framed : (log_limit : ℕ) (commit : Commit J) (old new : Parts J) (answer : EventAnswer) → Commits log_limit commit old answer new → Commits log_limit commit (framed old) answer (framed new)
+  commits_framed log_limit commit old new answer said = record {
     logged = said.logged;
     log = said.log;
     held = said.held;
@@ -79,25 +78,18 @@ module _ {J : Type 0} (messages : List (Message J)) (items : List (Item J)) wher
     over = ap framed said.over ∙ puts_framed _ _ _ (record old { log = said.log });
   }
 
-  pushes_framed : (room : Bool) (m : Message J) (old new : Parts J) (answer : EventAnswer) → Pushes room m old answer new → Pushes room m (framed old) answer (framed new)
-  pushes_framed true m old new answer said =
-      (said.0, ap framed said.1 ∙ (λ i. record (framed old) { inbox = sym (append_assoc messages old.inbox (m ∷ [])) i }))
-  pushes_framed false m old new answer said =
-      (said.0, ap framed said.1 ∙ (λ i. record (framed old) { outbox = sym (append_assoc items old.outbox (item.Push m ∷ [])) i }))
-
-  pub sends_framed : (shared : SharedTables) (old new : Parts J) (i : Item J) (answer : EventAnswer) (h : IsSoundWith shared (part_item i) (framed old)) → IsSoundItem shared h.in_flight i
-      → SendsItem i old answer new → SendsOn shared (part_item i) (framed old) answer (framed new)
-  sends_framed shared old new (item.Push m) answer h s said =
-      sends_push shared (framed old) (framed new) m answer (nat_lt (length old.inbox) INBOX) h s (pushes_framed (nat_lt (length old.inbox) INBOX) m old new answer said)
-  sends_framed shared old new (item.Report r) answer h s said =
-      sends_on shared (framed old) (framed new) (item.Report r) answer h s (said.0, reports_framed r old new said.1)
-  sends_framed shared old new (item.Ended slot) answer h s said =
-      sends_on shared (framed old) (framed new) (item.Ended slot) answer h s (said.0, (said.1.0, (said.1.1.0, ap framed said.1.1.1)))
-  sends_framed shared old new (item.Commit commit) answer h s said =
-      sends_on shared (framed old) (framed new) (item.Commit commit) answer h s (commits_framed commit old new answer said)
-  sends_framed shared old new (item.Reply recorded) answer h s said =
+  pub sends_framed : (log_limit : ℕ) (shared : SharedTables) (old new : Parts J) (i : Item J) (answer : EventAnswer) (h : IsSoundWith shared (part_item i) (framed old)) → IsSoundItem shared h.in_flight i
+      → SendsItem log_limit i old answer new → SendsOn shared (part_item i) (framed old) answer (framed new)
+  sends_framed log_limit shared old new (item.Push m) answer h s said = absurd said
+  sends_framed log_limit shared old new (item.Report r) answer h s said =
+      sends_on log_limit shared (framed old) (framed new) (item.Report r) answer h s (said.0, reports_framed r old new said.1)
+  sends_framed log_limit shared old new (item.Ended slot) answer h s said =
+      sends_on log_limit shared (framed old) (framed new) (item.Ended slot) answer h s (said.0, (said.1.0, (said.1.1.0, ap framed said.1.1.1)))
+  sends_framed log_limit shared old new (item.Commit commit) answer h s said =
+      sends_on log_limit shared (framed old) (framed new) (item.Commit commit) answer h s (commits_framed log_limit commit old new answer said)
+  sends_framed log_limit shared old new (item.Reply recorded) answer h s said =
       let same = said.1.1.1 in
-      sends_on shared (framed old) (framed new) (item.Reply recorded) answer h s (
+      sends_on log_limit shared (framed old) (framed new) (item.Reply recorded) answer h s (
         said.0,
         (
           said.1.0,

@@ -1,7 +1,6 @@
 -- An item is sent.
 use Rattle.std.proofs.Common.{◌≡◌, ℕ, Bool, true, false, List, [], ◌∷◌, ◌++◌, length, Option, Some, None, refl, sym, subst, nat_lt, ◌+◌, ◌-◌, ◌≤◌, arith, ◌∙◌, ap, inl, inr}
 use Rattle.std.specs.List.{slice_get}
-use Rattle.rows.specs.declared.limits.TheConstants.{INBOX}
 use Rattle.partitions.specs.Parts.{SharedTables}
 use Rattle.schema.specs.Database.{Database}
 use Rattle.history.specs.declared.event.Event.TheVariants.{Send}
@@ -20,13 +19,12 @@ use Rattle.world.specs.Parted.{joined_in}
 use Rattle.world.specs.declared.flight.Report.{Report}
 use Rattle.world.specs.Flights.{Acting, InFlight, nothing, join, part_message, part_item}
 use Rattle.world.specs.Sound.{IsSoundWith, IsSoundMessage, IsSoundCommit, IsSoundItem, IsSoundPhase, awaited_by_all, flight}
-use Rattle.world.specs.Events.{Pushes, Commits, SendsItem, recorded_of}
+use Rattle.world.specs.Events.{Commits, SendsItem, recorded_of}
 use Rattle.world.specs.Worlds.{FitsPart, Fits}
 use Rattle.world.proofs.Fitting.{fits_quiet}
 use Rattle.world.proofs.Tokens.{is_awaited, acting_weighs, weigh_acting, acting_in_flight}
 use Rattle.world.proofs.OneSlot.{sound_in}
 use Rattle.world.proofs.Puts.{GoesOn}
-use Rattle.world.proofs.Reporting.{pushes_sound, pushes_fits, put_back_sound, put_back_fits}
 use Rattle.world.proofs.Meetings.{reports_go_on}
 use Rattle.world.proofs.Endings.{ended_goes_on}
 use Rattle.world.proofs.Logging.{refusing_goes_on, logging_goes_on, logging, refusing}
@@ -50,29 +48,14 @@ module _ {J : Type 0} where
         (fits_quiet opening history next.log (joined_in next) next.desk.admitted (flight next) (Send executor) Sent tt (goes.fits opening history f)));
   }
 
-  pub sends_push : (shared : SharedTables) (w new : Parts J) (message : Message J) (answer : EventAnswer) (room : Bool) → (h : IsSoundWith shared (part_message message) w) → IsSoundMessage shared h.in_flight message
-      → Pushes room message w answer new → SendsOn shared (part_message message) w answer new
-  sends_push shared w new message answer true h s said =
-      quietly shared (part_message message) w (record w { inbox = w.inbox ++ message ∷ [] }) new answer
-      (record { sound = pushes_sound shared w message h s; fits = λ opening history f. pushes_fits opening history w message f }) said.0 said.1
-  sends_push shared w new message answer false h s said =
-      let next : Parts J = record w { outbox = w.outbox ++ item.Push message ∷ [] } in
-      record {
-        sound = subst (λ v. IsSoundWith shared nothing v) (sym said.1) (put_back_sound shared w (item.Push message) h s);
-        fits = λ opening history executor f.
-            subst (λ v. Fits opening (history ++ step (Send executor) answer ∷ []) v) (sym said.1)
-            (subst (λ a. Fits opening (history ++ step (Send executor) a ∷ []) next) (sym said.0)
-            (fits_quiet opening history next.log (joined_in next) next.desk.admitted (flight next) (Send executor) Full tt (put_back_fits opening history w (item.Push message) f)));
-      }
-
-  sends_commit : (shared : SharedTables) (w new : Parts J) (commit : Commit J) (answer : EventAnswer) (h : IsSoundWith shared (part_item (item.Commit commit)) w) (s : IsSoundCommit shared (h.in_flight commit.transaction.slot) commit)
-      → Commits commit w answer new → SendsOn shared (part_item (item.Commit commit)) w answer new
-  sends_commit shared w new commit answer h s said = by said.logs
+  sends_commit : (log_limit : ℕ) (shared : SharedTables) (w new : Parts J) (commit : Commit J) (answer : EventAnswer) (h : IsSoundWith shared (part_item (item.Commit commit)) w) (s : IsSoundCommit shared (h.in_flight commit.transaction.slot) commit)
+      → Commits log_limit commit w answer new → SendsOn shared (part_item (item.Commit commit)) w answer new
+  sends_commit log_limit shared w new commit answer h s said = by said.logs
     where
       hand : InFlight
       hand = part_item (item.Commit commit)
 
-      by : Logs (entry_of commit) commit.transaction.pass (log_and_claims w.log commit.transaction.held) said.logged (log_and_claims said.log said.held) → SendsOn shared hand w answer new
+      by : Logs log_limit (entry_of commit) commit.transaction.pass (log_and_claims w.log commit.transaction.held) said.logged (log_and_claims said.log said.held) → SendsOn shared hand w answer new
       by (inl logs) =
           let both = logging_goes_on shared w commit h s in
           let next = logging commit w in
@@ -106,19 +89,19 @@ module _ {J : Type 0} where
         ),
       )
 
-  pub sends_on : (shared : SharedTables) (w new : Parts J) (i : Item J) (answer : EventAnswer) (h : IsSoundWith shared (part_item i) w) → IsSoundItem shared h.in_flight i
-      → SendsItem i w answer new → SendsOn shared (part_item i) w answer new
-  sends_on shared w new (item.Push message) answer h s said = sends_push shared w new message answer (nat_lt (length w.inbox) INBOX) h s said
-  sends_on shared w new (item.Report r) answer h s said =
+  pub sends_on : (log_limit : ℕ) (shared : SharedTables) (w new : Parts J) (i : Item J) (answer : EventAnswer) (h : IsSoundWith shared (part_item i) w) → IsSoundItem shared h.in_flight i
+      → SendsItem log_limit i w answer new → SendsOn shared (part_item i) w answer new
+  sends_on log_limit shared w new (item.Push message) answer h s said = absurd said
+  sends_on log_limit shared w new (item.Report r) answer h s said =
       let first = said.1.0 in
       let slots = said.1.1.0 in
       let at = phase_at shared w r h first slots said.1.1.1.0 in
       let place : r.place ≡ first + (r.place - first) = omega (arith, at.1.0) in
       quietly shared (part_item (item.Report r)) w new new answer (reports_go_on shared w r h s first (r.place - first) place slots said.1.1.1.0 at.0 at.1.1 new said.1.1.1.1) said.0 refl
-  sends_on shared w new (item.Ended slot) answer h s said =
+  sends_on log_limit shared w new (item.Ended slot) answer h s said =
       quietly shared (part_item {J = J} (item.Ended slot)) w _ new answer (ended_goes_on shared slot w h said.1.0 said.1.1.0) said.0 said.1.1.1
-  sends_on shared w new (item.Commit commit) answer h s said = sends_commit shared w new commit answer h s said
-  sends_on shared w new (item.Reply recorded) answer h s said = record {
+  sends_on log_limit shared w new (item.Commit commit) answer h s said = sends_commit log_limit shared w new commit answer h s said
+  sends_on log_limit shared w new (item.Reply recorded) answer h s said = record {
     sound = replies_sound shared w recorded h s said.1.0 said.1.1.0 new said.1.1.1;
     fits = λ opening history executor f.
         subst (λ a. Fits opening (history ++ step (Send executor) a ∷ []) new) (sym said.0)

@@ -100,9 +100,9 @@ module _ {J : Type 0} where
       releasing false (release t (after_refusal why (length w.log) t.pass) (Err (why_refused why)) t.held) w
 
   -- as many actions hold claims as before
-  pub as_many_hold : (entry : Entry) (pass : PassView) (old new : LogAndClaims) (logged : AnyLogged J) → Logs entry pass old logged new → length new.held ≡ length old.held
-  as_many_hold entry pass old new logged (inl logs) = ap (λ (hs : List (List ClaimView)). length hs) logs.4 ∙ length-map old.held (claims_logged entry.reply)
-  as_many_hold entry pass old new logged (inr refused) = ap (λ (hs : List (List ClaimView)). length hs) refused.4
+  pub as_many_hold : (log_limit : ℕ) (entry : Entry) (pass : PassView) (old new : LogAndClaims) (logged : AnyLogged J) → Logs log_limit entry pass old logged new → length new.held ≡ length old.held
+  as_many_hold log_limit entry pass old new logged (inl logs) = ap (λ (hs : List (List ClaimView)). length hs) logs.4 ∙ length-map old.held (claims_logged entry.reply)
+  as_many_hold log_limit entry pass old new logged (inr refused) = ap (λ (hs : List (List ClaimView)). length hs) refused.4
 
   module _ (shared : SharedTables) (w : Parts J) (commit : Commit J) (h : IsSoundWith shared (part_item (item.Commit commit)) w) (s : IsSoundCommit shared (h.in_flight commit.transaction.slot) commit) where
     abbrev slot : ℕ

@@ -45,6 +45,7 @@ use Rattle.world.specs.declared.flight.Outgoing.{Outgoing}
 use Rattle.world.specs.declared.slots.TheConstants.{MOST_ACTIVE}
 use Rattle.world.specs.Parted.{joined_in}
 use Rattle.world.specs.Flights.{nothing, join, parts, part_message, part_item, part_met, InFlight}
+use Rattle.world.specs.declared.setup.Setup.{Setup}
 use Rattle.world.specs.Openings.{AreNewLanes, IsNew, session_with}
 use Rattle.world.specs.Sound.{HaveTheirAges, IsSoundWith, IsSoundMessage, IsSoundItem, AreSoundActive, IsPassOf, IsBalanced, ActiveTransactions, awaited_by_all, is_here, reported_to_all, flight}
 use Rattle.world.specs.Worlds.{Fits, FitsPart, IsAcceptedIn, IsClaimOf}
@@ -178,12 +179,13 @@ module _ {J : Type 0} where
             (subst (λ (p : InFlight). IsPermutation [] (held_at w_id p.claims)) (sym (nothing_flies w inbox outbox active)) (IsPermutation-refl []));
       }
 
-  pub opened_new : (t : Database) (executors : ℕ) (lanes : List (PassView × SessionSeatView)) (w : Core J) → AreNewLanes lanes → w.parts.catalog ≡ shared_of t → w.parts.shards.items ≡ map shard_of (map at_rest (parts_of t))
+  pub opened_new : (t : Database) (setup : Setup) (lanes : List (PassView × SessionSeatView)) (w : Core J) → AreNewLanes lanes → w.parts.catalog ≡ shared_of t → w.parts.shards.items ≡ map shard_of (map at_rest (parts_of t))
       → AreSlicesOf w.parts.catalog (slices_in w.parts) → waiting_in w.parts ≡ [] → joined_in w.parts ≡ all_at_rest t
-      → IsOpenedBy (record { warehouses = t.scale.warehouses; executors = executors }) w.placements → w.parked ≡ [] → w.inboxes ≡ replicate executors [] → w.outboxes ≡ replicate executors []
+      → IsOpenedBy (record { warehouses = t.scale.warehouses; executors = setup.executors }) w.placements → w.parked ≡ [] → w.log_limit ≡ setup.limits.log → w.inbox_limit ≡ setup.limits.inbox
+      → w.inboxes ≡ replicate setup.executors [] → w.outboxes ≡ replicate setup.executors []
       → w.parts.inbox ≡ [] → w.parts.outbox ≡ [] → w.parts.log ≡ [] → w.parts.desk.admitted ≡ 0 → w.parts.desk.active ≡ replicate MOST_ACTIVE None
-      → w.parts.desk.sessions.items ≡ map session_with lanes → IsNew t executors w
-  opened_new t executors lanes w new catalog shards slices none_waits rows placements parked inboxes outboxes inbox outbox log admitted active sessions = record {
+      → w.parts.desk.sessions.items ≡ map session_with lanes → IsNew t setup w
+  opened_new t setup lanes w new catalog shards slices none_waits rows placements parked log_limit limit inboxes outboxes inbox outbox log admitted active sessions = record {
     catalog = catalog;
     shards = shards;
     slices = slices;
@@ -191,6 +193,8 @@ module _ {J : Type 0} where
     rows = rows;
     placements = placements;
     parked = parked;
+    log_limit = log_limit;
+    inbox_limit = limit;
     inboxes = inboxes;
     outboxes = outboxes;
     in_hand = (inbox, outbox);

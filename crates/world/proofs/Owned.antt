@@ -55,17 +55,17 @@ module _ {J : Type 0} where
       let P : Flow J → Type 0 = λ flow. MeetsUnless (refusal_of None reports) reports flow old new in
       carried_both reports P P (new.inbox ≡ old.inbox) (λ flow one same. unless_inbox (refusal_of None reports) reports flow old new one) said said
 
-  commits_inbox : (commit : Commit J) (old new : Parts J) (answer : EventAnswer) → Commits commit old answer new → new.inbox ≡ old.inbox
-  commits_inbox commit old new answer said = ap (λ (w : Parts J). w.inbox) said.over
+  commits_inbox : (log_limit : ℕ) (commit : Commit J) (old new : Parts J) (answer : EventAnswer) → Commits log_limit commit old answer new → new.inbox ≡ old.inbox
+  commits_inbox log_limit commit old new answer said = ap (λ (w : Parts J). w.inbox) said.over
 
   into_inbox : (slot first : ℕ) (slots : List (Option (Report J))) (old new : Parts J) → ReportsInto slot first slots old new → new.inbox ≡ old.inbox
   into_inbox slot first slots old new (inl kept) = ap (λ (w : Parts J). w.inbox) kept.1
   into_inbox slot first slots old new (inr met) = meets_inbox met.0 old new met.1.1
 
   -- no item that is no push puts a message
-  pub sent_inbox : (i : Item J) (old new : Parts J) (answer : EventAnswer) → IsNoPush i → SendsItem i old answer new → new.inbox ≡ old.inbox
-  sent_inbox (item.Push m) old new answer no_push said = absurd no_push
-  sent_inbox (item.Report r) old new answer no_push said = into_inbox r.slot said.1.0 _ old new said.1.1.1.1
-  sent_inbox (item.Ended slot) old new answer no_push said = ap (λ (w : Parts J). w.inbox) said.1.1.1
-  sent_inbox (item.Commit commit) old new answer no_push said = commits_inbox commit old new answer said
-  sent_inbox (item.Reply recorded) old new answer no_push said = said.1.1.1.1.1.0
+  pub sent_inbox : (log_limit : ℕ) (i : Item J) (old new : Parts J) (answer : EventAnswer) → IsNoPush i → SendsItem log_limit i old answer new → new.inbox ≡ old.inbox
+  sent_inbox log_limit (item.Push m) old new answer no_push said = absurd no_push
+  sent_inbox log_limit (item.Report r) old new answer no_push said = into_inbox r.slot said.1.0 _ old new said.1.1.1.1
+  sent_inbox log_limit (item.Ended slot) old new answer no_push said = ap (λ (w : Parts J). w.inbox) said.1.1.1
+  sent_inbox log_limit (item.Commit commit) old new answer no_push said = commits_inbox log_limit commit old new answer said
+  sent_inbox log_limit (item.Reply recorded) old new answer no_push said = said.1.1.1.1.1.0

@@ -4,7 +4,6 @@ use Rattle.std.specs.Prelude.{All, Result, Ok, Err}
 use Rattle.std.specs.List.{sum_by}
 use Rattle.std.proofs.lemmas.List.Elements.{All-head, All-tail}
 use Rattle.std.proofs.lemmas.List.Sums.{sum_by-append}
-use Rattle.rows.specs.declared.limits.TheConstants.{INBOX}
 use Rattle.partitions.specs.Parts.{SharedTables}
 use Rattle.schema.specs.Database.{Database}
 use Rattle.groups.specs.Content.{content}
@@ -31,7 +30,7 @@ use Rattle.world.specs.Flights.{nothing, parts, part_message, part_item, part_me
 use Rattle.world.specs.declared.flight.Report.{Report}
 use Rattle.world.specs.Slots.{count_active}
 use Rattle.world.specs.Sound.{ActiveTransactions, ActiveTransaction, IsSoundWith, IsSoundActive, AreSoundActive, IsSoundItem, awaited, awaited_by_all, flight, reported_to_all}
-use Rattle.world.specs.Events.{Pushes, SendsItem, recorded_of}
+use Rattle.world.specs.Events.{SendsItem, recorded_of}
 use Rattle.world.specs.Worlds.{Fits, tables_now}
 use Rattle.world.proofs.Balances.{in_inbox, in_outbox}
 use Rattle.world.proofs.FreeSlots.{count-none, count-some}
@@ -128,17 +127,13 @@ module _ {J : Type 0} where
 
   -- ---- what is answered Nothing
 
-  pub sends_something : (i : Item J) (old new : Parts J) (answer : EventAnswer) → SendsItem i old answer new → answer ≡ Nothing → ⊥
-  sends_something (item.Push message) old new answer said is = pushed (nat_lt (length old.inbox) INBOX) said is
-    where
-      pushed : (room : Bool) → Pushes room message old answer new → answer ≡ Nothing → ⊥
-      pushed true said is = absurd (cc)
-      pushed false said is = absurd (cc)
-  sends_something (item.Report r) old new answer said is = let e = said.0 in absurd (cc)
-  sends_something (item.Ended slot) old new answer said is = let e = said.0 in absurd (cc)
-  sends_something (item.Commit commit) old new answer said is = recorded said.logged.answer (sym said.answered ∙ is)
+  pub sends_something : (log_limit : ℕ) (i : Item J) (old new : Parts J) (answer : EventAnswer) → SendsItem log_limit i old answer new → answer ≡ Nothing → ⊥
+  sends_something log_limit (item.Push message) old new answer said is = said
+  sends_something log_limit (item.Report r) old new answer said is = let e = said.0 in absurd (cc)
+  sends_something log_limit (item.Ended slot) old new answer said is = let e = said.0 in absurd (cc)
+  sends_something log_limit (item.Commit commit) old new answer said is = recorded said.logged.answer (sym said.answered ∙ is)
     where
       recorded : (result : Result ℕ Refusal) → recorded_of result ≡ Nothing → ⊥
       recorded (Ok place) is = absurd (cc)
       recorded (Err why) is = absurd (cc)
-  sends_something (item.Reply recorded) old new answer said is = let e = said.0 in absurd (cc)
+  sends_something log_limit (item.Reply recorded) old new answer said is = let e = said.0 in absurd (cc)

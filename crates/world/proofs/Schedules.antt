@@ -316,45 +316,56 @@ module _ {J : Type 0} where
         all_empty old.outboxes (λ place below. rest.outboxes place (omega (arith, below, many, h.outboxes))),
       )
 
-  -- there are as many executors as before
-  opens_stay : (executor : ℕ) (load : Load J) (old new : Core J) → Opens executor load old new → new.placements.executors ≡ old.placements.executors
+  -- what no event changes: the number of executors, and the limit of the log
+  abbrev fixed : Core J → ℕ × ℕ
+  fixed w = (w.placements.executors, w.log_limit)
+
+  opens_stay : (executor : ℕ) (load : Load J) (old new : Core J) → Opens executor load old new → fixed new ≡ fixed old
   opens_stay executor (Move (moving.Order order)) old new said =
-      ap (λ (w : Core J). w.placements.executors) said ∙ begun_executors (size_of order) order.lo order.to old.placements
-  opens_stay executor (Move (moving.Fetch w_id to)) old new said = ap (λ (w : Core J). w.placements.executors) said
-  opens_stay executor (Move (moving.Parcel w_id)) old new said = ap (λ (w : Core J). w.placements.executors) said
+      ap fixed said ∙ ap (λ n. (n, old.log_limit)) (begun_executors (size_of order) order.lo order.to old.placements)
+  opens_stay executor (Move (moving.Fetch w_id to)) old new said = ap fixed said
+  opens_stay executor (Move (moving.Parcel w_id)) old new said = ap fixed said
   opens_stay executor (Work m) old new said = by (is_for_slice m) said
     where
-      finds : (found : Found) → FindsSlice found executor m old new → new.placements.executors ≡ old.placements.executors
-      finds Here works = ap (λ (w : Core J). w.placements.executors) works.1.1
-      finds (Went to) is = ap (λ (w : Core J). w.placements.executors) is
-      finds Unknown is = ap (λ (w : Core J). w.placements.executors) is
+      finds : (found : Found) → FindsSlice found executor m old new → fixed new ≡ fixed old
+      finds Here works = ap fixed works.1.1
+      finds (Went to) is = ap fixed is
+      finds Unknown is = ap fixed is
 
-      by : (slice : Bool) → WorksIfHere slice executor m old new → new.placements.executors ≡ old.placements.executors
-      by false works = ap (λ (w : Core J). w.placements.executors) works.1.1
+      by : (slice : Bool) → WorksIfHere slice executor m old new → fixed new ≡ fixed old
+      by false works = ap fixed works.1.1
       by true found = finds (found_by old.placements executor (home_of_message m)) found
 
-  sends_stay : (executor : ℕ) (p : Outgoing J) (old new : Core J) (answer : EventAnswer) → SendsOutgoing executor p old answer new → new.placements.executors ≡ old.placements.executors
+  sends_stay : (executor : ℕ) (p : Outgoing J) (old new : Core J) (answer : EventAnswer) → SendsOutgoing executor p old answer new → fixed new ≡ fixed old
   sends_stay executor (outgoing.Envelope l) old new answer said = delivered (has_room l.to old) said
     where
-      delivered : (room : Bool) → Delivers room executor l old answer new → new.placements.executors ≡ old.placements.executors
-      delivered true said = ap (λ (w : Core J). w.placements.executors) said.1
-      delivered false said = ap (λ (w : Core J). w.placements.executors) said.1
-  sends_stay executor (outgoing.Item i) old new answer said = ap (λ (w : Core J). w.placements.executors) said.1.1
-  sends_stay executor outgoing.Arrived old new answer said = ap (λ (w : Core J). w.placements.executors) said.1
+      delivered : (room : Bool) → Delivers room executor l old answer new → fixed new ≡ fixed old
+      delivered true said = ap fixed said.1
+      delivered false said = ap fixed said.1
+  sends_stay executor (outgoing.Item i) old new answer said = ap fixed said.1.1
+  sends_stay executor outgoing.Arrived old new answer said = ap fixed said.1
 
-  pub executors_stay : (event : Event) (old new : Core J) (answer : EventAnswer) → Happens event old answer new → new.placements.executors ≡ old.placements.executors
-  executors_stay (Submit session number asked) old new answer said = ap (λ (w : Core J). w.placements.executors) said.1.1
-  executors_stay (Order order) old new answer said = ⊎_elim (λ can. ap (λ (w : Core J). w.placements.executors) can.1.1) (λ stays. ap (λ (w : Core J). w.placements.executors) stays.1.1) said
-  executors_stay (Take executor) old new answer said = took (queue_of executor old.inboxes) said
+  both_stay : (event : Event) (old new : Core J) (answer : EventAnswer) → Happens event old answer new → fixed new ≡ fixed old
+  both_stay (Submit session number asked) old new answer said = ap fixed said.1.1
+  both_stay (Order order) old new answer said = ⊎_elim (λ can. ap fixed can.1.1) (λ stays. ap fixed stays.1.1) said
+  both_stay (Take executor) old new answer said = took (queue_of executor old.inboxes) said
     where
-      took : (envelopes : List (Envelope J)) → TakesFirst executor envelopes old answer new → new.placements.executors ≡ old.placements.executors
-      took [] said = ap (λ (w : Core J). w.placements.executors) said.1
+      took : (envelopes : List (Envelope J)) → TakesFirst executor envelopes old answer new → fixed new ≡ fixed old
+      took [] said = ap fixed said.1
       took (l ∷ rest) said = opens_stay executor l.load (record old { inboxes = slice_set old.inboxes executor rest }) new said.1
-  executors_stay (Send executor) old new answer said = sent (queue_of executor old.outboxes) said
+  both_stay (Send executor) old new answer said = sent (queue_of executor old.outboxes) said
     where
-      sent : (posts : List (Outgoing J)) → SendsFirst executor posts old answer new → new.placements.executors ≡ old.placements.executors
-      sent [] said = ap (λ (w : Core J). w.placements.executors) said.1
+      sent : (posts : List (Outgoing J)) → SendsFirst executor posts old answer new → fixed new ≡ fixed old
+      sent [] said = ap fixed said.1
       sent (p ∷ rest) said = sends_stay executor p (record old { outboxes = slice_set old.outboxes executor rest }) new answer said
+
+  -- there are as many executors as before
+  pub executors_stay : (event : Event) (old new : Core J) (answer : EventAnswer) → Happens event old answer new → new.placements.executors ≡ old.placements.executors
+  executors_stay event old new answer said = ap (λ (p : ℕ × ℕ). p.0) (both_stay event old new answer said)
+
+  -- and the log may have as many entries
+  pub log_limit_stays : (event : Event) (old new : Core J) (answer : EventAnswer) → Happens event old answer new → new.log_limit ≡ old.log_limit
+  log_limit_stays event old new answer said = ap (λ (p : ℕ × ℕ). p.1) (both_stay event old new answer said)
 
 -- whatever came of it
 pub on_err : {X E P : Type 0} (r : Result X E) → P → OnErr r P

@@ -150,12 +150,12 @@ module _ {J : Type 0} where
     no_push : IsNoPush i
     no_push = is_outgoing shared w h executor p rest first
 
-    pub sends_item : (below : (w_id : ℕ) → route_of w.placements w_id < w.placements.executors) (parts : Parts J) (answer : EventAnswer) (new : Core J) → SendsItem i w.parts answer parts → new ≡ bringing executor parts left → GoesOnWith shared w (Send executor) answer new
+    pub sends_item : (below : (w_id : ℕ) → route_of w.placements w_id < w.placements.executors) (parts : Parts J) (answer : EventAnswer) (new : Core J) → SendsItem w.log_limit i w.parts answer parts → new ≡ bringing executor parts left → GoesOnWith shared w (Send executor) answer new
     sends_item below parts answer new said is =
-        let sends = sends_framed messages items shared w.parts parts i answer item_taken.0 item_taken.1 said in
+        let sends = sends_framed messages items w.log_limit shared w.parts parts i answer item_taken.0 item_taken.1 said in
         let hand = takes_outgoing shared w h executor p rest first in
-        let same_shards = sent_shards i w.parts parts answer said in
-        let none : parts.inbox ≡ [] = sent_inbox i w.parts parts answer no_push said ∙ h.no_inbox in
+        let same_shards = sent_shards w.log_limit i w.parts parts answer said in
+        let none : parts.inbox ≡ [] = sent_inbox w.log_limit i w.parts parts answer no_push said ∙ h.no_inbox in
         let there = there_out shared w h executor p rest first in
         let there_left : executor < length left.outboxes = omega (arith, there, hand.outboxes, h.outboxes) in
         let brought : Core J = record left { parts = record parts { outbox = [] } } in

@@ -1,6 +1,5 @@
 -- What an event leaves unchanged: the shards, unless a message is taken, and then the inbox.
 use Rattle.std.proofs.Common.{◌≡◌, inl, inr, ℕ, Bool, true, false, List, [], ◌∷◌, length, Option, Some, None, refl, ◌∙◌, ap, nat_lt, ⊎_elim}
-use Rattle.rows.specs.declared.limits.TheConstants.{INBOX}
 use Rattle.requests.specs.declared.request.Request.{Request}
 use Rattle.requests.specs.declared.refusal.Refusal.{Refusal}
 use Rattle.history.specs.declared.event.EventAnswer.{EventAnswer}
@@ -19,7 +18,7 @@ use Rattle.world.specs.declared.flight.Item.{Item}
 use Rattle.world.specs.declared.flight.Item.TheVariants as item
 use Rattle.world.specs.declared.world.Parts.{Parts}
 use Rattle.world.specs.Following.{refusal_of}
-use Rattle.world.specs.Events.{AllTurns, Commits, MeetsAs, MeetsUnless, Pushes, ReportsInto, SendsItem, TakesMessage, TurnsFollow, goes_on}
+use Rattle.world.specs.Events.{AllTurns, Commits, MeetsAs, MeetsUnless, ReportsInto, SendsItem, TakesMessage, TurnsFollow, goes_on}
 use Rattle.world.specs.Happening.{SubmitsAt, SubmitsInto, SubmitsUnless, can_admit, refusal_at, submission}
 use Rattle.world.proofs.Sorting.{carried_both}
 
@@ -40,23 +39,19 @@ module _ {J : Type 0} where
       let P : Flow J → Type 0 = λ flow. MeetsUnless (refusal_of None reports) reports flow old new in
       carried_both reports P P (new.shards ≡ old.shards) (λ flow one same. unless_shards (refusal_of None reports) reports flow old new one) said said
 
-  commits_shards : (commit : Commit J) (old new : Parts J) (answer : EventAnswer) → Commits commit old answer new → new.shards ≡ old.shards
-  commits_shards commit old new answer said = ap (λ (w : Parts J). w.shards) said.over
+  commits_shards : (log_limit : ℕ) (commit : Commit J) (old new : Parts J) (answer : EventAnswer) → Commits log_limit commit old answer new → new.shards ≡ old.shards
+  commits_shards log_limit commit old new answer said = ap (λ (w : Parts J). w.shards) said.over
 
   into_shards : (slot first : ℕ) (slots : List (Option (Report J))) (old new : Parts J) → ReportsInto slot first slots old new → new.shards ≡ old.shards
   into_shards slot first slots old new (inl kept) = ap (λ (w : Parts J). w.shards) kept.1
   into_shards slot first slots old new (inr met) = meets_shards met.0 old new met.1.1
 
-  push_shards : (room : Bool) (m : Message J) (old new : Parts J) (answer : EventAnswer) → Pushes room m old answer new → new.shards ≡ old.shards
-  push_shards true m old new answer said = ap (λ (w : Parts J). w.shards) said.1
-  push_shards false m old new answer said = ap (λ (w : Parts J). w.shards) said.1
-
-  pub sent_shards : (i : Item J) (old new : Parts J) (answer : EventAnswer) → SendsItem i old answer new → new.shards ≡ old.shards
-  sent_shards (item.Push m) old new answer said = push_shards (nat_lt (length old.inbox) INBOX) m old new answer said
-  sent_shards (item.Report r) old new answer said = into_shards r.slot said.1.0 _ old new said.1.1.1.1
-  sent_shards (item.Ended slot) old new answer said = ap (λ (w : Parts J). w.shards) said.1.1.1
-  sent_shards (item.Commit commit) old new answer said = commits_shards commit old new answer said
-  sent_shards (item.Reply recorded) old new answer said = said.1.1.1.1.0
+  pub sent_shards : (log_limit : ℕ) (i : Item J) (old new : Parts J) (answer : EventAnswer) → SendsItem log_limit i old answer new → new.shards ≡ old.shards
+  sent_shards log_limit (item.Push m) old new answer said = absurd said
+  sent_shards log_limit (item.Report r) old new answer said = into_shards r.slot said.1.0 _ old new said.1.1.1.1
+  sent_shards log_limit (item.Ended slot) old new answer said = ap (λ (w : Parts J). w.shards) said.1.1.1
+  sent_shards log_limit (item.Commit commit) old new answer said = commits_shards log_limit commit old new answer said
+  sent_shards log_limit (item.Reply recorded) old new answer said = said.1.1.1.1.0
 
   -- ---- a request is submitted
 

@@ -224,16 +224,16 @@ module _ {J : Type 0} where
       subst (λ (v : Core J). CanSend opening i v.parts) (sym s.left_is) (can_framed opening messages items w.parts i (can_send opening (framed messages items w.parts) i taken.0 taken.1))
 
   -- what an item has put fits the outbox
-  pub can_post_item : (shared : SharedTables) (executor : ℕ) (i : Item J) (left : Core J) → OutgoingInHand shared executor (outgoing.Item i) left → (answer : EventAnswer) (parts : Parts J) → SendsItem i left.parts answer parts
+  pub can_post_item : (log_limit : ℕ) (shared : SharedTables) (executor : ℕ) (i : Item J) (left : Core J) → OutgoingInHand shared executor (outgoing.Item i) left → (answer : EventAnswer) (parts : Parts J) → SendsItem log_limit i left.parts answer parts
       → All HasHomeIn parts.outbox × (length (queue_of executor left.outboxes) + length parts.outbox ≤ most_outgoing)
-  can_post_item shared executor i left s answer parts said =
+  can_post_item log_limit shared executor i left s answer parts said =
       let w = s.whole in
-      let given : SendsItem i w.parts answer parts = subst (λ (v : Core J). SendsItem i v.parts answer parts) s.left_is said in
+      let given : SendsItem log_limit i w.parts answer parts = subst (λ (v : Core J). SendsItem log_limit i v.parts answer parts) s.left_is said in
       let taken = item_taken shared w s.sound executor i s.rest s.first in
       let from : Core J = record w { outboxes = slice_set w.outboxes executor s.rest } in
       let messages = (together from).inbox in
       let items = (together from).outbox in
-      let sound = (sends_framed messages items shared w.parts parts i answer taken.0 taken.1 given).sound in
+      let sound = (sends_framed messages items log_limit shared w.parts parts i answer taken.0 taken.1 given).sound in
       let homes = back (IsSoundItem shared sound.in_flight) items parts.outbox sound.outbox in
       let there = there_out shared w s.sound executor (outgoing.Item i) s.rest s.first in
       let hand = takes_outgoing shared w s.sound executor (outgoing.Item i) s.rest s.first in

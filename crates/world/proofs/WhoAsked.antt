@@ -3,7 +3,6 @@ use Rattle.std.proofs.Common.{◌≡◌, inl, inr, ℕ, ◌≤◌, ◌-◌, zero
 use Rattle.std.specs.Prelude.{Contains, Result, Ok, Err, slice_set}
 use Rattle.std.specs.List.{slice_get}
 use Rattle.std.proofs.lemmas.List.Elements.{All-contains, Contains-append_left, Contains-append_right, Contains-get_or}
-use Rattle.rows.specs.declared.limits.TheConstants.{INBOX}
 use Rattle.partitions.specs.Parts.{SharedTables}
 use Rattle.requests.specs.declared.refusal.Refusal.{Refusal}
 use Rattle.requests.specs.declared.request.Request.{Request}
@@ -23,7 +22,7 @@ use Rattle.world.specs.declared.world.Core.{Core}
 use Rattle.world.specs.declared.world.Parts.{Parts}
 use Rattle.world.specs.Flights.{parts, part_item, part_message, part_met, unanswered_reply}
 use Rattle.world.specs.Sound.{AnswersOlder, ActiveTransactions, IsSoundItem, flight, reported_to_all}
-use Rattle.world.specs.Events.{Pushes, SendsItem, recorded_of}
+use Rattle.world.specs.Events.{SendsItem, recorded_of}
 use Rattle.world.specs.Together.{IsSound, together}
 use Rattle.world.specs.Happening.{Delivers, Happens, Orders, SendsFirst, SendsOutgoing, SubmitsAt, SubmitsInto, SubmitsUnless, TakesFirst, answer_arrived, begins_at, can_admit, has_room, refusal_at, submission}
 use Rattle.world.specs.Envelopes.{items_of}
@@ -85,20 +84,16 @@ module _ {J : Type 0} (session number : ℕ) (recorded : Result ℕ Refusal) whe
 
   -- ---- an item
 
-  pushed : (room : Bool) (m : Message J) (old new : Parts J) (answer : EventAnswer) → Pushes room m old answer new → IsAnswered session number recorded answer → ⊥
-  pushed true m old new answer said is = let e = said.0 in absurd (cc)
-  pushed false m old new answer said is = let e = said.0 in absurd (cc)
-
-  sent_of : (shared : SharedTables) (at : ActiveTransactions) (i : Item J) (old new : Parts J) (answer : EventAnswer) → IsSoundItem shared at i → SendsItem i old answer new → IsAnswered session number recorded answer → IsOneRecordedSo session number recorded (part_item i).pending
-  sent_of shared at (item.Push m) old new answer fine said is = absurd (pushed (nat_lt (length old.inbox) INBOX) m old new answer said is)
-  sent_of shared at (item.Report r) old new answer fine said is = let e = said.0 in absurd (cc)
-  sent_of shared at (item.Ended slot) old new answer fine said is = let e = said.0 in absurd (cc)
-  sent_of shared at (item.Commit commit) old new answer fine said is = absurd (committed said.logged.answer (sym said.answered ∙ is))
+  sent_of : (log_limit : ℕ) (shared : SharedTables) (at : ActiveTransactions) (i : Item J) (old new : Parts J) (answer : EventAnswer) → IsSoundItem shared at i → SendsItem log_limit i old answer new → IsAnswered session number recorded answer → IsOneRecordedSo session number recorded (part_item i).pending
+  sent_of log_limit shared at (item.Push m) old new answer fine said is = absurd said
+  sent_of log_limit shared at (item.Report r) old new answer fine said is = let e = said.0 in absurd (cc)
+  sent_of log_limit shared at (item.Ended slot) old new answer fine said is = let e = said.0 in absurd (cc)
+  sent_of log_limit shared at (item.Commit commit) old new answer fine said is = absurd (committed said.logged.answer (sym said.answered ∙ is))
     where
       committed : (logged : Result ℕ Refusal) → IsAnswered session number recorded (recorded_of logged) → ⊥
       committed (Ok place) is = absurd (cc)
       committed (Err why) is = absurd (cc)
-  sent_of shared at (item.Reply reply) old new answer fine said is =
+  sent_of log_limit shared at (item.Reply reply) old new answer fine said is =
       let e = said.0 in
       let session_is : reply.pass.session ≡ session = cc in
       let number_is : reply.number ≡ number = cc in
@@ -131,7 +126,7 @@ module _ {J : Type 0} (session number : ℕ) (recorded : Result ℕ Refusal) whe
       let stands : Contains (all_of w.outboxes) (outgoing.Item i) = contains_joined (λ q. q) w.outboxes (queue_of executor w.outboxes) (outgoing.Item i) queue own in
       let there : Contains all.outbox i = contains_joined items_of (all_of w.outboxes) (outgoing.Item i) i stands (contains_here i []) in
       let fine = All-contains (IsSoundItem shared h.all.in_flight) all.outbox i h.all.outbox there in
-      let one = sent_of shared h.all.in_flight i left.parts said.0 answer fine said.1.0 is in
+      let one = sent_of left.log_limit shared h.all.in_flight i left.parts said.0 answer fine said.1.0 is in
       let in_outbox = parts part_item all.outbox in
       let in_meeting = parts part_met (reported_to_all all.desk.active) in
       let whole = Contains-append_right (parts part_message all.inbox).pending (in_outbox.pending ++ in_meeting.pending) one.0

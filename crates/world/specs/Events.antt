@@ -1,7 +1,6 @@
 -- The effect of one event.
 use Rattle.std.specs.Prelude.{◌≡◌, ◌<◌, ◌≤◌, ℕ, ◌+◌, ◌-◌, Bool, true, false, List, [], ◌∷◌, ◌++◌, Option, Some, None, Result, Ok, Err, All, nat_lt, length, map, replicate, slice_set, ◌⊎◌}
 use Rattle.std.specs.List.{slice_get}
-use Rattle.rows.specs.declared.limits.TheConstants.{INBOX}
 use Rattle.partitions.specs.Parts.{SharedTables}
 use Rattle.schema.specs.Database.{Database}
 use Rattle.requests.specs.declared.request.Request.{Request}
@@ -12,7 +11,7 @@ use Rattle.tickets.specs.Claims.{ClaimView, all_claims}
 use Rattle.commit_log.specs.declared.entry.Entry.{Entry}
 use Rattle.commit_log.specs.Claimed.{IsCarriedOut}
 use Rattle.history.specs.declared.event.EventAnswer.{EventAnswer}
-use Rattle.history.specs.declared.event.EventAnswer.TheVariants.{Sent, Full, Logged, Answered}
+use Rattle.history.specs.declared.event.EventAnswer.TheVariants.{Sent, Logged, Answered}
 use Rattle.wait_die.specs.declared.deciding.Holder.{Holder}
 use Rattle.slices.specs.SliceView.{SliceKeeps}
 use Rattle.transactions.specs.declared.shard.Acted.{Acted}
@@ -139,13 +138,6 @@ module _ {J : Type 0} where
   CanWork shared (Settle slot claims) = CanAllBeSettled claims
   CanWork shared (Undo slot claims) = CanAllBeUndone claims
 
-  -- ---- a message is pushed
-
-  -- A message is appended to the inbox, or, if the inbox has 1,024, put back at the end of the outbox.
-  abbrev pub Pushes : Bool → Message J → Parts J → EventAnswer → Parts J → Type 0
-  Pushes true message old answer new = (answer ≡ Sent) × (new ≡ record old { inbox = old.inbox ++ message ∷ [] })
-  Pushes false message old answer new = (answer ≡ Full) × (new ≡ with_items (item.Push message ∷ []) old)
-
   -- ---- a phase has met
 
   -- The actions of the next phase are put, and none has reported yet; or the transaction is to be logged.
@@ -195,13 +187,13 @@ module _ {J : Type 0} where
 
   -- ---- a transaction is logged
 
-  -- The log appends the transaction's entry or refuses it (`Logs` of transactions). Then the transaction is over, with the
+  -- The log, which may have `log_limit` entries, appends the transaction's entry or refuses it (`Logs` of transactions). Then the transaction is over, with the
   -- resulting pass and answer, and its claims, as they are then, are given back.
-  pub record Commits (commit : Commit J) (old : Parts J) (answer : EventAnswer) (new : Parts J) : Type 0 where
+  pub record Commits (log_limit : ℕ) (commit : Commit J) (old : Parts J) (answer : EventAnswer) (new : Parts J) : Type 0 where
     pub logged : AnyLogged J
     pub log : List Entry
     pub held : List (List ClaimView)
-    pub logs : Logs (entry_of commit) commit.transaction.pass (log_and_claims old.log commit.transaction.held) logged (log_and_claims log held)
+    pub logs : Logs log_limit (entry_of commit) commit.transaction.pass (log_and_claims old.log commit.transaction.held) logged (log_and_claims log held)
     pub answered : answer ≡ recorded_of logged.answer
     pub over : new ≡ releasing logged.is_settled (release commit.transaction logged.pass logged.answer held) (record old { log = log })
 
@@ -245,10 +237,11 @@ module _ {J : Type 0} where
   CanSend opening (item.Commit commit) w = CanCommit opening commit
   CanSend opening (item.Reply recorded) w = (desk : SessionDesk J) × (slice_get w.desk.sessions.items recorded.pass.session ≡ Some desk)
 
-  -- The effect of sending an item, by its kind.
-  abbrev pub SendsItem : Item J → Parts J → EventAnswer → Parts J → Type 0
-  SendsItem (item.Push message) old answer new = Pushes (nat_lt (length old.inbox) INBOX) message old answer new
-  SendsItem (item.Report r) old answer new = (answer ≡ Sent) × Reports r old new
-  SendsItem (item.Ended slot) old answer new = (answer ≡ Sent) × OfEnding slot old (λ left. new ≡ with_active slot (ending (left - 1)) old)
-  SendsItem (item.Commit commit) old answer new = Commits commit old answer new
-  SendsItem (item.Reply recorded) old answer new = Replies recorded old answer new
+  -- The effect of sending an item, by its kind, where the log has at most `log_limit` entries. A push is not sent so: it leaves an
+  -- outbox in an envelope.
+  abbrev pub SendsItem : ℕ → Item J → Parts J → EventAnswer → Parts J → Type 0
+  SendsItem log_limit (item.Push message) old answer new = ⊥
+  SendsItem log_limit (item.Report r) old answer new = (answer ≡ Sent) × Reports r old new
+  SendsItem log_limit (item.Ended slot) old answer new = (answer ≡ Sent) × OfEnding slot old (λ left. new ≡ with_active slot (ending (left - 1)) old)
+  SendsItem log_limit (item.Commit commit) old answer new = Commits log_limit commit old answer new
+  SendsItem log_limit (item.Reply recorded) old answer new = Replies recorded old answer new

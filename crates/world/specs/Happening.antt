@@ -2,7 +2,6 @@
 use Rattle.std.specs.Prelude.{IsTrue, is_some, ◌≡◌, ◌⊎◌, ℕ, zero, suc, ◌+◌, ◌-◌, ◌<◌, ◌&&◌, Bool, true, false, nat_lt, nat_le, List, [], ◌∷◌, ◌++◌, Option, Some, None, Result, Ok, Err, Vec, length, map, replicate, slice_set}
 use Rattle.std.specs.List.{slice_get}
 use Rattle.std.specs.declared.alloc.Global.{Global}
-use Rattle.rows.specs.declared.limits.TheConstants.{INBOX}
 use Rattle.partitions.specs.Parts.{SharedTables}
 use Rattle.requests.specs.declared.request.Request.{Request}
 use Rattle.requests.specs.declared.refusal.Refusal.{Refusal}
@@ -159,9 +158,9 @@ module _ {J : Type 0} where
 
   -- ---- the queues
 
-  -- The inbox of an executor has room.
+  -- The inbox of an executor has fewer envelopes than its limit.
   abbrev pub has_room : ℕ → Core J → Bool
-  has_room executor w = nat_lt (length (queue_of executor w.inboxes)) INBOX
+  has_room executor w = nat_lt (length (queue_of executor w.inboxes)) w.inbox_limit
 
   -- These are appended to an executor's outbox.
   abbrev pub posting : ℕ → List (Outgoing J) → Core J → Core J
@@ -198,7 +197,7 @@ module _ {J : Type 0} where
   pub record CanOrder (order : MoveOrder) (w : Core J) : Type 0 where
     pub none : w.placements.awaited ≡ 0
     pub within : IsWithin (length w.placements.placements) w.placements.executors order
-    pub room : length (queue_of order.to w.inboxes) < INBOX
+    pub room : length (queue_of order.to w.inboxes) < w.inbox_limit
 
   -- The move is outstanding, and its order is appended to the inbox of its destination.
   abbrev pub ordering : MoveOrder → Core J → Core J
@@ -262,7 +261,7 @@ module _ {J : Type 0} where
 
   -- ---- an outbox entry is sent
 
-  -- An envelope is appended to its executor's inbox, or, if that has 1,024, put back at the end of the outbox.
+  -- An envelope is appended to its executor's inbox, or, if that is full, put back at the end of the outbox.
   abbrev pub Delivers : Bool → ℕ → Envelope J → Core J → EventAnswer → Core J → Type 0
   Delivers true executor l old answer new = (answer ≡ Sent) × (new ≡ record old { inboxes = put_into l.to (l ∷ []) old.inboxes })
   Delivers false executor l old answer new = (answer ≡ Full) × (new ≡ posting executor (outgoing.Envelope l ∷ []) old)
@@ -270,7 +269,7 @@ module _ {J : Type 0} where
   -- The effect of sending an outbox entry, by its kind.
   abbrev pub SendsOutgoing : ℕ → Outgoing J → Core J → EventAnswer → Core J → Type 0
   SendsOutgoing executor (outgoing.Envelope l) old answer new = Delivers (has_room l.to old) executor l old answer new
-  SendsOutgoing executor (outgoing.Item i) old answer new = (parts : Parts J) × (SendsItem i old.parts answer parts × (new ≡ bringing executor parts old))
+  SendsOutgoing executor (outgoing.Item i) old answer new = (parts : Parts J) × (SendsItem old.log_limit i old.parts answer parts × (new ≡ bringing executor parts old))
   SendsOutgoing executor outgoing.Arrived old answer new =
       let left = old.placements.awaited - 1 in (answer ≡ answer_arrived left) × (new ≡ record old { placements = record old.placements { awaited = left } })
 

@@ -1,3 +1,4 @@
+pub mod Setups
 pub mod Queues
 pub mod Envelopes
 pub mod Slots

@@ -16,7 +16,7 @@ impl<J: Names> Parts<J> {
     pub(crate) fn commit(&mut self, commit: Commit<J>) -> EventAnswer
         requires room { length self.old.outbox + (MOST_ACTIONS + 1) ≤ 4096 }
         requires can { CanCommit J.opening commit }
-        ensures { Commits commit self.old result self.new }
+        ensures { Commits J.most commit self.old result self.new }
     {
         let Commit {
             transaction,

@@ -1,8 +1,8 @@
 //! The executors' inboxes and outboxes: envelopes are opened, outgoing items are sent.
-ghost use Rattle.std.specs.Prelude.{◌≡◌, ◌≤◌, ◌<◌, ◌+◌, All, length};
+ghost use Rattle.std.specs.Prelude.{◌≡◌, ◌≤◌, ◌<◌, ◌+◌, All, length, true};
 ghost use Rattle.partitions.specs.Parts.{shared_of};
 ghost use Rattle.world.specs.declared.flight.Load.TheVariants.{Work};
-ghost use Rattle.world.specs.Happening.{Delivers, Opens, SendsOutgoing, WorksIfHere, WorksOn, beginning_at, bringing, has_room, posting};
+ghost use Rattle.world.specs.Happening.{Delivers, Opens, SendsOutgoing, WorksIfHere, WorksOn, beginning_at, bringing, has_room as has_room_spec};
 ghost use Rattle.world.specs.Envelopes.{HasHome, HasHomeIn, home_of_message, is_for_slice, envelope, outgoing_by as outgoing_by_spec};
 ghost use Rattle.world.specs.InHand.{EnvelopeInHand, OutgoingInHand};
 ghost use Rattle.world.specs.Queues.{queue_of};
@@ -85,6 +85,7 @@ impl<J: Names> Core<J> {
         executor: u32,
         outgoing: Outgoing<J>,
     ) -> EventAnswer
+        requires limit { self.old.log_limit ≡ J.most }
         requires sending { OutgoingInHand (shared_of J.opening) executor outgoing self.old }
         ensures { SendsOutgoing executor outgoing self.old result self.new }
     {
@@ -95,17 +96,24 @@ impl<J: Names> Core<J> {
         }
     }
 
+    // Whether an executor's inbox has fewer envelopes than its limit.
+    pub(crate) fn has_room(&self, executor: u32) -> bool
+        ensures limit { result ≡ has_room_spec executor self.now }
+        ensures room { result ≡ true → length (queue_of executor self.now.inboxes) < INBOX }
+    {
+        self.inboxes.waiting(executor as usize) < self.inbox_limit.get() as usize
+    }
+
     // Puts an envelope into its executor's inbox if there is room; otherwise back at the end of the sender's outbox.
     fn deliver(&mut self, executor: u32, envelope: Envelope<J>) -> EventAnswer
         requires there { executor < length self.old.outboxes }
         requires to { envelope.to < length self.old.inboxes }
         requires room { length (queue_of executor self.old.outboxes) < 4096 }
-        ensures { Delivers (has_room envelope.to self.old) executor envelope
+        ensures { Delivers (has_room_spec envelope.to self.old) executor envelope
             self.old result self.new }
     {
-        let to = envelope.to as usize;
-        if self.inboxes.waiting(to) < INBOX {
-            self.inboxes.put(to, envelope);
+        if self.has_room(envelope.to) {
+            self.inboxes.put(envelope.to as usize, envelope);
             EventAnswer::Sent
         } else {
             self.outboxes
@@ -116,6 +124,7 @@ impl<J: Names> Core<J> {
 
     // Sends an item. What that puts goes to the executor's outbox.
     fn send_item(&mut self, alloc: Global, executor: u32, item: Item<J>) -> EventAnswer
+        requires limit { self.old.log_limit ≡ J.most }
         requires sending { OutgoingInHand (shared_of J.opening) executor
             (Outgoing.Item item) self.old }
         ensures { SendsOutgoing executor (Outgoing.Item item) self.old result self.new }

@@ -9,7 +9,6 @@ use crate::world::Core;
 use commit_log::Names;
 use history::{Event, EventAnswer};
 use requests::Request;
-use rows::INBOX;
 use std::alloc::Global;
 use transactions::{claims_are_of_the_footprint, home_of_request};
 
@@ -17,6 +16,7 @@ impl<J: Names> Core<J> {
     /// One event happens.
     pub(crate) fn happen(&mut self, alloc: Global, event: &Event) -> EventAnswer
         requires warehouses { J.warehouses ≡ J.opening.scale.warehouses }
+        requires limit { self.old.log_limit ≡ J.most }
         requires sound { IsSound (shared_of J.opening) self.old }
         ensures sound { IsSound (shared_of J.opening) self.new }
         ensures advances { AdvancesBy event.now result self.old self.new }
@@ -45,7 +45,7 @@ impl<J: Names> Core<J> {
             self.old result self.new }
     {
         let to = self.placements.route(home_of_request(request));
-        let has_room = self.inboxes.waiting(to as usize) < INBOX;
+        let has_room = self.has_room(to);
         let answer = self.parts.submit(alloc, has_room, session, number, request);
         self.hand_out(to);
         answer
@@ -71,6 +71,7 @@ impl<J: Names> Core<J> {
 
     // Sends the first entry of an executor's outbox.
     fn send(&mut self, alloc: Global, executor: u32) -> EventAnswer
+        requires limit { self.old.log_limit ≡ J.most }
         requires sound { IsSound (shared_of J.opening) self.old }
         ensures sound { IsSound (shared_of J.opening) self.new }
         ensures advances { AdvancesBy (Event.Send executor) result self.old self.new }

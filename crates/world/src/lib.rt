@@ -22,10 +22,12 @@ mod playing;
 mod queue;
 mod queues;
 mod sending;
+mod setup;
 mod shards;
 mod simulating;
 mod slots;
 mod transaction_meetings;
+mod watching;
 mod working;
 mod world;
 
@@ -38,9 +40,9 @@ pub use opening::{OpenFault, Opening};
 pub use queue::Queue;
 pub use queues::Queues;
 pub use sending::Release;
+pub use setup::Setup;
 pub use simulating::{Simulation, simulate};
 pub use slots::{MOST_ACTIVE, Slots};
-pub use transaction_meetings::{
-    Completion, CompletionConvener, PhaseConvener, PhaseMeeting, PhaseResults,
-};
+pub use transaction_meetings::{Completion, CompletionConvener, PhaseMeeting};
+pub use watching::LockWatch;
 pub use world::{Core, GatherFault, Parts, World};

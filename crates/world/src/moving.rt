@@ -16,7 +16,6 @@ use crate::world::Core;
 use commit_log::Names;
 use history::EventAnswer;
 use range_moves::{MoveOrder, Moving};
-use rows::INBOX;
 
 impl<J: Names> Core<J> {
     // Orders a move, if it is a possible one, no other is outstanding, and its destination's inbox has room.
@@ -27,7 +26,7 @@ impl<J: Names> Core<J> {
         ensures happens { Happens (event.Order order.now) self.old result self.new }
     {
         let to = order.to;
-        if !self.placements.can_order(order) || self.inboxes.waiting(to as usize) >= INBOX {
+        if !self.placements.can_order(order) || !self.has_room(to) {
             return EventAnswer::Nothing;
         }
         self.placements.order(order);

@@ -1,21 +1,25 @@
 //! Opening a world over tables that meet the consistency conditions.
-ghost use Rattle.std.specs.Prelude.{◌≡◌, ◌↔◌, ◌≤◌, [], map, IfOk, IfErr, OnOk, IsErrAnd};
+ghost use Rattle.std.specs.Prelude.{◌≡◌, ◌↔◌, [], map, IfOk, IfErr, OnOk, IsErrAnd};
 ghost use Rattle.schema.specs.Consistency.{Consistent};
 ghost use Rattle.slices.specs.Openings.{AreOpenedFor};
-ghost use Rattle.world.specs.Openings.{CanHave, IsFaultOf, IsNamedFor, IsNew, session_with};
+ghost use Rattle.world.specs.Openings.{IsFaultOf, IsNamedFor, IsNew, session_with};
+ghost use Rattle.commit_log.specs.Limits.{AreLimits};
+ghost use Rattle.world.specs.Setups.{CanHave, IsPossible};
 ghost use Rattle.world.specs.Together.{together};
 ghost use Rattle.world.specs.Worlds.{Fits};
 
 use crate::desk::{Desk, SessionDesk};
 use crate::queue::Queue;
 use crate::queues::Queues;
+use crate::setup::Setup;
 use crate::shards::open_shards;
 use crate::slots::Slots;
 use crate::world::{Core, Parts, World};
-use commit_log::{Log, LogBook, Names, Pass, SessionSeat, UnnamedLog};
+use commit_log::{InboxLimit, Log, LogBook, LogLimit, Names, Pass, SessionSeat, UnnamedLog};
 use consistency::first_broken;
 use range_moves::Placements;
 use routing::{MOST_EXECUTORS, Routing};
+use rows::{INBOX, MOST_ENTRIES};
 use schema::{NoMemory, Tables};
 use slices::{cut, open_groups};
 use std::alloc::{AllocError, Global};
@@ -31,13 +35,14 @@ pub struct Opening {
 }
 
 impl Opening {
-    /// Makes the agreements for the groups of these tables and for an empty log. Returns NoMemory if an allocation fails;
-    /// nothing is left then.
-    pub fn open(alloc: Global, tables: &Tables) -> Result<Opening, NoMemory>
-        ensures { IfOk result (λ opening. AreOpenedFor tables.now opening.groups.items) }
+    /// Makes the agreements for the groups of these tables and for an empty log, which may have `log_limit` entries. Returns
+    /// NoMemory if an allocation fails; nothing is left then.
+    pub fn open(alloc: Global, tables: &Tables, log_limit: LogLimit) -> Result<Opening, NoMemory>
+        ensures groups { IfOk result (λ opening. AreOpenedFor tables.now opening.groups.items) }
+        ensures limit { IfOk result (λ opening. opening.log.most ≡ log_limit) }
     {
         let groups = open_groups(alloc, tables)?;
-        let log = UnnamedLog::open(alloc)?;
+        let log = UnnamedLog::with_limit(alloc, log_limit)?;
         Ok(Opening { groups, log })
     }
 }
@@ -54,6 +59,8 @@ pub enum OpenFault {
     /// 3.3.2).
     #[error("the tables break consistency condition {0}")]
     NotConsistent(u8),
+    #[error("the log is not limited to 1 to {entries} entries, or an inbox to 1 to {messages} messages", entries = MOST_ENTRIES, messages = INBOX)]
+    BadLimit,
 }
 
 impl From<AllocError> for OpenFault {
@@ -68,32 +75,33 @@ impl From<AllocError> for OpenFault {
 }
 
 impl<J: Names> World<J> {
-    /// Opens a world with this number of executors over these tables. Its log is empty and nothing is in flight.
+    /// Opens a world over these tables. Its log is empty and nothing is in flight.
     ///
-    /// Returns BadExecutors exactly if `executors` is not 1 to 16, checked before the consistency conditions. Returns
-    /// NotConsistent with the least condition that the tables break, or NoMemory if an allocation fails. Nothing is left after
-    /// an error.
+    /// Returns BadExecutors exactly if there are not 1 to 16 executors; else BadLimit exactly if a limit is out of its range;
+    /// else NotConsistent with the least condition that the tables break; or NoMemory if an allocation fails. Nothing is left
+    /// after an error.
     pub fn open(
         alloc: Global,
         tables: Tables,
-        executors: u32,
+        setup: &Setup,
         opening: Opening,
     ) -> Result<World<J>, OpenFault>
         requires named { IsNamedFor J.LogNames J.GroupNames tables opening }
+        requires limit { opening.log.most ≡ setup.now.limits.log }
         ensures fits { IfOk result (λ world. Fits tables [] (together world)) }
-        ensures new { IfOk result (λ world. IsNew tables executors world) }
+        ensures new { IfOk result (λ world. IsNew tables setup.now world) }
         ensures consistent { OnOk result (Consistent tables) }
         ensures bad_executors { IsErrAnd result (λ fault. fault ≡ OpenFault.BadExecutors)
-            ↔ ¬ CanHave executors }
+            ↔ ¬ CanHave setup.now.executors }
+        ensures bad_limit { IsErrAnd result (λ fault. fault ≡ OpenFault.BadLimit)
+            ↔ (CanHave setup.now.executors × ¬ AreLimits setup.now.limits) }
         ensures fault { IfErr result (λ fault. IsFaultOf tables fault) }
     {
-        if !(1..=MOST_EXECUTORS).contains(&executors) {
-            return Err(OpenFault::BadExecutors);
-        }
+        let limits = setup.limits()?;
         if let Some(condition) = first_broken(alloc, &tables)? {
             return Err(OpenFault::NotConsistent(condition));
         }
-        let world = World::over(alloc, tables, executors, opening)?;
+        let world = World::over(alloc, tables, setup, limits, opening)?;
         Ok(world)
     }
 
@@ -101,18 +109,22 @@ impl<J: Names> World<J> {
     fn over(
         alloc: Global,
         tables: Tables,
-        executors: u32,
+        setup: &Setup,
+        limits: (LogLimit, InboxLimit),
         opening: Opening,
     ) -> Result<World<J>, NoMemory>
-        requires some { 1 ≤ executors }
-        requires most { executors ≤ 16 }
+        requires possible { IsPossible setup.now }
+        requires log { (limits.0 ≡ setup.now.limits.log) × (limits.0 ≡ opening.log.most) }
+        requires inbox { limits.1 ≡ setup.now.limits.inbox }
         requires consistent { Consistent tables }
         requires named { IsNamedFor J.LogNames J.GroupNames tables opening }
         ensures fits { IfOk result (λ world. Fits tables [] (together world)) }
-        ensures new { IfOk result (λ world. IsNew tables executors world) }
+        ensures new { IfOk result (λ world. IsNew tables setup.now world) }
     {
         let Opening { groups, log } = opening;
+        let (log_limit, inbox_limit) = limits;
         let scale = tables.scale();
+        let executors = setup.executors;
         let placements = Placements::open(alloc, &scale, &Routing::opening(&scale, executors))?;
         let parked = Queue::open(alloc)?;
         let inboxes = Queues::open(alloc, executors as usize)?;
@@ -142,6 +154,8 @@ impl<J: Names> World<J> {
                 parts,
                 placements,
                 parked,
+                log_limit,
+                inbox_limit,
                 inboxes,
                 outboxes,
             },

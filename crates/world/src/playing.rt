@@ -5,6 +5,7 @@ ghost use Rattle.history.specs.declared.schedule.Scheduled.TheVariants.{Rounds};
 ghost use Rattle.world.specs.Playing.{PlaysAll, PlaysFirst, PlaysItem, PlaysRound};
 ghost use Rattle.world.specs.Worlds.{IsAtRest};
 
+use crate::watching::LockWatch;
 use crate::world::World;
 use commit_log::Names;
 use history::{Event, EventAnswer, MOST_ROUNDS, Output, Scheduled};
@@ -12,11 +13,16 @@ use schema::NoMemory;
 use std::alloc::Global;
 
 impl<J: Names> World<J> {
-    /// Plays a schedule, item by item, and returns what is printed for it.
+    /// Plays a schedule, item by item, and returns what is printed for it. After each event `watch` looks at the lock tables.
     ///
     /// If the last output is `Quiet`, no message can be taken and no item can be sent. Returns NoMemory if an allocation for
     /// the outputs fails: then the first of the schedule's events have happened, and nothing else.
-    pub fn play(&mut self, alloc: Global, schedule: &[Scheduled]) -> Result<Vec<Output>, NoMemory>
+    pub fn play(
+        &mut self,
+        alloc: Global,
+        schedule: &[Scheduled],
+        watch: &mut LockWatch,
+    ) -> Result<Vec<Output>, NoMemory>
         ensures plays { IfOk result (λ outputs.
             PlaysAll schedule.now outputs.items self.old self.new) }
         ensures rest { IfOk result (λ outputs. EndsQuiet outputs.items → IsAtRest self.new) }
@@ -24,7 +30,7 @@ impl<J: Names> World<J> {
     {
         let mut outputs = Vec::with_capacity(alloc, schedule.len())?;
         for item in schedule {
-            self.play_item(alloc, item, &mut outputs)?;
+            self.play_item(alloc, item, &mut outputs, watch)?;
         }
         Ok(outputs)
     }
@@ -35,6 +41,7 @@ impl<J: Names> World<J> {
         alloc: Global,
         item: &Scheduled,
         outputs: &mut Vec<Output>,
+        watch: &mut LockWatch,
     ) -> Result<(), NoMemory>
         ensures follows { OnOk result
             (PlaysItem item.now outputs.old.items outputs.new.items self.old self.new) }
@@ -46,15 +53,21 @@ impl<J: Names> World<J> {
             Scheduled::Event(event) => {
                 let answer = self.step(alloc, event);
                 outputs.push(Output::Event(answer))?;
+                self.show_locks(alloc, outputs, watch);
                 Ok(())
             }
-            Scheduled::Rounds => self.run_rounds(alloc, outputs),
+            Scheduled::Rounds => self.run_rounds(alloc, outputs, watch),
         }
     }
 
     // Plays rounds until one in which nothing can happen, or `MOST_ROUNDS` of them. A round is a Take and a Send of each
     // executor in turn.
-    fn run_rounds(&mut self, alloc: Global, outputs: &mut Vec<Output>) -> Result<(), NoMemory>
+    fn run_rounds(
+        &mut self,
+        alloc: Global,
+        outputs: &mut Vec<Output>,
+        watch: &mut LockWatch,
+    ) -> Result<(), NoMemory>
         ensures follows { OnOk result
             (PlaysItem Rounds outputs.old.items outputs.new.items self.old self.new) }
         ensures rest { OnOk result (EndsQuiet outputs.new.items → IsAtRest self.new) }
@@ -64,7 +77,7 @@ impl<J: Names> World<J> {
         let executors = self.core.placements.executors();
         for _ in 0..MOST_ROUNDS {
             outputs.reserve(2 * executors as usize)?;
-            if self.run_round(alloc, outputs) {
+            if self.run_round(alloc, outputs, watch) {
                 outputs.push(Output::Quiet)?;
                 return Ok(());
             }
@@ -74,7 +87,7 @@ impl<J: Names> World<J> {
     }
 
     // Plays one round. Returns whether nothing could happen in it. There must be room for its outputs.
-    fn run_round(&mut self, alloc: Global, outputs: &mut Vec<Output>) -> bool
+    fn run_round(&mut self, alloc: Global, outputs: &mut Vec<Output>, watch: &mut LockWatch) -> bool
         requires room { length outputs.old.items + 2 * self.old.placements.executors
             ≤ vec_capacity outputs.old }
         ensures round { PlaysRound result outputs.old.items outputs.new.items self.old self.new }
@@ -85,12 +98,19 @@ impl<J: Names> World<J> {
         let mut is_idle = true;
         for executor in 0..executors {
             let took = self.step(alloc, &Event::Take { executor });
+            // (a Send changes no slice)
+            self.show_locks(alloc, outputs, watch);
             let sent = self.step(alloc, &Event::Send { executor });
             is_idle = stays_idle(is_idle, &took, &sent);
             add_output(outputs, took);
             add_output(outputs, sent);
         }
         is_idle
+    }
+
+    // Shows the lock tables to who watches them, after these outputs.
+    fn show_locks(&self, alloc: Global, outputs: &[Output], watch: &mut LockWatch) {
+        watch.look(alloc, &self.core.parts.shards, outputs.len());
     }
 }
 

@@ -66,7 +66,7 @@ impl<J: Names> Parts<J> {
         requires room { length self.old.outbox + (MOST_ACTIONS + 1) ≤ 4096 }
         requires no_push { IsNoPush item }
         requires can { CanSend J.opening item self.old }
-        ensures sends { SendsItem item self.old result self.new }
+        ensures sends { SendsItem J.most item self.old result self.new }
     {
         match item {
             Item::Push(_) => unreachable!(),
@@ -149,7 +149,7 @@ impl<J: Names> Parts<J> {
     // Answers the session and returns its pass to the desk.
     fn reply(&mut self, recorded: SessionAnswer<J>) -> EventAnswer
         requires { CanSend J.opening (Item.Reply recorded) self.old }
-        ensures { SendsItem (Item.Reply recorded) self.old result self.new }
+        ensures { SendsItem J.most (Item.Reply recorded) self.old result self.new }
     {
         let SessionAnswer {
             age: _,
@@ -169,7 +169,7 @@ impl<J: Names> Parts<J> {
     // An action of the transaction in this slot has given its claims back.
     fn end(&mut self, slot: usize)
         requires { CanSend J.opening (Item.Ended slot) self.old }
-        ensures { SendsItem (Item.Ended slot) self.old EventAnswer.Sent self.new }
+        ensures { SendsItem J.most (Item.Ended slot) self.old EventAnswer.Sent self.new }
     {
         let completion = match self.desk.active.take(slot) {
             Some(Active::Ending(completion)) => completion,

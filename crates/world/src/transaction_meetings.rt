@@ -13,10 +13,10 @@ use std::marker::Model;
 use transactions::MOST_ACTIONS;
 
 /// The right to convene the meeting of the next phase.
-pub type PhaseConvener<J> = SoleConvener<Report<J>, MOST_ACTIONS>;
+pub(crate) type PhaseConvener<J> = SoleConvener<Report<J>, MOST_ACTIONS>;
 
 /// What the actions of a phase have reported.
-pub type PhaseResults<J> = SoleResults<Report<J>, MOST_ACTIONS>;
+pub(crate) type PhaseResults<J> = SoleResults<Report<J>, MOST_ACTIONS>;
 
 /// The right to convene the completion meeting.
 pub type CompletionConvener = SoleConvener<(), MOST_ACTIONS>;

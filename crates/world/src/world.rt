@@ -10,7 +10,7 @@ use crate::flight::{Carried, Envelope, Item, Message, Outgoing};
 use crate::queue::Queue;
 use crate::queues::Queues;
 use crate::shards::{copy_whole, into_slices};
-use commit_log::{Entry, Log, Names};
+use commit_log::{Entry, InboxLimit, Log, LogLimit, Names};
 use history::{Event, EventAnswer};
 use partitions::Catalog;
 use range_moves::Placements;
@@ -45,6 +45,10 @@ pub struct Core<J: Names> {
     pub placements: Placements,
     /// Messages parked for a slice that is on its way, at the executor that gets the slice, in the order of parking.
     pub parked: Queue<Message<J>, 4096>,
+    /// How many entries the log has at most.
+    pub log_limit: LogLimit,
+    /// How many envelopes an inbox has at most.
+    pub inbox_limit: InboxLimit,
     /// The inbox of each executor, by executor number.
     pub inboxes: Queues<Envelope<J>, INBOX>,
     /// The outbox of each executor, by executor number.
@@ -76,7 +80,8 @@ impl<J: Names> Model for World<J> {
 
     ghost view = { λ w. w.core };
 
-    ghost invariant = { λ w. IsSound (shared_of J.opening) w.core × (J.warehouses ≡ J.opening.scale.warehouses) };
+    ghost invariant = { λ w. IsSound (shared_of J.opening) w.core
+        × (J.warehouses ≡ J.opening.scale.warehouses) × (w.core.log_limit ≡ J.most) };
 }
 
 impl<J: Names> Parts<J> {

@@ -9,8 +9,15 @@ use crate::paths::are_one;
 use crate::usage::UsageFault;
 use clap::{Arg, ArgAction, ArgMatches, Command};
 use files::{parse_moment, parse_whole};
+use rows::{INBOX, MOST_ENTRIES};
 use schema::Moment;
 use std::alloc::Global;
+
+/// The greatest limit of a log, in entries.
+pub const LONGEST_LOG: u32 = MOST_ENTRIES as u32;
+
+/// The greatest limit of an inbox, in messages.
+pub const LARGEST_INBOX: u32 = INBOX as u32;
 
 /// A command with its help texts, `about` before the arguments and `after` behind them, and no arguments yet.
 pub fn named<'a>(
@@ -123,6 +130,28 @@ pub fn executors<'a>(alloc: Global) -> Arg<'a>
         alloc,
         "executors",
         "How many executors there are, 1 to 16; 2 by default",
+    )
+}
+
+/// The option for the limit of the log.
+pub fn log_limit<'a>(alloc: Global) -> Arg<'a>
+    ensures { IsArgument (option (codes "log-limit")) result }
+{
+    counted(
+        alloc,
+        "log-limit",
+        "How many entries the log has room for, 1 to 16,777,216; 16,777,216 by default",
+    )
+}
+
+/// The option for the limit of an inbox.
+pub fn inbox<'a>(alloc: Global) -> Arg<'a>
+    ensures { IsArgument (option (codes "inbox")) result }
+{
+    counted(
+        alloc,
+        "inbox",
+        "How many messages the inbox of an executor has room for, 1 to 1,024; 1,024 by default",
     )
 }
 

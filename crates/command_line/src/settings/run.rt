@@ -6,7 +6,8 @@ ghost use Rattle.command_line.specs.Settings.{IsRunnable};
 ghost use Rattle.command_line.specs.Words.{AsksToRun};
 
 use crate::settings::arguments::{
-    arguments, counted, data, executors, log, named, number, option, quiet, same, summary, word,
+    LARGEST_INBOX, LONGEST_LOG, arguments, counted, data, executors, inbox, log, log_limit, named,
+    number, option, quiet, same, summary, word,
 };
 use crate::usage::UsageFault;
 use clap::{ArgMatches, Command};
@@ -17,7 +18,8 @@ use std::alloc::{AllocError, Global};
 // The most times that a request is tried that died or ran out of memory.
 const MOST_TRIES: u32 = 10_000;
 
-/// The settings of `tpcc run`: paths of files, how many executors there are, and how often a request is tried.
+/// The settings of `tpcc run`: paths of files, how many executors there are, the limits of the log and of the executors' inboxes,
+/// and how often a request is tried.
 #[derive(Debug, Drop)]
 pub struct RunSettings<'a> {
     pub data: &'a str,
@@ -25,6 +27,10 @@ pub struct RunSettings<'a> {
     pub scripts: Vec<&'a str>,
     /// 1 to 16.
     pub executors: u32,
+    /// How many entries the log has room for: 1 to 16,777,216.
+    pub log_limit: u32,
+    /// How many messages the inbox of an executor has room for: 1 to 1,024.
+    pub inbox: u32,
     /// How often a request is tried at most if it died or ran out of memory: 1 to 10,000.
     pub tries: u32,
     /// The file of the moves that are ordered while the scripts are served.
@@ -37,8 +43,8 @@ pub struct RunSettings<'a> {
     pub quiet: bool,
 }
 
-/// The settings that the words of `tpcc run` ask for. An error is: not 1 to 64 scripts, one path for log and tables,
-/// executors or else tries out of their limits, or out of memory.
+/// The settings that the words of `tpcc run` ask for. An error is: not 1 to 64 scripts; one path for log and tables; the first of
+/// executors, log limit, inbox and tries that is out of its range; or out of memory.
 pub fn read<'a>(alloc: Global, matches: &ArgMatches<'a>) -> Result<RunSettings<'a>, UsageFault>
     ensures limits { IfOk result IsRunnable }
     ensures asked { IfOk result (AsksToRun (found_of matches.now)) }
@@ -60,11 +66,27 @@ pub fn read<'a>(alloc: Global, matches: &ArgMatches<'a>) -> Result<RunSettings<'
         MOST_EXECUTORS,
         "--executors",
     )?;
+    let log_limit = number(
+        matches.get_str("log-limit"),
+        LONGEST_LOG,
+        1,
+        LONGEST_LOG,
+        "--log-limit",
+    )?;
+    let inbox = number(
+        matches.get_str("inbox"),
+        LARGEST_INBOX,
+        1,
+        LARGEST_INBOX,
+        "--inbox",
+    )?;
     let tries = number(matches.get_str("tries"), 100, 1, MOST_TRIES, "--tries")?;
     Ok(RunSettings {
         data: word(matches, "DATA"),
         scripts: scripts.to_vec(alloc)?,
         executors,
+        log_limit,
+        inbox,
         tries,
         moves: matches.get_str("moves"),
         log,
@@ -105,6 +127,8 @@ pub fn command<'a>(alloc: Global) -> Result<Command<'a>, AllocError>
         .arg(data(alloc))?
         .arg(scripts)?
         .arg(executors(alloc))?
+        .arg(log_limit(alloc))?
+        .arg(inbox(alloc))?
         .arg(tries)?
         .arg(moves)?
         .arg(log(alloc))?

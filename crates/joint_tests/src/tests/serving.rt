@@ -1,5 +1,9 @@
+ghost use Rattle.std.specs.Prelude.{◌≡◌};
+ghost use Rattle.commit_log.specs.Limits.{AreLimits};
+
 use super::*;
-use engine::{Gate, MoveOrder, Outcome, ServeFault, serve, serve_with_room};
+use commit_log::Limits;
+use engine::{Gate, MoveOrder, Outcome, ServeFault, ServeOptions, serve};
 use requests::Script;
 use std::alloc::Global;
 use std::process::Abort;
@@ -107,9 +111,7 @@ fn executors_serve_at_the_same_time(rt: HostRuntime) -> Result<(), Fail> {
         alloc,
         warehouses(alloc, 2)?,
         &scripts,
-        2,
-        100,
-        &[],
+        &by(2, &[]),
         &gate,
     )?;
     assert_eq!(rt; outcome.log.len(), 2);
@@ -160,9 +162,7 @@ fn one_waits<R: Threads + Wait + Abort + Sync>(
         alloc,
         warehouses(alloc, 2)?,
         &scripts,
-        2,
-        100,
-        &[],
+        &by(2, &[]),
         &gate,
     )?;
     assert_eq!(rt; outcome.log.len(), 2);
@@ -203,9 +203,7 @@ fn all_that_is_asked_is_carried_out(rt: HostRuntime) -> Result<(), Fail> {
             alloc,
             tables,
             &scripts,
-            executors,
-            100,
-            &[],
+            &by(executors, &[]),
             engine::OpenGate,
         )?;
         assert_eq!(rt; done_in(&outcome), 200);
@@ -236,9 +234,7 @@ fn all_that_is_asked_is_carried_out_while_warehouses_move(rt: HostRuntime) -> Re
         alloc,
         tables,
         &scripts,
-        2,
-        100,
-        &moves,
+        &by(2, &moves),
         engine::OpenGate,
     )?;
     assert_eq!(rt; done_in(&outcome), 100);
@@ -260,15 +256,18 @@ fn inboxes_of_one_message_are_enough(rt: HostRuntime) -> Result<(), Fail> {
         crossing(alloc, 2, 1)?,
     ];
     let moves = [order(1, 1, 1), order(2, 2, 0), order(1, 2, 1)];
-    let outcome = serve_with_room(
+    let options = ServeOptions {
+        executors: 2,
+        tries: 10_000,
+        limits: Limits { log: 150, inbox: 1 },
+        moves: &moves,
+    };
+    let outcome = serve(
         &rt,
         alloc,
         warehouses(alloc, 2)?,
         &scripts,
-        2,
-        10_000,
-        1,
-        &moves,
+        &options,
         engine::OpenGate,
     )?;
     assert_eq!(rt; done_in(&outcome), 150);
@@ -287,13 +286,23 @@ fn a_bad_move_is_recorded(rt: HostRuntime) -> Result<(), Fail> {
         alloc,
         warehouses(alloc, 2)?,
         &scripts,
-        2,
-        100,
-        &moves,
+        &by(2, &moves),
         engine::OpenGate,
     );
     assert!(rt; matches!(served, Err(ServeFault::BadMove(1))));
     Ok(())
+}
+
+// By this many executors, with these moves; a request is tried a hundred times.
+fn by(executors: u32, moves: &[MoveOrder]) -> ServeOptions<'_>
+    ensures { (result.executors ≡ executors) × AreLimits result.limits }
+{
+    ServeOptions {
+        executors,
+        tries: 100,
+        limits: Limits::greatest(),
+        moves,
+    }
 }
 
 fn order(lo: u32, hi: u32, to: u32) -> MoveOrder {

@@ -1,5 +1,5 @@
 ghost use Rattle.std.specs.Prelude.{◌≡◌, is_some, IfOk};
-ghost use Rattle.command_line.specs.Settings.{HasExecutors};
+ghost use Rattle.command_line.specs.Settings.{IsPlayable};
 
 use crate::command_fault::CommandFault;
 use crate::commands::ended;
@@ -21,7 +21,7 @@ pub fn carry_out<R: Files + AllocGlobal>(
     stderr: Stderr,
     settings: &SimSettings,
 ) -> Status
-    requires { HasExecutors settings.now }
+    requires { IsPlayable settings.now }
 {
     let trouble = Trouble::new();
     let inputs = Inputs {

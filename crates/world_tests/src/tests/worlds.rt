@@ -1,7 +1,8 @@
+ghost use Rattle.std.specs.Prelude.{◌≡◌};
 ghost use Rattle.world.specs.Openings.{IsNamedFor};
 
 use super::*;
-use commit_log::{Entry, Names};
+use commit_log::{Entry, Limits, Names};
 use history::{Event, EventAnswer};
 use machine::Plain;
 use requests::check;
@@ -9,7 +10,7 @@ use schema::Warehouse;
 use std::alloc::Global;
 use std::marker::Brand;
 use std::process::Abort;
-use world::{Opening, World};
+use world::{Opening, Setup, World};
 
 // Session 0 submits the payment. Then executor 0 has a Take and a Send, thirty times in turn.
 fn schedule(alloc: Global) -> Result<Vec<Event>, NoMemory> {
@@ -47,12 +48,14 @@ fn by_world<J: Names, R: Abort>(
     rt: &R,
     alloc: Global,
     tables: Tables,
+    setup: &Setup,
     opening: Opening,
     paid: Entry,
 ) -> Result<Tables, Fail>
     requires named { IsNamedFor J.LogNames J.GroupNames tables opening }
+    requires limit { opening.log.most ≡ setup.now.limits.log }
 {
-    let mut world = World::<J>::open(alloc, tables, 1, opening)?;
+    let mut world = World::<J>::open(alloc, tables, setup, opening)?;
     let answers = world.run(alloc, schedule(alloc)?.as_slice())?;
     assert_eq!(rt; answers.first(), Some(&EventAnswer::Accepted { age: 0 }));
     assert_eq!(rt; world.log(), [paid].as_slice());
@@ -65,8 +68,13 @@ fn a_world_runs_a_payment(rt: HostRuntime) -> Result<(), Fail> {
     let alloc = rt.alloc();
     let (paid, row) = by_machine(alloc, warehouses(alloc, 1)?)?;
     let tables = warehouses(alloc, 1)?;
-    let opening = Opening::open(alloc, &tables)?;
-    let tables = by_world::<Brand, HostRuntime>(&rt, alloc, tables, opening, paid)?;
+    let setup = Setup {
+        executors: 1,
+        limits: Limits::greatest(),
+    };
+    let (log_limit, _) = setup.limits.checked().ok_or("limits")?;
+    let opening = Opening::open(alloc, &tables, log_limit)?;
+    let tables = by_world::<Brand, HostRuntime>(&rt, alloc, tables, &setup, opening, paid)?;
     assert!(rt; row.is_some());
     assert_eq!(rt; tables.warehouse(1), row.as_ref());
     Ok(())

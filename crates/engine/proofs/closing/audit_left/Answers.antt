@@ -4,6 +4,7 @@ use Rattle.requests.specs.declared.request.Request.{Request}
 use Rattle.requests.specs.declared.refusal.Refusal.{Refusal}
 use Rattle.commit_log.specs.declared.entry.Entry.{Entry}
 use Rattle.commit_log.specs.Items.{items_of}
+use Rattle.engine.specs.Rules.{rules_of}
 use Rattle.engine.specs.Served.{Served}
 use Rattle.engine.specs.declared.session.Left.{Left}
 use Rattle.engine.proofs.Sessions.{asked_next, each_next}
@@ -12,7 +13,7 @@ use Rattle.engine.proofs.closing.audit_left.Goals as goal
 -- one more session, which asked the script at its place
 pub loop-session-preserved : goal.loop-session-preserved
 loop-session-preserved g c =
-    let scale = g.J.LogNames.opening.scale in
+    let own = rules_of g.J.LogNames.opening g.J.LogNames.most in
     let known = c.loop-session.invariant in
     let one = c.in-Some.session in
     let rest = c.next.new.self.rest.items in
@@ -29,9 +30,9 @@ loop-session-preserved g c =
     ap length known.so_far.3 ∙ length-append before (map answers done) ∙ ap (λ n. first + n) (length-map done answers) in
     let place = length c.loop-session.answers.items in
     let number : c.len-in-loop-session.result ≡ place = omega (arith, c.len-in-loop-session.ensures, c.loop-session.answers.ok.0) in
-    let served = subst (λ (l : List Entry). Served scale recorded.script recorded.recorded (items_of place l) (length l)) known.same
-    (subst (λ (n : ℕ). Served scale recorded.script recorded.recorded (items_of n c.loop-session.log) (length c.loop-session.log)) number
-    (subst (λ (rs : List Request). Served scale rs recorded.recorded (items_of c.len-in-loop-session.result c.loop-session.log) (length c.loop-session.log)) (sym recorded.ensures.asked) recorded.ensures.served)) in
+    let served = subst (λ (l : List Entry). Served own recorded.script recorded.recorded (items_of place l) (length l)) known.same
+    (subst (λ (n : ℕ). Served own recorded.script recorded.recorded (items_of n c.loop-session.log) (length c.loop-session.log)) number
+    (subst (λ (rs : List Request). Served own rs recorded.recorded (items_of c.len-in-loop-session.result c.loop-session.log) (length c.loop-session.log)) (sym recorded.ensures.asked) recorded.ensures.served)) in
     record {
       can_next = tt;
       finite = tt;
@@ -43,7 +44,7 @@ loop-session-preserved g c =
             ∙ ap (λ (l : List (List (Result ℕ Refusal))). before ++ l) (ap (λ (s : List (Result ℕ Refusal)). map answers done ++ s ∷ []) recorded.ensures.recorded ∙ sym (map-append answers done (one ∷ []))),
       );
       each = λ scripts behind before.
-          each_next scale scripts c.args.log.now c.loop-session.answers.items c.put-in-loop-session.new.items.items place recorded.script recorded.recorded (known.each scripts behind before) refl
+          each_next own scripts c.args.log.now c.loop-session.answers.items c.put-in-loop-session.new.items.items place recorded.script recorded.recorded (known.each scripts behind before) refl
           (ap (λ (n : ℕ). slice_get scripts n) many ∙ asked_next first scripts left done rest one all behind ∙ ap Some (sym recorded.ensures.asked)) served c.in_ok-put-2.ensures;
       same = recorded.ensures.same ∙ known.same;
     }

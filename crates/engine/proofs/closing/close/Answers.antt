@@ -6,6 +6,7 @@ use Rattle.machine.specs.Machine.{tables_after}
 use Rattle.commit_log.specs.declared.entry.Entry.{Entry}
 use Rattle.commit_log.specs.Log.{requests_of}
 use Rattle.slices.specs.SliceView.{AreSlicesOf}
+use Rattle.engine.specs.Rules.{rules_of}
 use Rattle.engine.specs.Interactive.{recorded_by}
 use Rattle.engine.specs.Served.{ServedEach}
 use Rattle.engine.specs.Sessions.{AreAskedFrom}
@@ -42,13 +43,13 @@ returns g c =
     let count : length c.audit_left.new.answers.items ≡ length (scripts ++ asked) = omega (arith, recorded, recorded_each, served.count, many, both) in
     let behind : AreAskedFrom (length answers) (scripts ++ asked) interactive =
     subst (λ (rest : List (List Request)). AreAskedFrom (length answers) (scripts ++ rest) interactive) (sym left.asked) (asked_behind scripts interactive (length answers) served.count) in
-    let among = subst (λ (l : List Entry). ServedEach opening.scale (scripts ++ asked) l answers) (sym served.same) (served_among opening.scale scripts asked c.into_inner-log.result answers served.count served.each) in
-    let each = subst (λ (l : List Entry). ServedEach opening.scale (scripts ++ asked) l c.audit_left.new.answers.items) served.same (left.each (scripts ++ asked) behind among) in
+    let among = subst (λ (l : List Entry). ServedEach (rules_of opening g.J.LogNames.most) (scripts ++ asked) l answers) (sym served.same) (served_among (rules_of opening g.J.LogNames.most) scripts asked c.into_inner-log.result answers served.count served.each) in
+    let each = subst (λ (l : List Entry). ServedEach (rules_of opening g.J.LogNames.most) (scripts ++ asked) l c.audit_left.new.answers.items) served.same (left.each (scripts ++ asked) behind among) in
     record {
-      outcome = closed opening (scripts ++ asked) c.audit_left.new.answers.items c.into_inner-log.result c.audit_left.new.log c.audit_idle.new.log c.settle_all.new.log c.into_entries.result.items
+      outcome = closed opening g.J.LogNames.most (scripts ++ asked) c.audit_left.new.answers.items c.into_inner-log.result c.audit_left.new.log c.audit_idle.new.log c.settle_all.new.log c.into_entries.result.items
           c.args.catalog c.in_ok-slices.slices.items c.in_ok-tables.tables c.requires.catalog c.requires.within
           (left.same ∙ served.same) idle.same settled.same c.into_entries.ensures count each (λ s from low. idle.none s (omega (arith, from, both, all)) low) settled.settled c.in_ok-tables.ensures c.scale.ensures.within
-          log.legal log.accepted log.sessions;
+          log.legal log.accepted log.sessions log.few;
       asked = left.asked;
       recorded = ap (drop (length scripts)) left.recorded ∙ drop_at answers (recorded_by interactive) (length scripts) served.count;
       all = all;

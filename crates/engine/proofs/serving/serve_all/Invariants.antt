@@ -9,6 +9,7 @@ use Rattle.engine.proofs.serving.serve_all.Given as goal
 abbrev pub ghosts-serve_from-J-LogNames : goal.ghosts-serve_from-J-LogNames
 ghosts-serve_from-J-LogNames g a = record {
   opening = a.tables;
+  most = a.opening.log.most;
   length = a.opening.log.length;
   mine = table_of a.opening.log.mine;
   asks = table_of a.opening.log.asks;

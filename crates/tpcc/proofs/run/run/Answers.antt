@@ -24,15 +24,15 @@ returns-in-Err-clause-fault g c =
     let opening = c.in_ok-opening.opening in
     let moves = c.in_ok-moves.moves.items in
     let IsFault : List MoveOrder → Type 0 = λ l. IsFaultOf opening executors l c.in-Err.fault in
-    let is = subst IsFault c.as_slice-3.ensures.value c.in-Err.ensures.fault in
+    let is = subst IsFault c.as_slice-2.ensures.value c.in-Err.ensures.fault in
     inr (inl (subst (IsOfServing source executors moving) (sym c.of_serving.ensures)
     (of_tables source executors moving opening moves c.in-Err.fault c.in_ok-opening.ensures.tables c.in_ok-moves.ensures.moves is)))
 
 pub hand_out-requires-clause-few : goal.hand_out-requires-clause-few
 hand_out-requires-clause-few g c =
     let answers = c.in-Ok.outcome.answers.items in
-    let asked : length answers ≡ length c.as_slice-2.result.now = same_count answers c.as_slice-2.result.now c.in-Ok.ensures.outcome.answered in
-    let scripts : length c.as_slice-2.result.now ≡ length c.in_ok-scripts.scripts.items = ap length c.as_slice-2.ensures.value in
+    let asked : length answers ≡ length c.as_slice-3.result.now = same_count answers c.as_slice-3.result.now c.in-Ok.ensures.outcome.answered in
+    let scripts : length c.as_slice-3.result.now ≡ length c.in_ok-scripts.scripts.items = ap length c.as_slice-3.ensures.value in
     let paths : length c.in_ok-scripts.scripts.items ≡ length c.args.settings.now.scripts.items = c.in_ok-scripts.ensures.count ∙ ap length c.deref.ensures.value in
     let few : length c.args.settings.now.scripts.items ≤ SESSIONS = c.requires.limits.0.1 in
     omega arith
@@ -40,7 +40,7 @@ hand_out-requires-clause-few g c =
 pub hand_out-requires-clause-placed : goal.hand_out-requires-clause-placed
 hand_out-requires-clause-placed g c =
     let outcome = c.in-Ok.outcome in
-    outcome_in_log c.in_ok-opening.opening c.as_slice-2.result.now outcome.log.items outcome.tables outcome.answers.items c.in-Ok.ensures.outcome
+    outcome_in_log c.in_ok-opening.opening c.args.settings.now.log_limit c.as_slice-3.result.now outcome.log.items outcome.tables outcome.answers.items c.in-Ok.ensures.outcome
 
 pub returns-in_err-hand_out-clause-some : goal.returns-in_err-hand_out-clause-some
 returns-in_err-hand_out-clause-some g c =
@@ -48,22 +48,22 @@ returns-in_err-hand_out-clause-some g c =
     let log = c.in-Ok.outcome.log.items in
     let last = c.in-Ok.outcome.tables in
     let answers = c.in-Ok.outcome.answers.items in
-    let Serves : List (List Request) → Type 0 = λ l. IsOutcome opening l log last answers in
+    let Serves : List (List Request) → Type 0 = λ l. IsOutcome opening c.args.settings.now.log_limit l log last answers in
     let Within : List MoveOrder → Type 0 = AreWithin opening c.args.settings.now.executors in
     let texts = texts_of (g.D.Input.remaining c.args.data) (map g.S.Input.remaining c.args.scripts.now) (option_map g.S.Input.remaining c.args.moves) in
-    let are : AreServed c.args.settings.now.executors texts log last answers = record {
+    let are : AreServed c.args.settings.now texts log last answers = record {
       opening = opening;
       is_dataset = c.in_ok-opening.ensures.tables;
       consistent = c.in-Ok.ensures.consistent;
       moves = c.in_ok-moves.moves.items;
       are_moves = c.in_ok-moves.ensures.moves;
-      within = subst Within c.as_slice-3.ensures.value c.in-Ok.ensures.within;
+      within = subst Within c.as_slice-2.ensures.value c.in-Ok.ensures.within;
       scripts = c.in_ok-scripts.scripts.items;
       are_scripts = c.in_ok-scripts.ensures.scripts;
-      outcome = subst Serves c.as_slice-2.ensures.value c.in-Ok.ensures.outcome;
+      outcome = subst Serves c.as_slice-3.ensures.value c.in-Ok.ensures.outcome;
     } in
     let output = output_of g.A.Write.contents c.args.answers.now c.hand_out.new.answers g.N.OutputFiles.named c.args.output_files.now c.hand_out.new.output_files in
-    let some : ServesSome g.F.Write.contents c.args.settings.now.executors texts (run_outputs c.args.log c.args.tables) output = inr (log, last, answers, are, c.in_err-hand_out.ensures.some) in
+    let some : ServesSome g.F.Write.contents c.args.settings.now texts (run_outputs c.args.log c.args.tables) output = inr (log, last, answers, are, c.in_err-hand_out.ensures.some) in
     on_any_err c.from_residual-in_err-hand_out.result some
 
 pub returns-clause-serves : goal.returns-clause-serves
@@ -72,19 +72,19 @@ returns-clause-serves g c =
     let log = c.in-Ok.outcome.log.items in
     let last = c.in-Ok.outcome.tables in
     let answers = c.in-Ok.outcome.answers.items in
-    let Serves : List (List Request) → Type 0 = λ l. IsOutcome opening l log last answers in
+    let Serves : List (List Request) → Type 0 = λ l. IsOutcome opening c.args.settings.now.log_limit l log last answers in
     let Within : List MoveOrder → Type 0 = AreWithin opening c.args.settings.now.executors in
     let texts = texts_of (g.D.Input.remaining c.args.data) (map g.S.Input.remaining c.args.scripts.now) (option_map g.S.Input.remaining c.args.moves) in
-    let are : AreServed c.args.settings.now.executors texts log last answers = record {
+    let are : AreServed c.args.settings.now texts log last answers = record {
       opening = opening;
       is_dataset = c.in_ok-opening.ensures.tables;
       consistent = c.in-Ok.ensures.consistent;
       moves = c.in_ok-moves.moves.items;
       are_moves = c.in_ok-moves.ensures.moves;
-      within = subst Within c.as_slice-3.ensures.value c.in-Ok.ensures.within;
+      within = subst Within c.as_slice-2.ensures.value c.in-Ok.ensures.within;
       scripts = c.in_ok-scripts.scripts.items;
       are_scripts = c.in_ok-scripts.ensures.scripts;
-      outcome = subst Serves c.as_slice-2.ensures.value c.in-Ok.ensures.outcome;
+      outcome = subst Serves c.as_slice-3.ensures.value c.in-Ok.ensures.outcome;
     } in
     record {
       log = log;

@@ -1,17 +1,19 @@
 use Rattle.std.proofs.Common.{◌⊎◌, ℕ, List, Option, inl, inr, is_some, sym, subst, ◌∙◌}
 use Rattle.std.proofs.lemmas.Result.{err_from_is_err_and, IfErr-weaker, on_err_weaker, on_ok_weaker}
 use Rattle.commit_log.specs.declared.entry.Entry.{Entry}
+use Rattle.history.specs.declared.schedule.LockChange.{LockChange}
 use Rattle.history.specs.declared.schedule.Output.{Output}
 use Rattle.files.specs.Sending.{BeginsToWrite, OfFirst, Writes}
 use Rattle.files.proofs.Sent.{on_any_err}
 use Rattle.terminals.specs.LogRecord.{IsLog}
-use Rattle.terminals.specs.Outputs.{AreOutputs, NameEntries}
+use Rattle.terminals.specs.LockChanges.{AreLines, lines}
+use Rattle.terminals.specs.Outputs.{NameEntries}
 use Rattle.tpcc.specs.declared.command_fault.CommandFault.{CommandFault}
 use Rattle.tpcc.specs.EarlyEnds.{IsOfGathering, IsOfShowing}
 use Rattle.tpcc.specs.Edges.{HasWritten, NamesFile}
 use Rattle.tpcc.specs.Faults.{IsOfWritingSome}
 use Rattle.tpcc.specs.Effects.{output_of}
-use Rattle.tpcc.specs.Sim.{NamesPicture, ShowsSome, played_schedule, sim_outputs}
+use Rattle.tpcc.specs.Sim.{NamesPicture, ShowsSome, lines_of, played_schedule, setup_of, sim_outputs}
 use Rattle.tpcc.proofs.FaultsOfSources.{log_or_output, of_printing}
 use Rattle.tpcc.proofs.FileNames.{names_written, printed_well}
 use Rattle.tpcc.proofs.SimulationEnds.{all-first, no_output}
@@ -28,7 +30,7 @@ pub returns-in_err-log-clause-some : goal.returns-in_err-log-clause-some
 returns-in_err-log-clause-some g c =
     let before = g.A.Write.contents c.args.reported.now in
     let output = output_of g.A.Write.contents c.args.reported.now c.args.reported.now g.N.OutputFiles.named c.args.output_files.now c.write_entries.new.output_files in
-    let some : ShowsSome g.F.Write.contents c.args.settings.now.executors c.args.schedule.now c.args.simulation.now (sim_outputs c.args.log c.args.picture c.args.tables) output = inl (no_output before c.args.simulation.now.log.items c.args.simulation.now.outputs.items, c.in_err-log.ensures.same) in
+    let some : ShowsSome g.F.Write.contents (setup_of c.args.settings.now) c.args.schedule.now c.args.simulation.now (sim_outputs c.args.log c.args.picture c.args.tables) output = inl (no_output before c.args.simulation.now.log.items (lines_of c.args.simulation.now), c.in_err-log.ensures.same) in
     on_any_err c.from_residual.result some
 
 -- not all was printed, or the log has not got its name
@@ -37,10 +39,10 @@ returns-in_err-name_printed-clause-some g c =
     let before = g.A.Write.contents c.args.reported.now in
     let after = g.A.Write.contents c.print_outputs-printed.new.sink in
     let output = output_of g.A.Write.contents c.args.reported.now c.print_outputs-printed.new.sink g.N.OutputFiles.named c.args.output_files.now c.name_printed.new.output_files in
-    let printed : BeginsToWrite before after (OfFirst (AreOutputs c.args.simulation.now.log.items) c.args.simulation.now.outputs.items) =
-    subst (λ (reported : List Entry × List Output). BeginsToWrite before after (OfFirst (AreOutputs reported.0) reported.1)) (λ i. (c.as_slice-entries.ensures.value i, c.as_slice-outputs.ensures.value i))
-    (all_or_some c.print_outputs-printed.result before after _ _ (all-first c.as_slice-entries.result.now c.as_slice-outputs.result.now) c.print_outputs-printed.ensures.printed c.print_outputs-printed.ensures.begun) in
-    let some : ShowsSome g.F.Write.contents c.args.settings.now.executors c.args.schedule.now c.args.simulation.now (sim_outputs c.args.log c.args.picture c.args.tables) output = inl (printed, c.in_err-name_printed.ensures.err ∙ c.in_ok-log.ensures.same) in
+    let printed : BeginsToWrite before after (OfFirst (AreLines c.args.simulation.now.log.items) (lines_of c.args.simulation.now)) =
+    subst (λ (reported : List Entry × (List Output × List LockChange)). BeginsToWrite before after (OfFirst (AreLines reported.0) (lines 0 reported.1.0 reported.1.1))) (λ i. (c.as_slice-entries.ensures.value i, (c.as_slice-outputs.ensures.value i, c.as_slice-locks.ensures.value i)))
+    (all_or_some c.print_outputs-printed.result before after _ _ (all-first c.as_slice-entries.result.now (lines 0 c.as_slice-outputs.result.now c.as_slice-locks.result.now)) c.print_outputs-printed.ensures.printed c.print_outputs-printed.ensures.begun) in
+    let some : ShowsSome g.F.Write.contents (setup_of c.args.settings.now) c.args.schedule.now c.args.simulation.now (sim_outputs c.args.log c.args.picture c.args.tables) output = inl (printed, c.in_err-name_printed.ensures.err ∙ c.in_ok-log.ensures.same) in
     on_any_err c.from_residual-in_err-name_printed.result some
 
 -- the picture was not drawn
@@ -50,15 +52,15 @@ returns-in_err-draw-clause-some g c =
     let after = g.A.Write.contents c.print_outputs-printed.new.sink in
     let names = g.N.OutputFiles.named in
     let log = c.args.simulation.now.log.items in
-    let Prints : List Entry × List Output → Type 0 = λ (reported : List Entry × List Output). Writes before after (AreOutputs reported.0 reported.1) in
-    let printed = subst Prints (λ i. (c.as_slice-entries.ensures.value i, c.as_slice-outputs.ensures.value i)) (printed_well c.print_outputs-printed.result tt c.in_ok-name_printed.ensures.printed c.print_outputs-printed.ensures.printed) in
+    let Prints : List Entry × (List Output × List LockChange) → Type 0 = λ (reported : List Entry × (List Output × List LockChange)). Writes before after (AreLines reported.0 (lines 0 reported.1.0 reported.1.1)) in
+    let printed = subst Prints (λ i. (c.as_slice-entries.ensures.value i, (c.as_slice-outputs.ensures.value i, c.as_slice-locks.ensures.value i))) (printed_well c.print_outputs-printed.result tt c.in_ok-name_printed.ensures.printed c.print_outputs-printed.ensures.printed) in
     let Logs : List Entry → Type 0 = λ l. HasWritten g.F.Write.contents c.args.log (IsLog l) c.in_ok-log.log in
     let with_log = names c.name_printed.new.output_files in
     let logged : NamesFile g.F.Write.contents c.args.log (names c.args.output_files.now) with_log (IsLog log) =
     names_written g.F.Write.contents c.args.log (IsLog log) c.in_ok-log.log (names c.args.output_files.now) (names c.write_entries.new.output_files) with_log
     c.in_ok-log.ensures.same (subst Logs c.as_slice-entries.ensures.value c.in_ok-log.ensures.written) c.in_ok-name_printed.ensures.named in
     let output = output_of g.A.Write.contents c.args.reported.now c.print_outputs-printed.new.sink g.N.OutputFiles.named c.args.output_files.now c.draw.new.output_files in
-    let some : ShowsSome g.F.Write.contents c.args.settings.now.executors c.args.schedule.now c.args.simulation.now (sim_outputs c.args.log c.args.picture c.args.tables) output = inr (printed, with_log, logged, inl c.in_err-draw.ensures.err) in
+    let some : ShowsSome g.F.Write.contents (setup_of c.args.settings.now) c.args.schedule.now c.args.simulation.now (sim_outputs c.args.log c.args.picture c.args.tables) output = inr (printed, with_log, logged, inl c.in_err-draw.ensures.err) in
     on_any_err c.from_residual-in_err-draw.result some
 
 -- the tables were not written
@@ -68,8 +70,8 @@ returns-clause-some g c =
     let after = g.A.Write.contents c.print_outputs-printed.new.sink in
     let names = g.N.OutputFiles.named in
     let log = c.args.simulation.now.log.items in
-    let Prints : List Entry × List Output → Type 0 = λ (reported : List Entry × List Output). Writes before after (AreOutputs reported.0 reported.1) in
-    let printed = subst Prints (λ i. (c.as_slice-entries.ensures.value i, c.as_slice-outputs.ensures.value i)) (printed_well c.print_outputs-printed.result tt c.in_ok-name_printed.ensures.printed c.print_outputs-printed.ensures.printed) in
+    let Prints : List Entry × (List Output × List LockChange) → Type 0 = λ (reported : List Entry × (List Output × List LockChange)). Writes before after (AreLines reported.0 (lines 0 reported.1.0 reported.1.1)) in
+    let printed = subst Prints (λ i. (c.as_slice-entries.ensures.value i, (c.as_slice-outputs.ensures.value i, c.as_slice-locks.ensures.value i))) (printed_well c.print_outputs-printed.result tt c.in_ok-name_printed.ensures.printed c.print_outputs-printed.ensures.printed) in
     let Logs : List Entry → Type 0 = λ l. HasWritten g.F.Write.contents c.args.log (IsLog l) c.in_ok-log.log in
     let with_log = names c.name_printed.new.output_files in
     let logged : NamesFile g.F.Write.contents c.args.log (names c.args.output_files.now) with_log (IsLog log) =
@@ -86,12 +88,12 @@ returns-clause-all g c =
     let after = g.A.Write.contents c.print_outputs-printed.new.sink in
     let names = g.N.OutputFiles.named in
     let log = c.args.simulation.now.log.items in
-    let Prints : List Entry × List Output → Type 0 = λ (reported : List Entry × List Output). Writes before after (AreOutputs reported.0 reported.1) in
+    let Prints : List Entry × (List Output × List LockChange) → Type 0 = λ (reported : List Entry × (List Output × List LockChange)). Writes before after (AreLines reported.0 (lines 0 reported.1.0 reported.1.1)) in
     let Logs : List Entry → Type 0 = λ l. HasWritten g.F.Write.contents c.args.log (IsLog l) c.in_ok-log.log in
     let with_log = names c.name_printed.new.output_files in
     let Draws : List Entry × List Output → Type 0 = λ (reported : List Entry × List Output). NamesPicture g.F.Write.contents c.args.picture with_log (names c.draw.new.output_files) (played_schedule c.args.settings.now.executors c.args.schedule.now reported.1 reported.0) in
     on_ok_weaker c.name_gathered.result (λ gathered. record {
-      printed = subst Prints (λ i. (c.as_slice-entries.ensures.value i, c.as_slice-outputs.ensures.value i)) (printed_well c.print_outputs-printed.result tt c.in_ok-name_printed.ensures.printed c.print_outputs-printed.ensures.printed);
+      printed = subst Prints (λ i. (c.as_slice-entries.ensures.value i, (c.as_slice-outputs.ensures.value i, c.as_slice-locks.ensures.value i))) (printed_well c.print_outputs-printed.result tt c.in_ok-name_printed.ensures.printed c.print_outputs-printed.ensures.printed);
       with_log = with_log;
       with_picture = names c.draw.new.output_files;
       logged = names_written g.F.Write.contents c.args.log (IsLog log) c.in_ok-log.log (names c.args.output_files.now) (names c.write_entries.new.output_files) with_log

@@ -9,6 +9,7 @@ use Rattle.world.proofs.simulating.simulate.Given as goal
 abbrev pub ghosts-simulate_from-J-LogNames : goal.ghosts-simulate_from-J-LogNames
 ghosts-simulate_from-J-LogNames a = record {
   opening = a.tables;
+  most = a.opening.log.most;
   length = a.opening.log.length;
   mine = table_of a.opening.log.mine;
   asks = table_of a.opening.log.asks;

@@ -6,7 +6,7 @@ use Rattle.world.specs.Worlds.{count_busy, tables_now}
 use Rattle.world.proofs.simulating.simulate_in.Goals as goal
 
 pub returns-clause-simulates : goal.returns-clause-simulates
-returns-clause-simulates g c = λ opening executors new fits.
+returns-clause-simulates g c = λ opening setup new fits.
     let played = c.in_ok-outputs.ensures.plays in
     let last = c.play.new.self in
     let after = played.1.1.1 opening [] fits in

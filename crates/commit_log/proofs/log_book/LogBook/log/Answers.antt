@@ -1,9 +1,8 @@
 use Rattle.std.proofs.Common.{◌≡◌, ◌+◌, ◌<◌, List, [], ◌∷◌, ◌++◌, length, set, sym, ap, ◌∙◌, subst}
-use Rattle.rows.specs.declared.limits.TheConstants.{MOST_ENTRIES}
 use Rattle.length_word.specs.LengthView.{length_view}
 use Rattle.commit_log.specs.declared.entry.Entry.{Entry}
 use Rattle.commit_log.specs.Items.{entry_of, item, items_of, mine_of}
-use Rattle.commit_log.specs.Kept.{IsBookOf, seat_at}
+use Rattle.commit_log.specs.Kept.{IsBookOf, book_names, seat_at}
 use Rattle.commit_log.proofs.Booking.{book_more, recorded}
 use Rattle.commit_log.proofs.log_book.LogBook.log.Goals as goal
 
@@ -31,6 +30,6 @@ invariant_of-self g c =
     c.note.ensures.log
     ∙ ap (λ t. seat_at t.agreement.table (mine_of (t.value.items ++ item c.entries-place.result c.args.number c.args.request c.args.reply ∷ []))) recorded
     ∙ ap (λ n. seat_at (g.J.LogNames.mine session) (mine_of (items_of session entries ++ item n c.args.number c.args.request c.args.reply ∷ []))) place in
-    let below : length entries < MOST_ENTRIES = subst (λ b. length b.entries < MOST_ENTRIES) (sym c.self.view_is) c.requires.below in
-    subst (λ (es : List Entry). IsBookOf g.J.LogNames.length g.J.LogNames.mine es c.reach_one_more.new.length (set c.self.inside.mine.items session c.note.new.log)) (sym c.push_reserved.ensures.items)
+    let below : length entries < c.self.inside.most = subst (λ n. length entries < n) (sym book.limit) (subst (λ b. length b.entries < g.J.LogNames.most) (sym c.self.view_is) c.requires.below) in
+    subst (λ (es : List Entry). IsBookOf (book_names g.J.LogNames.most g.J.LogNames.length g.J.LogNames.mine) c.self.inside.most es c.reach_one_more.new.length (set c.self.inside.mine.items session c.note.new.log)) (sym c.push_reserved.ensures.items)
     (book_more _ _ _ _ _ book entry c.note.new.log c.reach_one_more.new.length c.pass.invariant.some_session below longer seat)

@@ -1,6 +1,6 @@
-use Rattle.std.proofs.Common.{List, length, vec_len, sym, ap, ◌∙◌, subst, arith}
+use Rattle.std.proofs.Common.{◌≡◌, List, length, vec_len, sym, ap, ◌∙◌, subst, arith}
 use Rattle.commit_log.specs.declared.entry.Entry.{Entry}
-use Rattle.commit_log.specs.Kept.{IsBookOf}
+use Rattle.commit_log.specs.Kept.{IsBookOf, book_names}
 use Rattle.commit_log.specs.LogTables.{table_of}
 use Rattle.commit_log.proofs.Opening.{LanesFrom, AreNew, lanes_named, book_new, made_is_new, one_session_more}
 use Rattle.commit_log.proofs.log_book.LogBook.open.Goals as goal
@@ -50,5 +50,7 @@ invariant_of-book g c =
     let named = lanes_named seats.length seats.mine.items seats.lanes.items c.seats.invariant g.J.LogNames.length g.J.LogNames.mine g.J.LogNames.asks same
     (λ k h. c.requires.mine k h ∙ sym (ap (λ s. table_of s.mine k) is))
     (λ k h. c.requires.asks k h ∙ sym (ap (λ s. table_of s.asks k) is)) in
-    subst (λ (es : List Entry). IsBookOf g.J.LogNames.length g.J.LogNames.mine es seats.length seats.mine.items) (sym c.new.ensures.items)
-    (book_new seats.length seats.mine.items seats.lanes.items c.seats.invariant g.J.LogNames.length g.J.LogNames.mine g.J.LogNames.asks same named)
+    let names = book_names g.J.LogNames.most g.J.LogNames.length g.J.LogNames.mine in
+    let limit : c.get.result ≡ g.J.LogNames.most = c.get.ensures.value ∙ ap (λ s. s.most) is ∙ sym c.requires.most in
+    subst (λ (es : List Entry). IsBookOf names c.get.result es seats.length seats.mine.items) (sym c.new.ensures.items)
+    (book_new seats.length seats.mine.items seats.lanes.items c.seats.invariant names c.get.result g.J.LogNames.asks limit (omega (arith, c.get.ensures)) same named)

@@ -1,5 +1,6 @@
 use Rattle.std.proofs.Common.{◌≡◌, length, Some, slice_get, ap, subst, sym, ◌∙◌, arith, vec_capacity}
 use Rattle.std.proofs.lemmas.Option.{slice_get_within}
+use Rattle.engine.specs.Rules.{rules_of}
 use Rattle.engine.specs.Asking.{ReadyView}
 use Rattle.engine.proofs.Asked.{asks_next}
 use Rattle.engine.proofs.asking.Ready.ask.Goals as goal
@@ -16,12 +17,12 @@ pub invariant_of-asked : goal.invariant_of-asked
 invariant_of-asked g c =
     let own = c.self.inside in
     let next = subst (λ (s : ReadyView). slice_get s.script (length s.answers) ≡ Some c.args.request.now) (sym c.self.view_is) c.requires.request in
-    asks_next g.J.LogNames.opening.scale g.J.ServeNames.scripts own.script.now own.seat c.ask.new.self own.pass own.answers.items (vec_capacity own.answers) _ own.is_full c.args.request.now c.self.invariant
+    asks_next (rules_of g.J.LogNames.opening g.J.LogNames.most) g.J.ServeNames.scripts own.script.now own.seat c.ask.new.self own.pass own.answers.items (vec_capacity own.answers) _ own.is_full c.args.request.now c.self.invariant
     (ap (λ (s : ReadyView). s.is_full) c.self.view_is ∙ c.requires.open) next c.requires.accepted (omega (arith, c.len-number.ensures, own.answers.ok.0)) c.ask.ensures.seat
 
 pub invariant_of-asked-in-Err : goal.invariant_of-asked-in-Err
 invariant_of-asked-in-Err g c =
     let own = c.self.inside in
     let next = subst (λ (s : ReadyView). slice_get s.script (length s.answers) ≡ Some c.args.request.now) (sym c.self.view_is) c.requires.request in
-    asks_next g.J.LogNames.opening.scale g.J.ServeNames.scripts own.script.now own.seat c.ask.new.self own.pass own.answers.items (vec_capacity own.answers) _ own.is_full c.args.request.now c.self.invariant
+    asks_next (rules_of g.J.LogNames.opening g.J.LogNames.most) g.J.ServeNames.scripts own.script.now own.seat c.ask.new.self own.pass own.answers.items (vec_capacity own.answers) _ own.is_full c.args.request.now c.self.invariant
     (ap (λ (s : ReadyView). s.is_full) c.self.view_is ∙ c.requires.open) next c.requires.accepted (omega (arith, c.len-number.ensures, own.answers.ok.0)) c.ask.ensures.seat

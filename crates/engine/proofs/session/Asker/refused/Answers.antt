@@ -1,4 +1,5 @@
 use Rattle.std.proofs.Common.{subst, sym}
+use Rattle.engine.specs.Rules.{rules_of}
 use Rattle.engine.specs.Asking.{known_of}
 use Rattle.engine.specs.Interactive.{AskerView}
 use Rattle.engine.specs.Outcome.{IsRefusal}
@@ -8,7 +9,7 @@ use Rattle.engine.proofs.session.Asker.refused.Goals as goal
 pub invariant_of-session : goal.invariant_of-session
 invariant_of-session g c =
     let own = c.self.inside in
-    let scale = g.J.LogNames.opening.scale in
-    let rightly = subst (λ (a : AskerView). IsRefusal scale (known_of a.before.is_full a.before.pass.reached) a.request c.args.refusal) (sym c.self.view_is) c.requires in
-    resting_refused scale own.requests.items own.seat own.pass own.answers.items own.is_full own.request c.args.refusal c.self.invariant.before rightly
+    let rules = rules_of g.J.LogNames.opening g.J.LogNames.most in
+    let rightly = subst (λ (a : AskerView). IsRefusal rules (known_of a.before.is_full a.before.pass.reached) a.request c.args.refusal) (sym c.self.view_is) c.requires in
+    resting_refused rules own.requests.items own.seat own.pass own.answers.items own.is_full own.request c.args.refusal c.self.invariant.before rightly
     c.push_reserved.new.self.items c.push_reserved-2.new.self.items c.push_reserved.ensures.items c.push_reserved-2.ensures.items

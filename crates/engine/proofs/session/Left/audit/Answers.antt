@@ -2,6 +2,7 @@ use Rattle.std.proofs.Common.{List, Result, ℕ, length, ap, subst, sym, ◌∙�
 use Rattle.requests.specs.declared.request.Request.{Request}
 use Rattle.requests.specs.declared.refusal.Refusal.{Refusal}
 use Rattle.commit_log.specs.Items.{items_of}
+use Rattle.engine.specs.Rules.{rules_of}
 use Rattle.engine.specs.Asking.{ReadyView}
 use Rattle.engine.specs.Served.{Served}
 use Rattle.engine.proofs.Answered.{resting_audited}
@@ -10,9 +11,9 @@ use Rattle.engine.proofs.session.Left.audit.Goals as goal
 pub returns-clause-served : goal.returns-clause-served
 returns-clause-served g c =
     let own = c.session.inside in
-    let scale = g.J.LogNames.opening.scale in
+    let rules = rules_of g.J.LogNames.opening g.J.LogNames.most in
     let log = c.args.log.now in
     let recorded = c.audit.ensures in
-    subst (λ (rs : List Request). Served scale rs c.of.result (items_of c.args.number log) (length log)) (ap (λ (s : ReadyView). s.script) c.session.view_is)
-    (subst (λ (all : List (Result ℕ Refusal)). Served scale own.requests.items all (items_of c.args.number log) (length log)) (sym c.of.ensures)
-    (resting_audited scale own.requests.items own.seat own.pass own.answers.items own.is_full c.args.number log c.session.invariant (sym c.session-2.ensures ∙ c.if-session-number.false) recorded.mine recorded.reached))
+    subst (λ (rs : List Request). Served rules rs c.of.result (items_of c.args.number log) (length log)) (ap (λ (s : ReadyView). s.script) c.session.view_is)
+    (subst (λ (all : List (Result ℕ Refusal)). Served rules own.requests.items all (items_of c.args.number log) (length log)) (sym c.of.ensures)
+    (resting_audited rules own.requests.items own.seat own.pass own.answers.items own.is_full c.args.number log c.session.invariant (sym c.session-2.ensures ∙ c.if-session-number.false) recorded.mine recorded.reached))

@@ -16,5 +16,5 @@ new-requires g c =
     let reply : c.take_reply.result ≡ t.body.value.reply = cc in
     let entry : entry_of c.session.result t.number c.take_request.result c.take_reply.result ≡ entry_committed own =
     λ i. entry_of (session i) t.number (request i) (reply i) in
-    gives own c.args.log.now c.log-answer.new.log c.log-answer.result c.log-answer.new.self c.self.invariant.undone
-    (subst (λ (e : Entry). Logs e t.pass (log_and_claims c.args.log.now c.self.inside.held) c.log-answer.result (log_and_claims c.log-answer.new.log c.log-answer.new.self)) entry c.log-answer.ensures)
+    gives g.J.LogNames.most own c.args.log.now c.log-answer.new.log c.log-answer.result c.log-answer.new.self c.self.invariant.undone
+    (subst (λ (e : Entry). Logs g.J.LogNames.most e t.pass (log_and_claims c.args.log.now c.self.inside.held) c.log-answer.result (log_and_claims c.log-answer.new.log c.log-answer.new.self)) entry c.log-answer.ensures)

@@ -72,8 +72,8 @@ pub following_of-requires-clause-may : goal.following_of-requires-clause-may
 following_of-requires-clause-may g c =
     let at = (goal.at.following_of-requires-clause-may g c).After-flow in
     let j = flow_of g at in
-    subst (λ (o : Option Refusal). IfSome o (MayBeRefused j.pass.reached j.request)) (sym c.sort_out-held.ensures.refusal)
-    (may_be_refused (shared_of g.J.LogNames.opening) j (rans_of g at) c.start-start.result.refusal c.claims_are_of_the_footprint.ensures.some c.flow.invariant (are g at) c.start-start.ensures.refusal)
+    subst (λ (o : Option Refusal). IfSome o (MayBeRefused g.J.LogNames.most j.pass.reached j.request)) (sym c.sort_out-held.ensures.refusal)
+    (may_be_refused (shared_of g.J.LogNames.opening) g.J.LogNames.most j (rans_of g at) c.start-start.result.refusal c.claims_are_of_the_footprint.ensures.some c.flow.invariant (are g at) c.start-start.ensures.refusal)
 
 pub following_of-requires-clause-met : goal.following_of-requires-clause-met
 following_of-requires-clause-met g c =

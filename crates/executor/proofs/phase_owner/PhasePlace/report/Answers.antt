@@ -10,8 +10,8 @@ use Rattle.executor.specs.Carrying.{AreAllSaid, IsSaidAt}
 use Rattle.executor.proofs.phase_owner.PhasePlace.report.Goals as goal
 
 -- all reports are of the phase that the round is about
-pub returns-in-Last-clause-all : goal.returns-in-Last-clause-all
-returns-in-Last-clause-all g c =
+pub returns-clause-all : goal.returns-clause-all
+returns-clause-all g c =
     let J = g.row.J.Denot in
     let shared = shared_of g.J.LogNames.opening in
     let round = c.self.inside.place.of_round in

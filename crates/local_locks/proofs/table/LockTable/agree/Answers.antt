@@ -1,7 +1,9 @@
 use Rattle.std.proofs.Common.{subst}
 use Rattle.std.specs.Prelude.{All}
+use Rattle.local_locks.specs.Entries.{AreEntries}
 use Rattle.local_locks.specs.Laws.{NoneConflict, AreUntouched, CouldAsk, IsClaimOf}
 use Rattle.local_locks.specs.LockTableView.{AreStandsOf, LockTableView}
+use Rattle.local_locks.proofs.EntryReturns.{none_twice}
 use Rattle.local_locks.proofs.Opened.{claims_at_home, none_conflict, untouched, waiters_could_ask}
 use Rattle.local_locks.proofs.Stands.{stands_of}
 use Rattle.local_locks.proofs.table.LockTable.agree.Goals as goal
@@ -25,3 +27,8 @@ returns-clause-untouched g c =
 pub returns-clause-waiters : goal.returns-clause-waiters
 returns-clause-waiters g c =
     subst (λ (t : LockTableView). All (CouldAsk g.J.GroupNames.warehouses t.w_id) t.waiters) c.self.view_is (waiters_could_ask g.J.GroupNames.warehouses c.self.inside.w_id c.self.inside.waiters.items c.self.invariant.1)
+
+pub returns-clause-entries : goal.returns-clause-entries
+returns-clause-entries g c =
+    let entries = c.self.invariant.2 in
+    subst AreEntries c.self.view_is (record { used = entries.used; once = none_twice g.J.GroupNames.warehouses c.self.inside.w_id c.self.inside.locks.items c.self.inside.entries c.self.invariant.0 entries.inside c.are_once.ensures })

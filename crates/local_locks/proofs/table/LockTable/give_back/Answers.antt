@@ -5,6 +5,7 @@ use Rattle.std.proofs.lemmas.List.Elements.{All-head, All-tail}
 use Rattle.tickets.specs.Claims.{ClaimView}
 use Rattle.local_locks.specs.Asking.{all_kept_after, IsOfHome, IsSettled}
 use Rattle.local_locks.specs.LockTableView.{Stand}
+use Rattle.local_locks.proofs.EntryUses.{all_used, still_fewer}
 use Rattle.local_locks.proofs.Returns.{AreBack, all_back, all_out, none_back, one_back}
 use Rattle.local_locks.proofs.table.LockTable.give_back.Goals as goal
 
@@ -19,6 +20,7 @@ loop-claim-init g c =
       back = subst (λ (cs : List ClaimView). AreBack holdings c.args.claims.items cs holdings) (sym same) (none_back holdings c.args.claims.items);
       stands = ap (λ (cs : List ClaimView). all_kept_after cs c.args.self.now.stands) same;
       waiters = refl;
+      entries = sym (all_used holdings c.args.self.now.waiters c.args.self.now.entries c.agree.ensures.entries.used);
       warehouse = refl;
       home = subst (λ (cs : List ClaimView). All home cs) (sym same) c.requires.home;
       settled = subst (λ (cs : List ClaimView). All IsSettled cs) (sym same) c.requires.committed;
@@ -50,6 +52,7 @@ loop-claim-preserved g c =
           c.take_back.ensures.out c.take_back.ensures.holdings;
       stands = ap (λ (ss : List Stand). all_kept_after rest ss) c.take_back.ensures.stands ∙ sym (ap (λ (cs : List ClaimView). all_kept_after cs table.stands) listed) ∙ c.loop-claim.invariant.stands;
       waiters = c.take_back.ensures.waiters ∙ c.loop-claim.invariant.waiters;
+      entries = still_fewer claim table.holdings later.holdings table.waiters later.waiters before.entries table.entries later.entries c.loop-claim.invariant.entries c.take_back.ensures.out c.take_back.ensures.waiters c.take_back.ensures.entries;
       warehouse = c.take_back.ensures.warehouse ∙ c.loop-claim.invariant.warehouse;
       home = All-tail home claim rest (subst (λ (cs : List ClaimView). All home cs) listed c.loop-claim.invariant.home);
       settled = All-tail IsSettled claim rest (subst (λ (cs : List ClaimView). All IsSettled cs) listed c.loop-claim.invariant.settled);

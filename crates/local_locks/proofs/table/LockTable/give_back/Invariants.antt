@@ -1,6 +1,7 @@
 use Rattle.std.proofs.Common.{◌≡◌}
 use Rattle.std.specs.Prelude.{All}
 use Rattle.local_locks.specs.Asking.{all_kept_after, IsOfHome, IsSettled}
+use Rattle.local_locks.specs.Entries.{still_used}
 use Rattle.local_locks.proofs.Returns.{AreBack}
 use Rattle.local_locks.proofs.table.LockTable.give_back.Given as goal
 
@@ -12,6 +13,7 @@ invariant-loop-claim g l = record {
   back : AreBack l.fn.self.holdings l.fn.claims.items l.claim-iterator.rest.items l.self.holdings;
   stands : all_kept_after l.claim-iterator.rest.items l.self.stands ≡ all_kept_after l.fn.claims.items l.fn.self.stands;
   waiters : l.self.waiters ≡ l.fn.self.waiters;
+  entries : l.self.entries ≡ still_used l.self.holdings l.self.waiters l.fn.self.entries;
   warehouse : l.self.w_id ≡ l.fn.self.w_id;
   home : All (IsOfHome l.fn.self.w_id) l.claim-iterator.rest.items;
   settled : All IsSettled l.claim-iterator.rest.items;

@@ -13,9 +13,10 @@ use Rattle.wait_die.specs.declared.deciding.Holder.{Holder}
 use Rattle.local_locks.specs.declared.table.Asked.{Asked}
 use Rattle.local_locks.specs.declared.table.Turn.{Turn}
 use Rattle.local_locks.specs.Asking.{Answers, IsOfHome, IsSettled, TakesTurn, all_kept_after, leaving_in, waiting}
-use Rattle.local_locks.specs.LockTableView.{LockTableView, Stand, left_in}
+use Rattle.local_locks.specs.Entries.{entered}
+use Rattle.local_locks.specs.LockTableView.{LockTableView, Stand, WaitingAction, left_in}
 use Rattle.local_locks.specs.Trials.{Records}
-use Rattle.local_locks.proofs.Contents.{left_back, on_one, one_granted, only_one, only_set, only_settled, settled_is, turn_granted, waits_alone}
+use Rattle.local_locks.proofs.Contents.{left_back, on_one, one_granted, only_one, only_set, only_settled, settled_is, turn_granted}
 use Rattle.local_locks.proofs.tests.contents.read_after_write.Goals as goal
 
 abbrev payments : Group
@@ -32,6 +33,13 @@ reader = record { age = 0; place = 0 }
 
 here : IsGroupOf 1 payments
 here = ((omega arith, omega arith), (omega arith, omega arith))
+
+-- only the action that was asked last waits at a table where nobody waited before
+waits_alone : (start granted left asked idle back : LockTableView) (group : Group) (content : Content) (by : Holder) (wants : List Want) → start.waiters ≡ [] → granted.waiters ≡ start.waiters → left ≡ leaving_in granted group content
+    → asked ≡ record left { waiters = left.waiters ++ waiting by wants ∷ []; entries = entered wants left } → idle ≡ asked → back.waiters ≡ idle.waiters → back.waiters ≡ waiting by wants ∷ []
+waits_alone start granted left asked idle back group content by wants none same leave waits still returned =
+    let before : left.waiters ≡ [] = ap (λ (t : LockTableView). t.waiters) leave ∙ same ∙ none in
+    returned ∙ ap (λ (t : LockTableView). t.waiters) (still ∙ waits) ∙ ap (λ (ws : List WaitingAction). ws ++ waiting by wants ∷ []) before
 
 pub give_back-requires-clause-home : goal.give_back-requires-clause-home
 give_back-requires-clause-home g c =
@@ -69,7 +77,7 @@ index_mut-requires-2 g c =
     waits_alone c.in_ok-table.table c.ask.new.self c.leave.new.self c.ask-2.new.self c.next_grant.new.self c.give_back.new.self c.index_mut.result.now.group gone reader (c.one-want-2.result ∷ [])
     c.in_ok-table.ensures.idle first.1 c.leave.ensures.table waits.1 c.in-None.ensures.same c.give_back.ensures.waiters in
     let by = c.in-Some-Granted.field-0-1 in
-    let grants = turn_granted reader (c.one-want-2.result ∷ []) payments Shared c.in-Some-Granted.field-0-0 by c.give_back.new.self c.next_grant-2.new.self c.in-Some-Granted.read.items alone is turn in
+    let grants = turn_granted reader (c.one-want-2.result ∷ []) payments Shared c.in-Some-Granted.field-0-0 by c.give_back.new.self c.next_grant-2.new.self c.in-Some-Granted.read.items alone is (turn.0, turn.1, turn.2) in
     let y : ClaimView = fresh by payments Shared (left_in c.give_back.new.self.stands payments) in
     let recorded : c.in-Some-Granted.read.items ≡ y ∷ [] = one_granted by (on_one payments Shared ∷ []) payments Shared c.give_back.new.self c.next_grant-2.new.self c.in-Some-Granted.read.items refl grants in
     let long : length c.in-Some-Granted.read.items ≡ 1 = ap (λ (cs : List ClaimView). length cs) recorded in
@@ -85,7 +93,7 @@ look-requires-clause-here g c =
     waits_alone c.in_ok-table.table c.ask.new.self c.leave.new.self c.ask-2.new.self c.next_grant.new.self c.give_back.new.self c.index_mut.result.now.group gone reader (c.one-want-2.result ∷ [])
     c.in_ok-table.ensures.idle first.1 c.leave.ensures.table waits.1 c.in-None.ensures.same c.give_back.ensures.waiters in
     let by = c.in-Some-Granted.field-0-1 in
-    let grants = turn_granted reader (c.one-want-2.result ∷ []) payments Shared c.in-Some-Granted.field-0-0 by c.give_back.new.self c.next_grant-2.new.self c.in-Some-Granted.read.items alone is turn in
+    let grants = turn_granted reader (c.one-want-2.result ∷ []) payments Shared c.in-Some-Granted.field-0-0 by c.give_back.new.self c.next_grant-2.new.self c.in-Some-Granted.read.items alone is (turn.0, turn.1, turn.2) in
     let y : ClaimView = fresh by payments Shared (left_in c.give_back.new.self.stands payments) in
     let recorded : c.in-Some-Granted.read.items ≡ y ∷ [] = one_granted by (on_one payments Shared ∷ []) payments Shared c.give_back.new.self c.next_grant-2.new.self c.in-Some-Granted.read.items refl grants in
     let one : c.index_mut-2.result.now ≡ y = only_one c.in-Some-Granted.read.items y c.index_mut-2.result.now recorded c.index_mut-2.ensures.value in
@@ -103,7 +111,7 @@ look-requires-clause-shared g c =
     waits_alone c.in_ok-table.table c.ask.new.self c.leave.new.self c.ask-2.new.self c.next_grant.new.self c.give_back.new.self c.index_mut.result.now.group gone reader (c.one-want-2.result ∷ [])
     c.in_ok-table.ensures.idle first.1 c.leave.ensures.table waits.1 c.in-None.ensures.same c.give_back.ensures.waiters in
     let by = c.in-Some-Granted.field-0-1 in
-    let grants = turn_granted reader (c.one-want-2.result ∷ []) payments Shared c.in-Some-Granted.field-0-0 by c.give_back.new.self c.next_grant-2.new.self c.in-Some-Granted.read.items alone is turn in
+    let grants = turn_granted reader (c.one-want-2.result ∷ []) payments Shared c.in-Some-Granted.field-0-0 by c.give_back.new.self c.next_grant-2.new.self c.in-Some-Granted.read.items alone is (turn.0, turn.1, turn.2) in
     let y : ClaimView = fresh by payments Shared (left_in c.give_back.new.self.stands payments) in
     let recorded : c.in-Some-Granted.read.items ≡ y ∷ [] = one_granted by (on_one payments Shared ∷ []) payments Shared c.give_back.new.self c.next_grant-2.new.self c.in-Some-Granted.read.items refl grants in
     ap (λ (k : ClaimView). k.mode) (only_one c.in-Some-Granted.read.items y c.index_mut-2.result.now recorded c.index_mut-2.ensures.value)
@@ -121,7 +129,7 @@ returns g c =
     waits_alone c.in_ok-table.table c.ask.new.self c.leave.new.self c.ask-2.new.self c.next_grant.new.self c.give_back.new.self c.index_mut.result.now.group gone reader (c.one-want-2.result ∷ [])
     c.in_ok-table.ensures.idle first.1 c.leave.ensures.table waits.1 c.in-None.ensures.same c.give_back.ensures.waiters in
     let by = c.in-Some-Granted.field-0-1 in
-    let grants = turn_granted reader (c.one-want-2.result ∷ []) payments Shared c.in-Some-Granted.field-0-0 by c.give_back.new.self c.next_grant-2.new.self c.in-Some-Granted.read.items alone is turn in
+    let grants = turn_granted reader (c.one-want-2.result ∷ []) payments Shared c.in-Some-Granted.field-0-0 by c.give_back.new.self c.next_grant-2.new.self c.in-Some-Granted.read.items alone is (turn.0, turn.1, turn.2) in
     let y : ClaimView = fresh by payments Shared (left_in c.give_back.new.self.stands payments) in
     let recorded : c.in-Some-Granted.read.items ≡ y ∷ [] = one_granted by (on_one payments Shared ∷ []) payments Shared c.give_back.new.self c.next_grant-2.new.self c.in-Some-Granted.read.items refl grants in
     let one : c.index_mut-2.result.now ≡ y = only_one c.in-Some-Granted.read.items y c.index_mut-2.result.now recorded c.index_mut-2.ensures.value in

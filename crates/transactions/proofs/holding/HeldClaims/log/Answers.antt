@@ -1,4 +1,4 @@
-use Rattle.std.proofs.Common.{◌≡◌, ◌≤◌, ◌∙◌, ℕ, false, inl, inr, List, Ok, Err, length, map, ap, subst, arith}
+use Rattle.std.proofs.Common.{◌≡◌, ◌≤◌, ◌∙◌, false, inl, inr, List, Ok, Err, length, map, ap, subst, arith}
 use Rattle.std.proofs.Math.Nat.{lt_of_not-le}
 use Rattle.tickets.specs.Claims.{ClaimView}
 use Rattle.commit_log.specs.Claimed.{claims_logged}

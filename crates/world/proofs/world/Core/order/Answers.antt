@@ -1,4 +1,4 @@
-use Rattle.std.proofs.Common.{arith}
+use Rattle.std.proofs.Common.{ltb-true, sym, ◌∙◌}
 use Rattle.partitions.specs.Parts.{shared_of}
 use Rattle.history.specs.declared.event.Event.TheVariants.{Order}
 use Rattle.history.specs.declared.event.EventAnswer.TheVariants.{Nothing, Ordered}
@@ -15,7 +15,7 @@ ordered g c =
     let old = c.args.self.now in
     let order = c.args.order.now in
     let can = c.can_order.ensures.0 c.if-not-can_order.false in
-    let can_order : CanOrder order old = record { none = can.0; within = can.1; room = omega (arith, c.waiting.ensures, c.if-waiting-ge-INBOX.false) } in
+    let can_order : CanOrder order old = record { none = can.0; within = can.1; room = ltb-true _ _ (sym c.has_room.ensures.limit ∙ c.if-not-has_room.false) } in
     orders (shared_of g.J.LogNames.opening) old c.requires.sound order _ can_order (λ k. record old { placements = c.order.ensures k; inboxes = c.put.ensures k })
 
 pub returns-then-not-can_order-clause-advances : goal.returns-then-not-can_order-clause-advances

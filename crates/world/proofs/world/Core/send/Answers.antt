@@ -22,7 +22,7 @@ returns-in_default-clause-advances g c =
 pub send_outgoing-requires : goal.send_outgoing-requires
 send_outgoing-requires g c =
     let old = c.args.self.now in
-    record { sending = sending (shared_of g.J.LogNames.opening) old c.requires.sound c.args.executor c.in-Some.outgoing c.take.new.self c.in-Some.ensures.first c.are_kept.ensures (record old { outboxes = c.take.new.self }) refl }
+    record { limit = c.requires.limit; sending = sending (shared_of g.J.LogNames.opening) old c.requires.sound c.args.executor c.in-Some.outgoing c.take.new.self c.in-Some.ensures.first c.are_kept.ensures (record old { outboxes = c.take.new.self }) refl }
 
 done : (g : given.Over) (c : After-send_outgoing g) → IsSound (shared_of g.J.LogNames.opening) c.send_outgoing.new.self
     × (Advances (together c.args.self.now) (step (Send c.args.executor) c.send_outgoing.result ∷ []) (together c.send_outgoing.new.self) × Happens (Send c.args.executor) c.args.self.now c.send_outgoing.result c.send_outgoing.new.self)

@@ -10,9 +10,9 @@ release-requires g c =
     let now = c.log-answer in
     let entry : Entry = record { session = c.session.result; number = t.number; request = t.request; reply = c.args.commit.reply } in
     record {
-      room = omega (arith, c.requires.room, c.requires.can.few, as_many_hold entry t.pass (log_and_claims c.args.self.now.log t.held) (log_and_claims now.new.log now.new.self) now.result now.ensures);
+      room = omega (arith, c.requires.room, c.requires.can.few, as_many_hold g.J.LogNames.most entry t.pass (log_and_claims c.args.self.now.log t.held) (log_and_claims now.new.log now.new.self) now.result now.ensures);
       slot = c.requires.can.slot;
-      few = omega (arith, c.requires.can.few, as_many_hold entry t.pass (log_and_claims c.args.self.now.log t.held) (log_and_claims now.new.log now.new.self) now.result now.ensures);
+      few = omega (arith, c.requires.can.few, as_many_hold g.J.LogNames.most entry t.pass (log_and_claims c.args.self.now.log t.held) (log_and_claims now.new.log now.new.self) now.result now.ensures);
     }
 
 pub returns : goal.returns
@@ -24,7 +24,7 @@ returns g c =
       log = now.new.log;
       held = now.new.self;
       logs = subst
-          (λ n. Logs {J = g.row.J.Denot} (record { session = n; number = t.number; request = t.request; reply = c.args.commit.reply }) t.pass (log_and_claims c.args.self.now.log t.held) now.result (log_and_claims now.new.log now.new.self))
+          (λ n. Logs {J = g.row.J.Denot} g.J.LogNames.most (record { session = n; number = t.number; request = t.request; reply = c.args.commit.reply }) t.pass (log_and_claims c.args.self.now.log t.held) now.result (log_and_claims now.new.log now.new.self))
           c.session.ensures now.ensures;
       answered = c.recorded_of.ensures;
       over = c.release.ensures;

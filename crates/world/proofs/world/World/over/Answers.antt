@@ -36,11 +36,12 @@ invariant_of-result g c =
     let set = opened_shards c.args.tables cut.catalog cut.slices.items c.in_ok-shards.shards.items slices c.in_ok-shards.ensures.made in
     let wait = subst (All HaveToWait) (sym c.in_ok-shards.ensures.made) (have_not_to_wait cut.slices.items (subst (All NobodyWaitsIn) (sym cut.ensures.slices) (cut_waits (parts_of c.args.tables)))) in
     let none : (w_id : ℕ) → holdings_in (map slice_of c.in_ok-shards.shards.items) w_id ≡ [] = λ w_id. ap (λ (j : JoinedSlices). j.holdings w_id) set.1.1 in (
-      opened_core (shared_of g.J.LogNames.opening) c.args.executors c.in_ok-book.lanes.items _ (record { many = omega (arith, c.in_ok-book.lanes.ok.0, c.in_ok-book.ensures.count); each = c.in_ok-book.ensures.sessions })
+      opened_core (shared_of g.J.LogNames.opening) c.args.setup.now.executors c.in_ok-book.lanes.items _ (record { many = omega (arith, c.in_ok-book.lanes.ok.0, c.in_ok-book.ensures.count); each = c.in_ok-book.ensures.sessions })
           (cut.ensures.catalog ∙ ap shared_of (sym c.requires.named.tables_are)) set.0 none set.1.0
-          (subst (λ n. All (IsShardOf n) c.in_ok-shards.shards.items) (c.requires.named.warehouses ∙ sym (ap (λ s. s.warehouses) scale)) c.in_ok-shards.ensures.shards) wait (subst (λ (s : Scale). IsOpenedBy (record { warehouses = s.warehouses; executors = c.args.executors }) c.in_ok-placements.placements) (c.scale-scale.ensures.value ∙ sym scale) (subst (λ r. IsOpenedBy r c.in_ok-placements.placements) c.opening.ensures c.in_ok-placements.ensures))
+          (subst (λ n. All (IsShardOf n) c.in_ok-shards.shards.items) (c.requires.named.warehouses ∙ sym (ap (λ s. s.warehouses) scale)) c.in_ok-shards.ensures.shards) wait (subst (λ (s : Scale). IsOpenedBy (record { warehouses = s.warehouses; executors = c.args.setup.now.executors }) c.in_ok-placements.placements) (c.scale-scale.ensures.value ∙ sym scale) (subst (λ r. IsOpenedBy r c.in_ok-placements.placements) c.opening.ensures c.in_ok-placements.ensures))
           c.in_ok-parked.ensures c.in_ok-inboxes.ensures c.in_ok-outboxes.ensures c.in_ok-inbox.ensures c.in_ok-outbox.ensures c.in_ok-active.ensures c.in_ok-sessions.ensures,
       c.requires.named.warehouses ∙ sym (ap (λ s. s.warehouses) scale),
+      c.requires.log.1 ∙ sym c.requires.named.most,
     )
 
 pub returns-clause-fits : goal.returns-clause-fits
@@ -58,11 +59,13 @@ returns-clause-fits g c =
       };
       placements = c.in_ok-placements.placements;
       parked = c.in_ok-parked.parked;
+      log_limit = c.args.limits.0;
+      inbox_limit = c.args.limits.1;
       inboxes = c.in_ok-inboxes.inboxes;
       outboxes = c.in_ok-outboxes.outboxes;
     } in
     let set = opened_shards c.args.tables cut.catalog cut.slices.items c.in_ok-shards.shards.items slices c.in_ok-shards.ensures.made in
-    opened_fits c.args.tables c.requires.consistent c.args.executors core set.1.0 set.1.1 c.new.ensures c.in_ok-parked.ensures c.in_ok-inboxes.ensures c.in_ok-outboxes.ensures c.in_ok-active.ensures refl
+    opened_fits c.args.tables c.requires.consistent c.args.setup.now.executors core set.1.0 set.1.1 c.new.ensures c.in_ok-parked.ensures c.in_ok-inboxes.ensures c.in_ok-outboxes.ensures c.in_ok-active.ensures refl
 
 pub returns-clause-new : goal.returns-clause-new
 returns-clause-new g c =
@@ -79,14 +82,16 @@ returns-clause-new g c =
       };
       placements = c.in_ok-placements.placements;
       parked = c.in_ok-parked.parked;
+      log_limit = c.args.limits.0;
+      inbox_limit = c.args.limits.1;
       inboxes = c.in_ok-inboxes.inboxes;
       outboxes = c.in_ok-outboxes.outboxes;
     } in
     let set = opened_shards c.args.tables cut.catalog cut.slices.items c.in_ok-shards.shards.items slices c.in_ok-shards.ensures.made in
-    opened_new c.args.tables c.args.executors c.in_ok-book.lanes.items core
+    opened_new c.args.tables c.args.setup.now c.in_ok-book.lanes.items core
     (record { many = omega (arith, c.in_ok-book.lanes.ok.0, c.in_ok-book.ensures.count); each = c.in_ok-book.ensures.sessions })
-    cut.ensures.catalog (c.in_ok-shards.ensures.made ∙ ap (λ (l : List SliceView). map shard_of l) cut.ensures.slices) set.0 set.1.0 set.1.1 (subst (λ (s : Scale). IsOpenedBy (record { warehouses = s.warehouses; executors = c.args.executors }) c.in_ok-placements.placements) c.scale-scale.ensures.value (subst (λ r. IsOpenedBy r c.in_ok-placements.placements) c.opening.ensures c.in_ok-placements.ensures))
-    c.in_ok-parked.ensures c.in_ok-inboxes.ensures c.in_ok-outboxes.ensures c.in_ok-inbox.ensures c.in_ok-outbox.ensures c.new.ensures refl c.in_ok-active.ensures c.in_ok-sessions.ensures
+    cut.ensures.catalog (c.in_ok-shards.ensures.made ∙ ap (λ (l : List SliceView). map shard_of l) cut.ensures.slices) set.0 set.1.0 set.1.1 (subst (λ (s : Scale). IsOpenedBy (record { warehouses = s.warehouses; executors = c.args.setup.now.executors }) c.in_ok-placements.placements) c.scale-scale.ensures.value (subst (λ r. IsOpenedBy r c.in_ok-placements.placements) c.opening.ensures c.in_ok-placements.ensures))
+    c.in_ok-parked.ensures c.requires.log.0 c.requires.inbox c.in_ok-inboxes.ensures c.in_ok-outboxes.ensures c.in_ok-inbox.ensures c.in_ok-outbox.ensures c.new.ensures refl c.in_ok-active.ensures c.in_ok-sessions.ensures
 
 pub open_shards-requires : goal.open_shards-requires
 open_shards-requires g c = subst (All NobodyWaitsIn) (sym c.in_ok-catalog.ensures.slices) (cut_waits (parts_of c.args.tables))

@@ -1,4 +1,4 @@
-use Rattle.std.proofs.Common.{◌≡◌, subst}
+use Rattle.std.proofs.Common.{◌≡◌, ◌∙◌, subst}
 use Rattle.partitions.specs.Parts.{shared_of}
 use Rattle.world.specs.declared.world.Core.{Core}
 use Rattle.world.specs.Worlds.{AdvancesBy, AllDieOfOlder, AnswersWhoAsked, IsBusyExactly, IsFullExactly, NoneDiesAlone, RecordsOfOlder}
@@ -12,7 +12,7 @@ use Rattle.world.proofs.Deaths.{records_of_older}
 use Rattle.world.proofs.Dying.{die_of_older}
 use Rattle.world.proofs.Answered.{nothing_exactly}
 use Rattle.world.proofs.Changed.{changes_only}
-use Rattle.world.proofs.Schedules.{executors_stay}
+use Rattle.world.proofs.Schedules.{executors_stay, log_limit_stays}
 use Rattle.world.proofs.world.World.step.Goals as goal
 
 pub returns-clause-advances : goal.returns-clause-advances
@@ -69,3 +69,10 @@ returns-clause-never_stuck g c = never_stuck (shared_of g.J.LogNames.opening) c.
 
 pub returns-clause-owned : goal.returns-clause-owned
 returns-clause-owned g c = is_owned (shared_of g.J.LogNames.opening) c.happen.new.self c.happen.ensures.sound
+
+pub invariant_of-self : goal.invariant_of-self
+invariant_of-self g c = (
+  c.happen.ensures.sound,
+  c.self.invariant.1,
+  log_limit_stays c.args.event.now c.self.inside.core c.happen.new.self c.happen.result c.happen.ensures.happens ∙ c.self.invariant.2,
+)

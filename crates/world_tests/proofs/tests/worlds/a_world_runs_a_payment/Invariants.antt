@@ -9,6 +9,7 @@ use Rattle.world_tests.proofs.tests.worlds.a_world_runs_a_payment.Given as goal
 abbrev pub ghosts-by_world-J-LogNames : goal.ghosts-by_world-J-LogNames
 ghosts-by_world-J-LogNames g a = record {
   opening = a.tables;
+  most = a.opening.log.most;
   length = a.opening.log.length;
   mine = table_of a.opening.log.mine;
   asks = table_of a.opening.log.asks;

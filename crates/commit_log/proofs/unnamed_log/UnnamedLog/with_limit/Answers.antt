@@ -1,6 +1,6 @@
 use Rattle.commit_log.specs.declared.unnamed_log.Lane.{Lane}
 use Rattle.commit_log.proofs.Opening.{new_lane, lane_more}
-use Rattle.commit_log.proofs.unnamed_log.UnnamedLog.open.Goals as goal
+use Rattle.commit_log.proofs.unnamed_log.UnnamedLog.with_limit.Goals as goal
 
 pub loop-session-preserved : goal.loop-session-preserved
 loop-session-preserved c =

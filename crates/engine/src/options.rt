@@ -1,0 +1,15 @@
+use commit_log::Limits;
+use range_moves::MoveOrder;
+
+/// How scripts are served.
+#[derive(Clone, Copy, Debug, Drop)]
+pub struct ServeOptions<'a> {
+    /// How many executors share the warehouses: 1 or more.
+    pub executors: u32,
+    /// How often a request is asked at most that is refused with Died or NoMemory.
+    pub tries: u32,
+    /// The limits of the log and of the executors' inboxes. A message whose inbox is full waits at its sender.
+    pub limits: Limits,
+    /// The moves that are made meanwhile, one after the other.
+    pub moves: &'a [MoveOrder],
+}
