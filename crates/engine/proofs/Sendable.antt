@@ -248,7 +248,10 @@ module _ (J : RattleType) (log : LogNames J.Denot) (groups : GroupNames J.Denot)
                               search (crosses, sendable) depth 20,
                               (
                                 search (crosses, sendable) depth 20,
-                                tt,
+                                (
+                                  search (crosses, sendable) depth 20,
+                                  tt,
+                                ),
                               ),
                             ),
                           ),

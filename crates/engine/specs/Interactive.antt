@@ -1,8 +1,9 @@
 -- A session that asks interactively: its caller has every answer, and what it proves.
-use Rattle.std.specs.Prelude.{◌≡◌, ℕ, ◌+◌, ◌<◌, ◌≤◌, List, [], ◌∷◌, ◌++◌, length, map, Result, Ok, Err}
+use Rattle.std.specs.Prelude.{◌≡◌, ◌⊎◌, ℕ, ◌+◌, ◌<◌, ◌≤◌, List, [], ◌∷◌, ◌++◌, length, map, Result, Ok, Err}
 use Rattle.requests.specs.declared.request.Request.{Request}
 use Rattle.requests.specs.declared.reply.Reply.{Reply}
 use Rattle.requests.specs.declared.refusal.Refusal.{Refusal}
+use Rattle.requests.specs.declared.refusal.Refusal.TheVariants.{Closed}
 use Rattle.requests.specs.Check.{check_of}
 use Rattle.commit_log.specs.Items.{item}
 use Rattle.commit_log.specs.PassView.{PassView, having_met}
@@ -10,7 +11,7 @@ use Rattle.engine.specs.Rules.{Rules}
 use Rattle.engine.specs.Asking.{IsAway, IsResting, ReadyView, AskedView}
 use Rattle.engine.specs.Outcome.{IsRefusal}
 use Rattle.engine.specs.declared.session.AskFault.{AskFault}
-use Rattle.engine.specs.declared.session.AskFault.TheVariants.{NoMemory, Stopped}
+use Rattle.engine.specs.declared.session.AskFault.TheVariants.{Lost, NoMemory, Stopped}
 use Rattle.engine.specs.declared.session.Left.{Left}
 
 -- The result of a request. Either it was carried out: its entry is behind all that the session had seen, the session has logged
@@ -24,11 +25,16 @@ Came rules before request after (Err why) =
     (after.seen ≡ before.pass.seen) × (after.mine ≡ before.pass.mine) × IsRefusal rules after.reached request why
 
 -- the session has asked this request and has had this answer
-pub record Asks (rules : Rules) (before : ReadyView) (request : Request) (after : ReadyView) (answer : Result ℕ Refusal) : Type 0 where
+pub record HasAsked (rules : Rules) (before : ReadyView) (request : Request) (after : ReadyView) (answer : Result ℕ Refusal) : Type 0 where
   pub session_is : after.pass.session ≡ before.pass.session
   pub noted : after.script ≡ before.script ++ request ∷ []
   pub answered : after.answers ≡ before.answers ++ answer ∷ []
   pub came : Came rules before request after.pass answer
+
+-- The engine was closed: the request is refused with Closed, and the session is as it was. Or the session has asked the request and
+-- has had this answer.
+abbrev pub Asks : Rules → ReadyView → Request → ReadyView → Result ℕ Refusal → Type 0
+Asks rules before request after answer = ((answer ≡ Err Closed) × (after ≡ before)) ⊎ HasAsked rules before request after answer
 
 -- the session has met another; only what it has seen is changed
 pub record HasMet (before other after : ReadyView) : Type 0 where
@@ -39,7 +45,8 @@ pub record HasMet (before other after : ReadyView) : Type 0 where
 -- the session comes back unchanged, or is lost
 abbrev pub IsBackIn : {J : Type 0} → ReadyView → AskFault J → Type 0
 IsBackIn before (NoMemory session) = session ≡ before
-IsBackIn before Stopped = Unit
+IsBackIn before (Stopped session) = session ≡ before
+IsBackIn before Lost = Unit
 
 -- the session has asked nothing yet
 pub record HasAskedNothing (s : ReadyView) : Type 0 where

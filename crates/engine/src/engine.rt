@@ -46,17 +46,35 @@ pub struct Engine<'a, J: ServeNames, G: Gate> {
     pub(crate) unserved: AtomicUsize,
     /// Whether the executors are to end even if not all is served.
     pub(crate) is_stopped: AtomicBool,
+    /// Whether interactive sessions may ask no more.
+    pub(crate) is_closed: AtomicBool,
 }
 
 impl<J: ServeNames, G: Gate> Engine<'_, J, G> {
     /// Whether all scripts are served, all interactive sessions have left and all moves are made, or `stop` was called.
     pub fn is_over(&self) -> bool {
-        self.is_done() || self.is_stopped.load(Ordering::SeqCst)
+        self.is_done() || self.is_stopped()
+    }
+
+    /// Whether `stop` was called.
+    pub(crate) fn is_stopped(&self) -> bool {
+        self.is_stopped.load(Ordering::SeqCst)
     }
 
     // Whether all scripts are served, all interactive sessions have left and all moves are made.
     fn is_done(&self) -> bool {
         self.unserved.load(Ordering::SeqCst) == 0 && self.moves.are_over()
+    }
+
+    /// Closes the engine to interactive sessions: what they ask from now on is refused with Closed. Requests in flight are answered,
+    /// and scripts are served to their ends.
+    pub fn close(&self) {
+        self.is_closed.store(true, Ordering::SeqCst);
+    }
+
+    /// Whether `close` was called.
+    pub fn is_closed(&self) -> bool {
+        self.is_closed.load(Ordering::SeqCst)
     }
 
     /// Makes all executors end soon.
@@ -168,7 +186,7 @@ impl<J: ServeNames, G: Gate> Engine<'_, J, G> {
         for _ in rt.forever() {
             parking.lie_down();
             let recorded = place.lock(rt).take_recorded();
-            if recorded.is_some() || self.is_stopped.load(Ordering::SeqCst) {
+            if recorded.is_some() || self.is_stopped() {
                 parking.get_up();
                 return recorded;
             }

@@ -147,6 +147,7 @@ pub fn open<'a, J: ServeNames, G: Gate + Drop>(
         waiters: parkings_for(alloc, sessions.len())?,
         ages: AtomicU64::new(0),
         is_stopped: AtomicBool::new(false),
+        is_closed: AtomicBool::new(false),
     };
     Ok(Opened {
         engine,

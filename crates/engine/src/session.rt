@@ -7,7 +7,7 @@ ghost use Rattle.engine.specs.Asking.{known_of};
 ghost use Rattle.engine.specs.Outcome.{IsRefusal};
 ghost use Rattle.engine.specs.Rules.{rules_of};
 ghost use Rattle.engine.specs.Served.{ServedIn};
-ghost use Rattle.engine.specs.Interactive.{Asks, HasAskedNothing, HasMet, IsBackIn};
+ghost use Rattle.engine.specs.Interactive.{Asks, HasAsked, HasAskedNothing, HasMet, IsBackIn};
 
 use crate::asking::says_full;
 use crate::message::Message;
@@ -113,9 +113,13 @@ pub enum AskFault<J: ServeNames> {
     /// An allocation failed: the request was not asked, and the session is unchanged.
     #[error("no memory")]
     NoMemory(Session<J>),
-    /// No answer came: the executors were stopped, or the answer was for another session. The session is lost.
+    /// The executors had been stopped before: the request was not asked, and the session is unchanged.
+    #[error("the executors were stopped")]
+    Stopped(Session<J>),
+    /// No answer came: the executors were stopped meanwhile, or the answer was for another session. The session's pass was with the
+    /// request, so the session is lost.
     #[error("no answer came")]
-    Stopped,
+    Lost,
 }
 
 /// Leaves out the session.
@@ -123,7 +127,8 @@ impl<J: ServeNames> fmt::Debug for AskFault<J> {
     fn fmt<W: fmt::Write>(&self, f: &mut fmt::Formatter<W>) -> fmt::Result {
         match self {
             AskFault::NoMemory(_) => f.write_str("NoMemory(..)"),
-            AskFault::Stopped => f.write_str("Stopped"),
+            AskFault::Stopped(_) => f.write_str("Stopped(..)"),
+            AskFault::Lost => f.write_str("Lost"),
         }
     }
 }
@@ -186,7 +191,8 @@ impl<J: ServeNames> Session<J> {
 
     /// Asks a request and waits for its answer: the place of its entry in the log (`Engine::log`), or why it was refused. The
     /// entry is behind all that the session and those that it met have seen. After a refusal the session has seen and logged what
-    /// it had before. The request is asked once; the caller may ask one again that was refused with Died or NoMemory.
+    /// it had before. The request is asked once; the caller may ask one again that was refused with Died or NoMemory. If the engine
+    /// is closed (`Engine::close`), the request is not asked: it is refused with Closed, and the session is unchanged.
     pub fn ask<G: Gate>(
         self,
         rt: &impl Wait,
@@ -197,6 +203,12 @@ impl<J: ServeNames> Session<J> {
         ensures asks { IfOk result (λ r. Asks (rules_of J.opening J.most) self request r.0 r.1) }
         ensures back { IfErr result (IsBackIn self) }
     {
+        if engine.is_closed() {
+            return Ok((self, Err(Refusal::Closed)));
+        }
+        if engine.is_stopped() {
+            return Err(AskFault::Stopped(self));
+        }
         let Ok(number) = u32::try_from(self.answers.len()) else {
             return Err(AskFault::NoMemory(self));
         };
@@ -233,7 +245,7 @@ impl<J: ServeNames> Session<J> {
             Ok(()) if is_full => Ok(asker.refused(Refusal::LogFull)),
             Ok(()) => match asker.call(rt, alloc, engine) {
                 Some(answered) => Ok(answered),
-                None => Err(AskFault::Stopped),
+                None => Err(AskFault::Lost),
             },
         }
     }
@@ -278,7 +290,7 @@ impl<J: ServeNames> Asker<J> {
     fn refused(self, refusal: Refusal) -> (Session<J>, Result<u32, Refusal>)
         requires { IsRefusal (rules_of J.opening J.most)
             (known_of self.before.is_full self.before.pass.reached) self.request refusal }
-        ensures { Asks (rules_of J.opening J.most) self.before self.request result.0 result.1 }
+        ensures { HasAsked (rules_of J.opening J.most) self.before self.request result.0 result.1 }
     {
         let Asker {
             seat,
@@ -313,7 +325,8 @@ impl<J: ServeNames> Asker<J> {
     ) -> Option<(Session<J>, Result<u32, Refusal>)>
         requires accepted { check_of J.opening.scale self.request ≡ Ok tt }
         requires open { self.before.is_full ≡ false }
-        ensures { IfSome result (λ r. Asks (rules_of J.opening J.most) self.before self.request r.0 r.1) }
+        ensures { IfSome result (λ r.
+            HasAsked (rules_of J.opening J.most) self.before self.request r.0 r.1) }
     {
         let Asker {
             mut seat,

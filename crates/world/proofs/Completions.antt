@@ -1,5 +1,5 @@
 -- The places of a completion meeting report one after another.
-use Rattle.std.proofs.Common.{◌≡◌, ◌≤◌, ◌+◌, ◌-◌, ◌++◌, ℕ, zero, suc, List, [], ◌∷◌, Option, Some, None, length, replicate, refl, sym, ap, ◌∙◌, subst, arith, slice_get, slice_set}
+use Rattle.std.proofs.Common.{◌≡◌, ◌≤◌, ◌+◌, ◌-◌, ◌++◌, ℕ, zero, suc, List, [], ◌∷◌, Option, Some, None, length, replicate, refl, sym, ap, ◌∙◌, arith, slice_get, slice_set}
 use Rattle.rendezvous.specs.Awaited.{awaited_from}
 use Rattle.world.specs.Completions.{AwaitsFrom}
 use Rattle.world.specs.declared.desk.Active.TheVariants.{Ending}

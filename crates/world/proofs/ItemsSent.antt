@@ -1,24 +1,23 @@
 -- An item is sent.
-use Rattle.std.proofs.Common.{◌≡◌, ℕ, Bool, true, false, List, [], ◌∷◌, ◌++◌, length, Option, Some, None, refl, sym, subst, nat_lt, ◌+◌, ◌-◌, ◌≤◌, arith, ◌∙◌, ap, inl, inr}
+use Rattle.std.proofs.Common.{◌≡◌, ℕ, List, [], ◌∷◌, ◌++◌, length, Option, Some, None, refl, sym, subst, ◌+◌, ◌-◌, ◌≤◌, arith, ◌∙◌, ap, inl, inr}
 use Rattle.std.specs.List.{slice_get}
 use Rattle.partitions.specs.Parts.{SharedTables}
 use Rattle.schema.specs.Database.{Database}
 use Rattle.history.specs.declared.event.Event.TheVariants.{Send}
 use Rattle.history.specs.declared.event.EventAnswer.{EventAnswer}
-use Rattle.history.specs.declared.event.EventAnswer.TheVariants.{Sent, Full, Logged}
+use Rattle.history.specs.declared.event.EventAnswer.TheVariants.{Sent, Logged}
 use Rattle.history.specs.History.{Step, step}
 use Rattle.transactions.specs.Logged.{Logs, log_and_claims}
 use Rattle.transactions.specs.declared.logging.Logged.{Logged as AnyLogged}
 use Rattle.world.specs.declared.desk.Active.TheVariants as active
 use Rattle.world.specs.declared.flight.Commit.{Commit}
-use Rattle.world.specs.declared.flight.Message.{Message}
 use Rattle.world.specs.declared.flight.Item.{Item}
 use Rattle.world.specs.declared.flight.Item.TheVariants as item
 use Rattle.world.specs.declared.world.Parts.{Parts}
 use Rattle.world.specs.Parted.{joined_in}
 use Rattle.world.specs.declared.flight.Report.{Report}
-use Rattle.world.specs.Flights.{Acting, InFlight, nothing, join, part_message, part_item}
-use Rattle.world.specs.Sound.{IsSoundWith, IsSoundMessage, IsSoundCommit, IsSoundItem, IsSoundPhase, awaited_by_all, flight}
+use Rattle.world.specs.Flights.{Acting, InFlight, nothing, join, part_item}
+use Rattle.world.specs.Sound.{IsSoundWith, IsSoundCommit, IsSoundItem, IsSoundPhase, awaited_by_all, flight}
 use Rattle.world.specs.Events.{Commits, SendsItem, recorded_of}
 use Rattle.world.specs.Worlds.{FitsPart, Fits}
 use Rattle.world.proofs.Fitting.{fits_quiet}

@@ -1,5 +1,5 @@
 -- What opening a world requires and gives, why it fails, and the result of a simulation.
-use Rattle.std.specs.Prelude.{◌≡◌, ◌≢◌, ◌⊎◌, ◌<◌, ℕ, zero, suc, List, [], Some, None, Result, Ok, Err, map, replicate, slice_get, length, ◌≤◌}
+use Rattle.std.specs.Prelude.{◌≡◌, ◌≢◌, ◌⊎◌, ◌<◌, ℕ, zero, suc, List, [], Some, None, Result, Ok, Err, map, replicate, slice_get, length}
 use Rattle.rows.specs.declared.limits.TheConstants.{SESSIONS}
 use Rattle.schema.specs.Database.{Database}
 use Rattle.partitions.specs.Parts.{parts_of, shared_of}

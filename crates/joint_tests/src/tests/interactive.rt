@@ -141,3 +141,64 @@ fn a_session_finds_what_another_paid_that_it_met(rt: HostRuntime) -> Result<(), 
     assert_eq!(rt; client.owed.load(Ordering::SeqCst), 1_000 + 123);
     Ok(())
 }
+
+// A session pays, and asks once more when the engine is closed.
+#[derive(Drop)]
+struct AsksTooLate {
+    // The number of requests that it has asked in the end, if the last one was refused with Closed.
+    asked: AtomicU64,
+}
+
+impl AsksTooLate {
+    fn ask_twice<J: ServeNames, G: Gate>(
+        &self,
+        rt: &impl Wait,
+        alloc: Global,
+        engine: &Engine<'_, J, G>,
+        mut sessions: Vec<Session<J>>,
+    ) -> Option<Vec<Left<J>>> {
+        let session = ask_until_done(rt, alloc, engine, sessions.pop()?, &payment(123))?;
+        engine.close();
+        let (session, answer) = session.ask(rt, alloc, engine, payment(456)).ok()?;
+        if answer == Err(Refusal::Closed) {
+            self.asked
+                .store(session.requests().len() as u64, Ordering::SeqCst);
+        }
+        let mut left = Vec::new(alloc);
+        left.push(session.leave(rt, engine)).ok()?;
+        Some(left)
+    }
+}
+
+impl Client for AsksTooLate {
+    ghost use Rattle.std.specs.Prelude.{⊤};
+
+    ghost promises = { λ _ _ _ _. ⊤ };
+
+    fn ask_all<J: ServeNames + Send + Sync, G: Gate, R: Threads + Wait + Sync>(
+        &self,
+        rt: &R,
+        alloc: Global,
+        engine: &Engine<'_, J, G>,
+        sessions: Vec<Session<J>>,
+    ) -> Vec<Left<J>> {
+        match self.ask_twice(rt, alloc, engine, sessions) {
+            Some(left) => left,
+            None => Vec::new(alloc),
+        }
+    }
+}
+
+// What a session asks of a closed engine is refused and not logged, and the session is as it was.
+#[test]
+fn a_closed_engine_refuses_what_is_asked(rt: HostRuntime) -> Result<(), Fail> {
+    let alloc = rt.alloc();
+    let tables = two_warehouses(alloc)?;
+    let client = AsksTooLate {
+        asked: AtomicU64::new(0),
+    };
+    let outcome = serve_client(&rt, alloc, tables, 1, 2, &client)?;
+    assert_eq!(rt; client.asked.load(Ordering::SeqCst), 1);
+    assert_eq!(rt; outcome.log.len(), 1);
+    Ok(())
+}

@@ -1,5 +1,4 @@
-use Rattle.std.proofs.Common.{◌≡◌, ◌-◌, ℕ, Option, None, sym, ap, ◌∙◌, arith}
-use Rattle.world.specs.declared.desk.Active.{Active}
+use Rattle.std.proofs.Common.{◌≡◌, ◌-◌, ℕ, sym, ap, ◌∙◌, arith}
 use Rattle.world.specs.Following.{ending}
 use Rattle.world.proofs.Completions.{another_left, awaits_then, none_left, still_active, waits_next}
 use Rattle.world.proofs.transaction_meetings.Completion.report.Goals as goal
