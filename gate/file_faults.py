@@ -112,7 +112,8 @@ def main():
         none, script, log = f"{room}/no-entries.csv", f"{room}/script.csv", f"{room}/log.csv"
         write(none, ["END,0"])
         write(script, [*[f"P,1,1,1,1,#1,{100 + number},{MOMENT}" for number in range(20)], "END,20"])
-        trials.expect(trials.call("run", DATASET, script, "--log", log, "--quiet").returncode == 0, "a script", trials.call("--version"))
+        ran = trials.call("run", DATASET, script, "--log", log, "--quiet")
+        trials.expect(ran.returncode == 0, "a script that is served", ran)
         trials.cuts()
         trials.reads(DATASET, FIRST, "check", DATASET)
         trials.reads(script, SECOND, "run", DATASET, script)
