@@ -242,6 +242,71 @@ fn all_that_is_asked_is_carried_out_while_warehouses_move(rt: HostRuntime) -> Re
     Ok(())
 }
 
+// At this gate a thread yields 0 to 1,000 times before it logs a request, and once the request is answered. The numbers are drawn
+// from a seed.
+#[derive(Drop)]
+struct YieldsBySeed {
+    drawn: AtomicU64,
+}
+
+impl YieldsBySeed {
+    fn pause(&self) {
+        let drawn = self
+            .drawn
+            .load(Ordering::SeqCst)
+            .wrapping_mul(6_364_136_223_846_793_005)
+            .wrapping_add(1_442_695_040_888_963_407);
+        self.drawn.store(drawn, Ordering::SeqCst);
+        for _ in 0..(drawn >> 33) % 1001 {
+            yield_now();
+        }
+    }
+}
+
+impl Gate for YieldsBySeed {
+    fn asked(&self, _session: u32, _number: u32, _request: &Request) {}
+
+    fn commit(&self, _session: u32, _number: u32, _request: &Request) {
+        self.pause();
+    }
+
+    fn answered(&self, _session: u32, _number: u32, _request: &Request) {
+        self.pause();
+    }
+}
+
+// Four sessions, by customers of the other warehouse, while twenty moves take the warehouses back and forth between two executors,
+// and threads yield by a seed: each payment is carried out.
+#[test]
+fn all_is_carried_out_at_gates_that_yield(rt: HostRuntime) -> Result<(), Fail> {
+    let alloc = rt.alloc();
+    let mut moves = Vec::new(alloc);
+    for to in 0..20 {
+        moves.push(order(1, 2, to % 2))?;
+    }
+    for seed in 1..5 {
+        let scripts = [
+            crossing(alloc, 1, 2)?,
+            crossing(alloc, 2, 1)?,
+            crossing(alloc, 1, 2)?,
+            crossing(alloc, 2, 1)?,
+        ];
+        let options = ServeOptions {
+            executors: 2,
+            tries: 10_000,
+            limits: Limits::greatest(),
+            moves: moves.as_slice(),
+        };
+        let gate = YieldsBySeed {
+            drawn: AtomicU64::new(seed),
+        };
+        let outcome = serve(&rt, alloc, warehouses(alloc, 2)?, &scripts, &options, &gate)?;
+        assert_eq!(rt; done_in(&outcome), 100);
+        assert_eq!(rt; outcome.log.len(), 100);
+    }
+    Ok(())
+}
+
 // Inboxes hold one message, and each executor sends to the other, since the customers of all payments belong to the other
 // warehouse; and the warehouses move back and forth: each payment is carried out.
 #[test]
