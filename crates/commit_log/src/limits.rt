@@ -1,5 +1,6 @@
 //! The limits of an engine.
 ghost use Rattle.std.specs.Prelude.{◌≡◌, ◌↔◌, IfSome, IsNone};
+ghost use Rattle.rows.specs.declared.limits.TheConstants.{INBOX, MOST_ENTRIES};
 ghost use Rattle.commit_log.specs.Limits.{AreLimits};
 
 use rows::{INBOX, MOST_ENTRIES, Ranged};
@@ -26,7 +27,9 @@ pub struct Limits {
 impl Limits {
     /// The greatest limits.
     pub fn greatest() -> Limits
-        ensures { AreLimits result }
+        ensures log { result.log ≡ MOST_ENTRIES }
+        ensures inbox { result.inbox ≡ INBOX }
+        ensures limits { AreLimits result }
     {
         Limits {
             log: LONGEST_LOG,

@@ -23,7 +23,7 @@ use commit_log::{Limits, LogLimit};
 use consistency::first_broken;
 use range_moves::MoveOrder;
 use requests::Script;
-use rows::{INBOX, MOST_ENTRIES, SESSIONS};
+use rows::SESSIONS;
 use schema::Tables;
 use std::alloc::Global;
 use std::marker::Brand;
@@ -91,10 +91,7 @@ pub fn serve_client<R: Threads + Wait + Sync, C: Client>(
     let options = ServeOptions {
         executors,
         tries: 1,
-        limits: Limits {
-            log: MOST_ENTRIES as u32,
-            inbox: INBOX as u32,
-        },
+        limits: Limits::greatest(),
         moves: &[],
     };
     serve_all(
