@@ -131,13 +131,14 @@ same_status a b x y fields s r =
 same_delivery : (a b : ADelivery) → CanBeAsked (Delivery a) → CanBeAsked (Delivery b) → (fields : List (List ℕ)) → IsDelivery a fields → IsDelivery b fields → a ≡ b
 same_delivery a b x y fields s r =
     let e : delivery_fields a s.0 ≡ delivery_fields b r.0 = sym s.2 ∙ r.2 in
-    let w : decimal a.w_id ≡ decimal b.w_id = cc in
+    let w : decimal a.home.w_id ≡ decimal b.home.w_id = cc in
+    let d : decimal a.home.d_id ≡ decimal b.home.d_id = cc in
     let c : decimal a.carrier_id ≡ decimal b.carrier_id = cc in
     let m : s.0 ≡ r.0 = cc in
-    let w_id = same_word a.w_id b.w_id x.0 y.0 w in
+    let home = same_key a.home b.home x.0 y.0 w d in
     let carrier_id = same_word a.carrier_id b.carrier_id x.1 y.1 c in
     let moment = same_date s.0 r.0 a.moment b.moment m s.1 r.1 in
-    λ i. record { w_id = w_id i; carrier_id = carrier_id i; moment = moment i }
+    λ i. record { home = home i; carrier_id = carrier_id i; moment = moment i }
 
 same_level : (a b : ALevel) → CanBeAsked (StockLevel a) → CanBeAsked (StockLevel b) → stock_level_fields a ≡ stock_level_fields b → a ≡ b
 same_level a b x y e =
@@ -167,5 +168,5 @@ few_fields (NewOrder n) can fields is =
     omega (arith, lines-count n.lines, can.2)
 few_fields (Payment p) can fields is = let count : length fields ≡ 8 = ap length is.2 in omega arith
 few_fields (OrderStatus o) can fields is = let count : length fields ≡ 4 = ap length is in omega arith
-few_fields (Delivery d) can fields is = let count : length fields ≡ 4 = ap length is.2 in omega arith
+few_fields (Delivery d) can fields is = let count : length fields ≡ 5 = ap length is.2 in omega arith
 few_fields (StockLevel s) can fields is = let count : length fields ≡ 4 = ap length is in omega arith

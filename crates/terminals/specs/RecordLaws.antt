@@ -46,7 +46,7 @@ abbrev pub CanBeAsked : Request → Type 0
 CanBeAsked (request.NewOrder n) = IsDistrictKey n.home × IsWord n.c_id × IsWord (length n.lines) × AllByRecursion IsOrderedLine n.lines
 CanBeAsked (request.Payment p) = IsDistrictKey p.home × IsDistrictKey p.customer_home × IsChoice p.customer × IsWord p.amount
 CanBeAsked (request.OrderStatus o) = IsDistrictKey o.home × IsChoice o.customer
-CanBeAsked (request.Delivery d) = IsWord d.w_id × IsWord d.carrier_id
+CanBeAsked (request.Delivery d) = IsDistrictKey d.home × IsWord d.carrier_id
 CanBeAsked (request.StockLevel s) = IsDistrictKey s.home × IsWord s.threshold
 
 -- A line of an order, as a New-Order shows it.
@@ -68,7 +68,7 @@ CanBeShown (shown.NewOrder n) =
     IsWord n.discount × IsWord n.warehouse_tax × IsWord n.district_tax × IsWord n.o_id × IsMoney n.total × AllByRecursion IsShownLine n.lines
 CanBeShown (shown.Payment p) = IsWord p.c_id × IsWord p.discount × IsMoney p.balance
 CanBeShown (shown.OrderStatus o) = IsWord o.c_id × IsMoney o.balance × IfSome o.order IsOrderOfStatus
-CanBeShown (shown.Delivery d) = IsWord d.carrier_id × AllByRecursion (λ order. IfSome order IsWord) d.orders
+CanBeShown (shown.Delivery d) = IsWord d.d_id × IsWord d.carrier_id × IfSome d.order IsWord
 CanBeShown (shown.StockLevel s) = IsWord s.count
 
 -- A possible reason of a rollback.

@@ -53,7 +53,7 @@ abbrev pub order_status_columns : List Column
 order_status_columns = number ∷ number ∷ choice ∷ []
 
 abbrev pub delivery_columns : List Column
-delivery_columns = number ∷ number ∷ Moment ∷ []
+delivery_columns = number ∷ number ∷ number ∷ Moment ∷ []
 
 abbrev pub stock_level_columns : List Column
 stock_level_columns = number ∷ number ∷ number ∷ []
@@ -82,7 +82,7 @@ abbrev pub request_size : Request → ℕ
 request_size (NewOrder n) = 5 + 3 * length n.lines
 request_size (Payment p) = 8
 request_size (OrderStatus o) = 4
-request_size (Delivery d) = 4
+request_size (Delivery d) = 5
 request_size (StockLevel s) = 4
 
 -- A request has these columns after its letter. No request was taken if there are none.

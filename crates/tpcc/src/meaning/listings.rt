@@ -11,9 +11,9 @@ const EVENTS: Spelling = Spelling::Said("one of S, M, T, X and R, or END");
 // The first words of requests.
 const REQUESTS: Spelling = Spelling::Said("one of N, P, O, D and L");
 
-// How many fields a request has, including its letter.
+// How many fields a request has in a log, including its letter.
 const SIZES: Spelling = Spelling::Said(
-    "8 of P, 4 of O, D and L, and of N 5 and 3 for each line, 64 at most",
+    "8 of P, 5 of D, 4 of O and L, and of N 5 and 3 for each line, 64 at most",
 );
 
 /// Searches the fields of an end record, before which there are `count` records.
@@ -92,9 +92,10 @@ fn request_of(search: &mut Search<'_>, count: u64) -> Option<u64> {
         }
         "D" => {
             search.field("W_ID", Spelling::NUMBER);
+            search.field("D_ID", Spelling::NUMBER);
             search.field("O_CARRIER_ID", Spelling::NUMBER);
             search.field("OL_DELIVERY_D", Spelling::Moment);
-            Some(4)
+            Some(5)
         }
         "L" => {
             search.field("W_ID", Spelling::NUMBER);
