@@ -10,6 +10,7 @@ use Rattle.requests.specs.declared.request.Choice.{Choice}
 use Rattle.requests.specs.declared.request.Choice.TheVariants.{Number, LastName}
 use Rattle.requests.specs.declared.request.Request.{Request}
 use Rattle.requests.specs.declared.request.Request.TheVariants as request
+use Rattle.requests.specs.declared.script.Part.{Part}
 use Rattle.requests.specs.declared.new_order.NewOrderLine.{NewOrderLine}
 use Rattle.requests.specs.declared.order_status.StatusLine.{StatusLine}
 use Rattle.requests.specs.declared.order_status.StatusOrder.{StatusOrder}
@@ -52,6 +53,10 @@ Fits (request.StockLevel s) = Unit {0}
 -- A request that can be read.
 abbrev pub CanBeRead : Request → Type 0
 CanBeRead r = CanBeAsked r × Fits r
+
+-- A part of a script that can be read.
+abbrev pub CanBeReadPart : Part → Type 0
+CanBeReadPart part = CanBeRead part.request
 
 -- An item of a schedule that can be read.
 abbrev pub CanBeReadEvent : Event → Type 0
@@ -111,7 +116,7 @@ CanBeReadEntry entry = IsWord entry.session × IsWord entry.number × CanBeRead 
 
 abbrev pub ScriptsAreRead : Type 0
 ScriptsAreRead =
-    (script : List Request) → length script < 2 ^ 32 → AllByRecursion CanBeRead script
+    (script : List Part) → length script < 2 ^ 32 → AllByRecursion CanBeReadPart script
     → (rows : List (List (List ℕ))) → AllByRecursion IsKept rows → IsScript script rows → script_fault rows ≡ None
 
 abbrev pub MovesAreRead : Type 0

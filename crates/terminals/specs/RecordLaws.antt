@@ -5,6 +5,7 @@ use Rattle.amounts.specs.Money.{IsMoney}
 use Rattle.rows.specs.declared.keys.DistrictKey.{DistrictKey}
 use Rattle.requests.specs.declared.request.Request.{Request}
 use Rattle.requests.specs.declared.request.Request.TheVariants as request
+use Rattle.requests.specs.declared.script.Part.{Part}
 use Rattle.requests.specs.declared.new_order.OrderedLine.{OrderedLine}
 use Rattle.requests.specs.declared.new_order.NewOrderLine.{NewOrderLine}
 use Rattle.requests.specs.declared.order_status.StatusLine.{StatusLine}
@@ -48,6 +49,10 @@ CanBeAsked (request.Payment p) = IsDistrictKey p.home × IsDistrictKey p.custome
 CanBeAsked (request.OrderStatus o) = IsDistrictKey o.home × IsChoice o.customer
 CanBeAsked (request.Delivery d) = IsDistrictKey d.home × IsWord d.carrier_id
 CanBeAsked (request.StockLevel s) = IsDistrictKey s.home × IsWord s.threshold
+
+-- A possible part of a script.
+abbrev pub CanBePart : Part → Type 0
+CanBePart part = CanBeAsked part.request
 
 -- A line of an order, as a New-Order shows it.
 abbrev pub IsShownLine : NewOrderLine → Type 0
@@ -107,7 +112,7 @@ CanBeScheduled scheduled.Rounds = Unit {0}
 -- Different scripts have different records.
 abbrev pub ScriptsDiffer : Type 0
 ScriptsDiffer =
-    (one other : List Request) → AllByRecursion CanBeAsked one → AllByRecursion CanBeAsked other
+    (one other : List Part) → AllByRecursion CanBePart one → AllByRecursion CanBePart other
     → (rows : List (List (List ℕ))) → IsScript one rows → IsScript other rows → one ≡ other
 
 -- Different lists of moves have different records.

@@ -55,6 +55,10 @@ order_status_columns = number ∷ number ∷ choice ∷ []
 abbrev pub delivery_columns : List Column
 delivery_columns = number ∷ number ∷ number ∷ Moment ∷ []
 
+-- A Delivery of a warehouse names no district.
+abbrev pub warehouse_delivery_columns : List Column
+warehouse_delivery_columns = number ∷ number ∷ Moment ∷ []
+
 abbrev pub stock_level_columns : List Column
 stock_level_columns = number ∷ number ∷ number ∷ []
 
@@ -67,6 +71,11 @@ request_columns count letter left =
     else (if bytes_eq letter (codes "O") then Some order_status_columns
     else (if bytes_eq letter (codes "D") then Some delivery_columns
     else (if bytes_eq letter (codes "L") then Some stock_level_columns else None))))
+
+-- The same of what a terminal asks for, in a script. A Delivery is of a warehouse.
+abbrev pub terminal_columns : ℕ → List ℕ → ℕ → Option (List Column)
+terminal_columns count letter left =
+    if bytes_eq letter (codes "D") then Some warehouse_delivery_columns else request_columns count letter left
 
 -- What has been read of a record once these columns are taken. An unknown letter has no columns and is a wrong shape.
 abbrev pub after_known : Option (List Column) → FieldsView → FieldsView

@@ -1,16 +1,16 @@
-//! The fields of a Delivery and of its reply.
+//! The fields of a Delivery, of a district or of a warehouse, and of its reply.
 ghost use Rattle.std.specs.Prelude.{◌≡◌, [], ◌∷◌, ◌++◌, OnOk, codes};
 ghost use Rattle.files.specs.Columns.{MaybeWhole, TakesColumn, TakesColumns};
 ghost use Rattle.files.specs.Taken.{TakesWell, Takes};
 ghost use Rattle.files.specs.Written.{AddsFields};
 ghost use Rattle.terminals.specs.ReplyColumns.{delivery_shown};
-ghost use Rattle.terminals.specs.RequestColumns.{delivery_columns};
+ghost use Rattle.terminals.specs.RequestColumns.{delivery_columns, warehouse_delivery_columns};
 ghost use Rattle.terminals.specs.Nullable.{nullable_text};
-ghost use Rattle.terminals.specs.Delivery.{IsDelivery, delivery_reply_fields};
+ghost use Rattle.terminals.specs.Delivery.{IsDelivery, IsWarehouseDelivery, delivery_reply_fields};
 
 use crate::request::{put_district, take_district};
 use files::{Fields, NewRecord, moment_text};
-use requests::{Delivery, DeliveryReply};
+use requests::{Delivery, DeliveryReply, WarehouseDelivery};
 use schema::{NoMemory, Ranged};
 
 /// The number of fields of a Delivery, including its letter.
@@ -34,6 +34,29 @@ pub fn put(row: &mut NewRecord, asked: &Delivery) -> Result<(), NoMemory>
 {
     row.push("D")?;
     put_district(row, asked.home)?;
+    row.push_number(u64::from(asked.carrier_id))?;
+    row.push(moment_text(asked.moment).as_str())
+}
+
+/// Takes the fields of a Delivery of a warehouse after its letter.
+pub fn take_of_warehouse(fields: &mut Fields) -> WarehouseDelivery
+    ensures taken { Takes fields.old fields.new
+        (λ said. IsWarehouseDelivery result (codes "D" ∷ said)) }
+    ensures columns { TakesColumns warehouse_delivery_columns fields.old fields.new }
+{
+    WarehouseDelivery {
+        w_id: fields.whole(0, u32::MAX),
+        carrier_id: fields.whole(0, u32::MAX),
+        moment: fields.moment(),
+    }
+}
+
+/// Adds the fields of a Delivery of a warehouse, including its letter.
+pub fn put_of_warehouse(row: &mut NewRecord, asked: &WarehouseDelivery) -> Result<(), NoMemory>
+    ensures { OnOk result (AddsFields row.old row.new (IsWarehouseDelivery asked.now)) }
+{
+    row.push("D")?;
+    row.push_number(u64::from(asked.w_id))?;
     row.push_number(u64::from(asked.carrier_id))?;
     row.push(moment_text(asked.moment).as_str())
 }

@@ -1,7 +1,7 @@
 use Rattle.std.proofs.Common.{ℕ, ◌+◌, ◌*◌, ◌^◌, ◌≤◌, length, map, sym, ap, ◌∙◌, subst, arith}
 use Rattle.std.specs.Prelude.{List, All}
 use Rattle.rand_pcg.specs.Lcg.{Lcg}
-use Rattle.requests.specs.declared.request.Request.{Request}
+use Rattle.requests.specs.declared.terminal_request.TerminalRequest.{TerminalRequest}
 use Rattle.requests.specs.Check.{IsAccepted}
 use Rattle.number_draws.specs.Words.{seeded}
 use Rattle.workload.specs.declared.kind.Kind.{Kind}
@@ -20,25 +20,16 @@ draw_requests-requires c =
     let count = ap length (c.as_slice.ensures.value ∙ c.in_ok-kinds.ensures) ∙ kinds-count c.args.workload.now.mix c.args.workload.now.requests c.new-deck_draws.result in
     omega arith
 
-pub unreachable-requires : goal.unreachable-requires
-unreachable-requires c =
-    let kinds = ap length (c.as_slice.ensures.value ∙ c.in_ok-kinds.ensures) ∙ kinds-count c.args.workload.now.mix c.args.workload.now.requests c.new-deck_draws.result in
-    let count = ap length c.in_ok-requests.ensures ∙ requests-count c.terminal-terminal.result c.args.workload.now.start 0 c.as_slice.result.now c.new-draws.result in
-    let fits : length c.in_ok-requests.requests.items ≤ 4294967296 = omega arith in
-    let none = c.in-None.ensures.fits.1 fits in
-    absurd (cc)
-
 pub returns-clause-drawn : goal.returns-clause-drawn
 unfolding script_drawn
 returns-clause-drawn c =
     let workload = c.args.workload.now in
     let session = c.args.session in
-    let drawn : Terminal → List Kind → Lcg → List Request = λ t ks g. requests_drawn t workload.start 0 ks g in
+    let drawn : Terminal → List Kind → Lcg → List TerminalRequest = λ t ks g. requests_drawn t workload.start 0 ks g in
     let generator : ℕ → ℕ → ℕ → Lcg = λ seed place more. seeded (seed + 2 ^ 32 * (2 * place + more)) in
     let of_session = λ (more : ℕ). ap (λ seed. generator seed c.from-place.result more) c.from-seed.ensures ∙ ap (λ place. generator workload.seed place more) c.from-place.ensures in
     let kinds = c.as_slice.ensures.value ∙ c.in_ok-kinds.ensures ∙ ap (kinds_drawn workload.mix workload.requests) (c.new-deck_draws.ensures ∙ of_session 1) in
-    c.in-Some.ensures.value ∙ c.in_ok-requests.ensures
-    ∙ ap (λ (t : Terminal). drawn t c.as_slice.result.now c.new-draws.result) c.terminal-terminal.ensures
+    ap (λ (t : Terminal). drawn t c.as_slice.result.now c.new-draws.result) c.terminal-terminal.ensures
     ∙ ap (λ (ks : List Kind). drawn (terminal_of workload session) ks c.new-draws.result) kinds
     ∙ ap (drawn (terminal_of workload session) (kinds_drawn workload.mix workload.requests (seeded (workload.seed + 2 ^ 32 * (2 * session + 1))))) (c.new-draws.ensures ∙ of_session 2)
 
@@ -53,4 +44,4 @@ returns-clause-within c = subst (All (IsWithin (terminal_of c.args.workload.now 
 
 pub returns-clause-mix : goal.returns-clause-mix
 returns-clause-mix c =
-    subst (λ (script : List Request). AreDealt (cards_of c.args.workload.now.mix) (map kind_of script)) (sym (returns-clause-drawn c)) (script-mix c.args.workload.now c.args.session)
+    subst (λ (script : List TerminalRequest). AreDealt (cards_of c.args.workload.now.mix) (map kind_of script)) (sym (returns-clause-drawn c)) (script-mix c.args.workload.now c.args.session)
