@@ -9,3 +9,4 @@ pub mod Check
 pub mod Requests
 pub mod LastName
 pub mod ShownData
+pub mod Script

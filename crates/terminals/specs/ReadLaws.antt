@@ -10,6 +10,7 @@ use Rattle.requests.specs.declared.request.Choice.{Choice}
 use Rattle.requests.specs.declared.request.Choice.TheVariants.{Number, LastName}
 use Rattle.requests.specs.declared.request.Request.{Request}
 use Rattle.requests.specs.declared.request.Request.TheVariants as request
+use Rattle.requests.specs.declared.script.Part.{Part}
 use Rattle.requests.specs.declared.new_order.NewOrderLine.{NewOrderLine}
 use Rattle.requests.specs.declared.order_status.StatusLine.{StatusLine}
 use Rattle.requests.specs.declared.order_status.StatusOrder.{StatusOrder}
@@ -112,7 +113,7 @@ CanBeReadEntry entry = IsWord entry.session × IsWord entry.number × CanBeRead 
 
 abbrev pub ScriptsAreRead : Type 0
 ScriptsAreRead =
-    (script : List Request) → length script < 2 ^ 32 → AllByRecursion CanBeRead script
+    (script : List Part) → length script < 2 ^ 32 → AllByRecursion (λ part. CanBeRead part.request) script
     → (rows : List (List (List ℕ))) → AllByRecursion IsKept rows → IsScript script rows → script_fault rows ≡ None
 
 abbrev pub MovesAreRead : Type 0

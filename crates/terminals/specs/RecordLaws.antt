@@ -5,6 +5,7 @@ use Rattle.amounts.specs.Money.{IsMoney}
 use Rattle.rows.specs.declared.keys.DistrictKey.{DistrictKey}
 use Rattle.requests.specs.declared.request.Request.{Request}
 use Rattle.requests.specs.declared.request.Request.TheVariants as request
+use Rattle.requests.specs.declared.script.Part.{Part}
 use Rattle.requests.specs.declared.new_order.OrderedLine.{OrderedLine}
 use Rattle.requests.specs.declared.new_order.NewOrderLine.{NewOrderLine}
 use Rattle.requests.specs.declared.order_status.StatusLine.{StatusLine}
@@ -107,7 +108,7 @@ CanBeScheduled scheduled.Rounds = Unit {0}
 -- Different scripts have different records.
 abbrev pub ScriptsDiffer : Type 0
 ScriptsDiffer =
-    (one other : List Request) → AllByRecursion CanBeAsked one → AllByRecursion CanBeAsked other
+    (one other : List Part) → AllByRecursion (λ part. CanBeAsked part.request) one → AllByRecursion (λ part. CanBeAsked part.request) other
     → (rows : List (List (List ℕ))) → IsScript one rows → IsScript other rows → one ≡ other
 
 -- Different lists of moves have different records.

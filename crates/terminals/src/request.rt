@@ -11,7 +11,7 @@ ghost use Rattle.terminals.specs.RequestFields.{IsRequest};
 use crate::listing::{Listed, WrittenRecord};
 use crate::{delivery, new_order, order_status, payment, stock_level};
 use files::{FaultKind, Fields, NewRecord};
-use requests::Request;
+use requests::{Part, Request};
 use schema::{DistrictKey, NoMemory};
 use std::alloc::Global;
 
@@ -30,11 +30,11 @@ impl Listed for Request {
     }
 }
 
-impl WrittenRecord for Request {
-    ghost is_record = { λ place. IsRequest };
+impl WrittenRecord for Part {
+    ghost is_record = { λ place part. IsRequest part.request };
 
     fn put(&self, _place: u64, row: &mut NewRecord) -> Result<(), NoMemory> {
-        put(row, self)
+        put(row, &self.request)
     }
 }
 

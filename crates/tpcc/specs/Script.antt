@@ -36,7 +36,7 @@ pub record IsWorkload (s : ScriptSettings) (at_scale : Scale) (w : Workload) : T
 
 -- the records of the script that is drawn for the session; the check accepts each of its requests
 abbrev pub AreDrawn : Workload → ℕ → List (List (List ℕ)) → Type 0
-AreDrawn workload session rows = IsScript (script_drawn workload session) rows × All (IsAccepted workload.scale) (script_drawn workload session)
+AreDrawn workload session rows = IsScript (script_drawn workload session) rows × All (λ part. IsAccepted workload.scale part.request) (script_drawn workload session)
 
 -- the settings contain a home warehouse that is not in the scale
 abbrev pub IsNoWarehouse : Option ℕ → Scale → CommandFault → Type 0

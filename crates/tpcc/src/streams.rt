@@ -5,6 +5,7 @@ ghost use Rattle.dataset.specs.FirstFault.{IsFaultOf};
 ghost use Rattle.dataset.specs.Records.{AreRecords};
 ghost use Rattle.files.specs.Sending.{Begins, Writes};
 ghost use Rattle.terminals.specs.LogRecord.{IsLog};
+ghost use Rattle.requests.specs.Script.{IsOfRecords};
 ghost use Rattle.terminals.specs.Script.{IsScript};
 ghost use Rattle.tpcc.specs.OutputFiles.{Shelves};
 ghost use Rattle.files.specs.Place.{Gives};
@@ -134,6 +135,7 @@ pub fn write_requests<'a, T: Write + Drop, N: OutputFiles<T>>(
     script: &Script,
     output_files: &mut N,
 ) -> Result<(), CommandFault<'a>>
+    requires { IsOfRecords script.now }
     ensures ok { OnOk result (NamesFile T.contents (Some sink)
         (N.named output_files.old) (N.named output_files.new) (IsScript script.now)) }
     ensures err { OnErr result (N.named output_files.new ≡ N.named output_files.old) }

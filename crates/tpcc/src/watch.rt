@@ -113,22 +113,22 @@ impl<'a, R: Clock> Watch<'a, R> {
 }
 
 impl<R: Clock> Gate for Watch<'_, R> {
-    fn asked(&self, session: u32, number: u32, _request: &Request) {
+    fn asked(&self, session: u32, _number: u32, _request: &Request) {
         if let Some(now) = self.now() {
             if self.first.load(Ordering::SeqCst) == 0 {
                 let _ = self
                     .first
                     .compare_exchange(0, now, Ordering::SeqCst, Ordering::SeqCst);
             }
-            self.latencies.begin(session, number, now);
+            self.latencies.begin(session, now);
         }
     }
 
     fn commit(&self, _session: u32, _number: u32, _request: &Request) {}
 
-    fn answered(&self, session: u32, number: u32, _request: &Request) {
+    fn answered(&self, session: u32, _number: u32, _request: &Request) {
         if let Some(now) = self.now() {
-            self.latencies.end(session, number, now);
+            self.latencies.end(session, now);
             self.last.store(now, Ordering::SeqCst);
             self.answered.fetch_add(1, Ordering::SeqCst);
             self.report_in_time(now);

@@ -17,7 +17,7 @@ use std::alloc::Global;
 // The distance between the seeds of two generators: one more than the greatest seed of a workload.
 const STRIDE: u64 = 4_294_967_296;
 
-/// Returns the script of a session, 0 to 63: as many requests as the workload has for each session.
+/// Returns the script of a session, 0 to 63: as many requests as the workload has for each session, numbered by their places.
 ///
 /// Two generators (`number_draws`) draw it: one the decks, the other the requests. So a script of fewer requests is the
 /// beginning of a longer one of the same seed.
@@ -27,10 +27,11 @@ pub fn draw_script(alloc: Global, workload: &Workload, session: u32) -> Result<S
     requires { session < SESSIONS }
     ensures drawn { IfOk result (λ script. script ≡ script_drawn workload.now session) }
     ensures count { IfOk result (λ script. length script ≡ workload.now.requests) }
-    ensures accepted { IfOk result (All (IsAccepted workload.now.scale)) }
-    ensures within { IfOk result (All (IsWithin (terminal_of workload.now session))) }
+    ensures accepted { IfOk result (All (λ part. IsAccepted workload.now.scale part.request)) }
+    ensures within { IfOk result
+        (All (λ part. IsWithin (terminal_of workload.now session) part.request)) }
     ensures mix { IfOk result
-        (λ script. AreDealt (cards_of workload.now.mix) (map kind_of script)) }
+        (λ script. AreDealt (cards_of workload.now.mix) (map (λ part. kind_of part.request) script)) }
 {
     let terminal = workload.terminal(session);
     let seed = u64::from(workload.seed);
@@ -45,8 +46,5 @@ pub fn draw_script(alloc: Global, workload: &Workload, session: u32) -> Result<S
         workload.start,
         kinds.as_slice(),
     )?;
-    match Script::checked_new(requests) {
-        Some(script) => Ok(script),
-        None => unreachable!(),
-    }
+    Script::of_records(alloc, requests)
 }
