@@ -3,7 +3,7 @@ use Rattle.std.specs.Prelude.{◌≡◌, ◌<◌, ◌≤◌, ℕ, List, [], leng
 use Rattle.rows.specs.declared.limits.TheConstants.{SESSIONS}
 use Rattle.schema.specs.Database.{Database}
 use Rattle.partitions.specs.Parts.{shared_of}
-use Rattle.requests.specs.declared.request.Request.{Request}
+use Rattle.requests.specs.declared.script.Part.{Part}
 use Rattle.tickets.specs.declared.group_names.GroupNames.{Ghosts as GroupNames}
 use Rattle.tickets.specs.Openings.{AreNamed}
 use Rattle.commit_log.specs.declared.log_names.LogNames.{Ghosts as LogNames}
@@ -14,7 +14,7 @@ use Rattle.engine.specs.declared.opening.Opening.{Opening}
 
 -- The type parameter identifies these tables, these scripts and this opening's agreements: there is an agreement for each group
 -- of the tables, with the group's content; the log is the one that was opened; and each script has a session.
-pub record IsNamedFor {J : Type 0} (log : LogNames J) (groups : GroupNames J) (named : List (List Request)) (tables : Database) (scripts : List (List Request)) (opening : Opening) : Type 0 where
+pub record IsNamedFor {J : Type 0} (log : LogNames J) (groups : GroupNames J) (named : List (List Part)) (tables : Database) (scripts : List (List Part)) (opening : Opening) : Type 0 where
   pub opened : AreOpenedFor tables opening.groups.items
   pub tables_are : log.opening ≡ tables
   pub warehouses : groups.warehouses ≡ tables.scale.warehouses

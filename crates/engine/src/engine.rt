@@ -7,7 +7,7 @@ use crate::{Gate, ServeNames};
 use commit_log::Log;
 use crossbeam_utils::Backoff;
 use executor::{CompletionOwner, Flow, PhaseOwner, SessionAnswer};
-use requests::{Request, Script};
+use requests::{Part, Script};
 use routing::SharedRouting;
 use std::alloc::Global;
 use std::sync::atomic::{AtomicBool, AtomicU64, AtomicUsize, Ordering};
@@ -119,12 +119,9 @@ impl<J: ServeNames, G: Gate> Engine<'_, J, G> {
         self.waiters.get(slot.checked_sub(self.scripts.len())?)
     }
 
-    /// The request of this number in this session's script. `None` for a session without a script.
-    pub(crate) fn request(&self, session: u32, number: u32) -> Option<&Request> {
-        self.scripts
-            .get(session as usize)?
-            .requests()
-            .get(number as usize)
+    /// The part at this place of this session's script. `None` for a session without a script.
+    pub(crate) fn part(&self, session: u32, place: usize) -> Option<&Part> {
+        self.scripts.get(session as usize)?.parts().get(place)
     }
 
     /// Takes the log's lock and returns the log. No request is logged while it is held.

@@ -5,10 +5,10 @@ use std::marker::Brand;
 /// has it as a type parameter. Ghost data only: the call that serves the scripts picks it.
 pub trait ServeNames: Names {
     ghost use Rattle.std.specs.Prelude.{List};
-    ghost use Rattle.requests.specs.declared.request.Request.{Request};
+    ghost use Rattle.requests.specs.declared.script.Part.{Part};
 
     /// The scripts, by the numbers of their sessions.
-    ghost scripts: { List (List Request) };
+    ghost scripts: { List (List Part) };
 }
 
 impl ServeNames for Brand {

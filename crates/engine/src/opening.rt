@@ -162,7 +162,7 @@ pub fn open<'a, J: ServeNames, G: Gate + Drop>(
 fn requests_in(scripts: &[Script]) -> usize {
     let mut count: usize = 0;
     for script in scripts {
-        count = count.saturating_add(script.requests().len());
+        count = count.saturating_add(script.parts().len());
     }
     count
 }
@@ -202,8 +202,8 @@ fn begin_sessions<J: ServeNames>(
     scripts: &[Script],
 ) -> Result<(), NoMemory> {
     for (slot, script) in scripts.iter().enumerate() {
-        let to = match script.requests().first() {
-            Some(request) => routing.route(home_of_request(request)),
+        let to = match script.parts().first() {
+            Some(part) => routing.route(home_of_request(&part.request)),
             None => 0,
         };
         if let Some(executor) = executors.get_mut(to as usize) {

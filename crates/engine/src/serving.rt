@@ -4,6 +4,7 @@ ghost use Rattle.schema.specs.Consistency.{Consistent};
 ghost use Rattle.rows.specs.declared.limits.TheConstants.{MOST_ENTRIES};
 ghost use Rattle.commit_log.specs.Limits.{AreLimits};
 ghost use Rattle.range_moves.specs.Orders.{IsWithin};
+ghost use Rattle.requests.specs.Script.{AreNumberedByPlace};
 ghost use Rattle.engine.specs.Interactive.{HasAskedNothing, asked_by, recorded_by};
 ghost use Rattle.engine.specs.Faults.{AreWithin, IsFaultOf, IsFirstBad, IsOfServing};
 ghost use Rattle.engine.specs.Opening.{IsNamedFor};
@@ -66,7 +67,7 @@ pub fn serve<R: Threads + Wait + Sync, G: Gate + Send + Sync + Drop>(
 
 /// Has a client ask interactively by `sessions` sessions, from the opening tables. `executors` executors share the tables'
 /// warehouses meanwhile, each in a thread of its own, as in `serve`. The outcome contains what each session asked as a script
-/// (`asked`), and the answers that it had.
+/// (`asked`), numbered by place, and the answers that it had.
 ///
 /// Errors: `NotConsistent`, `NoThread` and `NoMemory` as in `serve`; `Unsettled` if a session was not given back in its place, or
 /// something else was not back once all executors had ended.
@@ -83,6 +84,7 @@ pub fn serve_client<R: Threads + Wait + Sync, C: Client>(
     ensures outcome { IfOk result (λ outcome.
         IsOutcomeOf opening MOST_ENTRIES outcome.asked.items outcome) }
     ensures sessions { IfOk result (λ outcome. length outcome.asked.items ≡ sessions) }
+    ensures numbered { IfOk result (λ outcome. All AreNumberedByPlace outcome.asked.items) }
     ensures promised { IfOk result (λ outcome.
         C.promises client.now opening outcome.asked.items outcome.answers.items) }
     ensures consistent { OnOk result (Consistent opening) }
@@ -143,6 +145,7 @@ fn serve_all<R: Threads + Wait + Sync, G: Gate + Send + Sync + Drop, C: Client>(
     ensures outcome { IfOk result (λ outcome.
         IsOutcomeOf opening options.now.limits.log (scripts.now ++ outcome.asked.items) outcome) }
     ensures asked { IfOk result (λ outcome. length outcome.asked.items ≡ sessions) }
+    ensures numbered { IfOk result (λ outcome. All AreNumberedByPlace outcome.asked.items) }
     ensures promised { IfOk result (λ outcome. C.promises client.now opening outcome.asked.items
         (drop (length scripts.now) outcome.answers.items)) }
     ensures consistent { OnOk result (Consistent opening) }
@@ -198,6 +201,7 @@ fn serve_from<
         IsOutcomeOf tables J.most (scripts.now ++ outcome.asked.items) outcome) }
     ensures asked { IfOk result (λ outcome.
         length scripts.now + length outcome.asked.items ≡ opening.sessions) }
+    ensures numbered { IfOk result (λ outcome. All AreNumberedByPlace outcome.asked.items) }
     ensures promised { IfOk result (λ outcome. C.promises client.now tables outcome.asked.items
         (drop (length scripts.now) outcome.answers.items)) }
     ensures fault { IfErr result (λ fault. IsOfServing fault) }

@@ -10,3 +10,4 @@ pub mod Requests
 pub mod TerminalRequest
 pub mod LastName
 pub mod ShownData
+pub mod Script

@@ -1,7 +1,10 @@
 //! What a terminal asks for, which is a record of a script.
 
-use crate::{NewOrder, OrderStatus, Payment, StockLevel};
-use schema::Moment;
+ghost use Rattle.std.specs.Prelude.{◌≡◌};
+ghost use Rattle.requests.specs.TerminalRequest.{delivery_in};
+
+use crate::{Delivery, NewOrder, OrderStatus, Payment, StockLevel};
+use schema::{DistrictKey, Moment};
 
 /// A Delivery as a terminal asks for it (clause 2.7.1): of all districts of a warehouse. Before `check`, any
 /// number may be out of its range.
@@ -24,4 +27,21 @@ pub enum TerminalRequest {
     OrderStatus(OrderStatus),
     Delivery(WarehouseDelivery),
     StockLevel(StockLevel),
+}
+
+impl WarehouseDelivery {
+    /// The Delivery of this district.
+    pub fn of_district(self, d_id: u32) -> Delivery
+        ensures { result ≡ delivery_in self d_id }
+    {
+        let home = DistrictKey {
+            w_id: self.w_id,
+            d_id,
+        };
+        Delivery {
+            home,
+            carrier_id: self.carrier_id,
+            moment: self.moment,
+        }
+    }
 }

@@ -56,7 +56,7 @@ impl ReadsBack {
     ) -> Option<Vec<Left<J>>> {
         let asks = sessions.pop()?;
         let pays = sessions.pop()?;
-        if (pays.number(), asks.number()) != (0, 1) || !asks.requests().is_empty() {
+        if (pays.number(), asks.number()) != (0, 1) || !asks.parts().is_empty() {
             return None;
         }
         let mut pays = ask_until_done(rt, alloc, engine, pays, &payment(123))?;
@@ -111,7 +111,7 @@ fn last_owed<J: ServeNames, G: Gate>(
     let Ok(place) = *session.answers().last()? else {
         return None;
     };
-    if session.requests().iter().any(|it| *it != status()) {
+    if session.parts().iter().any(|it| it.request != status()) {
         return None;
     }
     let mut log = engine.log(rt);
@@ -162,7 +162,7 @@ impl AsksTooLate {
         let (session, answer) = session.ask(rt, alloc, engine, payment(456)).ok()?;
         if answer == Err(Refusal::Closed) {
             self.asked
-                .store(session.requests().len() as u64, Ordering::SeqCst);
+                .store(session.parts().len() as u64, Ordering::SeqCst);
         }
         let mut left = Vec::new(alloc);
         left.push(session.leave(rt, engine)).ok()?;

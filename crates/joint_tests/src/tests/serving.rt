@@ -4,7 +4,7 @@ ghost use Rattle.commit_log.specs.Limits.{AreLimits};
 use super::*;
 use commit_log::Limits;
 use engine::{Gate, MoveOrder, Outcome, ServeFault, ServeOptions, serve};
-use requests::Script;
+use requests::{Part, Script};
 use std::alloc::Global;
 use std::process::Abort;
 use std::sync::Wait;
@@ -20,21 +20,23 @@ fn script(alloc: Global, w_id: u32, amount: u32) -> Result<Script, Fail> {
 }
 
 // `count` payments of that amount at a warehouse.
-fn scripted(alloc: Global, w_id: u32, amount: u32, count: usize) -> Result<Script, Fail> {
-    let mut requests = Vec::new(alloc);
-    for _ in 0..count {
-        requests.push(payment_at(w_id, amount))?;
+fn scripted(alloc: Global, w_id: u32, amount: u32, count: u32) -> Result<Script, Fail> {
+    let mut parts = Vec::new(alloc);
+    for number in 0..count {
+        let request = payment_at(w_id, amount);
+        parts.push(Part { number, request })?;
     }
-    Ok(Script::checked_new(requests).ok_or("a script")?)
+    Ok(Script::checked_new(parts).ok_or("a script")?)
 }
 
 // 25 payments at a warehouse by a customer of another.
 fn crossing(alloc: Global, w_id: u32, customer_w_id: u32) -> Result<Script, Fail> {
-    let mut requests = Vec::new(alloc);
-    for _ in 0..25 {
-        requests.push(payment_by(w_id, customer_w_id, 100))?;
+    let mut parts = Vec::new(alloc);
+    for number in 0..25 {
+        let request = payment_by(w_id, customer_w_id, 100);
+        parts.push(Part { number, request })?;
     }
-    Ok(Script::checked_new(requests).ok_or("a script")?)
+    Ok(Script::checked_new(parts).ok_or("a script")?)
 }
 
 // Whether the count reaches this number before the thread has yielded MOST_TURNS times.
@@ -337,6 +339,64 @@ fn inboxes_of_one_message_are_enough(rt: HostRuntime) -> Result<(), Fail> {
     )?;
     assert_eq!(rt; done_in(&outcome), 150);
     assert_eq!(rt; outcome.log.len(), 150);
+    Ok(())
+}
+
+// This gate adds up the numbers of the requests that are asked, that are about to be logged, and that are answered.
+#[derive(Drop)]
+struct AddsNumbers {
+    asked: AtomicU64,
+    logged: AtomicU64,
+    answered: AtomicU64,
+}
+
+impl Gate for AddsNumbers {
+    fn asked(&self, _session: u32, number: u32, _request: &Request) {
+        self.asked.fetch_add(u64::from(number), Ordering::SeqCst);
+    }
+
+    fn commit(&self, _session: u32, number: u32, _request: &Request) {
+        self.logged.fetch_add(u64::from(number), Ordering::SeqCst);
+    }
+
+    fn answered(&self, _session: u32, number: u32, _request: &Request) {
+        self.answered.fetch_add(u64::from(number), Ordering::SeqCst);
+    }
+}
+
+// Parts of a script that have one number, and others that have none of the places: the log's entries and the gate have the numbers of
+// the parts, in the order of the parts.
+#[test]
+fn parts_have_numbers_of_their_own(rt: HostRuntime) -> Result<(), Fail> {
+    let alloc = rt.alloc();
+    let numbers = [10, 10, 4_000_000_000, 10, 200];
+    let mut parts = Vec::new(alloc);
+    for number in numbers {
+        let request = payment_at(1, 100);
+        parts.push(Part { number, request })?;
+    }
+    let scripts = [Script::checked_new(parts).ok_or("a script")?];
+    let gate = AddsNumbers {
+        asked: AtomicU64::new(0),
+        logged: AtomicU64::new(0),
+        answered: AtomicU64::new(0),
+    };
+    let outcome = serve(
+        &rt,
+        alloc,
+        warehouses(alloc, 2)?,
+        &scripts,
+        &by(2, &[]),
+        &gate,
+    )?;
+    let mut logged = Vec::new(alloc);
+    for entry in &outcome.log {
+        logged.push(entry.number)?;
+    }
+    assert_eq!(rt; logged.as_slice(), numbers.as_slice());
+    assert_eq!(rt; gate.asked.load(Ordering::SeqCst), 4_000_000_230);
+    assert_eq!(rt; gate.logged.load(Ordering::SeqCst), 4_000_000_230);
+    assert_eq!(rt; gate.answered.load(Ordering::SeqCst), 4_000_000_230);
     Ok(())
 }
 

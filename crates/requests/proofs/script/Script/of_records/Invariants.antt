@@ -1,0 +1,11 @@
+-- The parts so far, followed by those of the requests that are left, are the parts of all requests.
+use Rattle.std.proofs.Common.{◌≡◌, ◌≤◌, ◌+◌, ◌++◌, length, vec_capacity}
+use Rattle.requests.specs.Script.{parts_from}
+use Rattle.requests.proofs.script.Script.of_records.Given as goal
+
+abbrev pub invariant-loop-number : goal.invariant-loop-number
+invariant-loop-number l = record {
+  can_next : (goal.iterator-loop-number).can_next l.number-iterator;
+  finite : (goal.iterator-loop-number).is_finite l.number-iterator;
+  hole : ?;
+}
