@@ -60,8 +60,8 @@ impl Script {
             return Err(NoMemory);
         }
         let mut parts = Vec::new(alloc);
-        for (number, record) in records.into_iter().enumerate() {
-            push_parts(&mut parts, number as u32, record)?;
+        for (number, asked) in records.into_iter().enumerate() {
+            push_parts(&mut parts, number as u32, asked)?;
         }
         match Script::checked_new(parts) {
             Some(script) => Ok(script),
@@ -79,18 +79,18 @@ impl Script {
 }
 
 // Adds the parts of the record with this number.
-fn push_parts(
-    parts: &mut Vec<Part>,
-    number: u32,
-    record: TerminalRequest,
-) -> Result<(), NoMemory>
-    ensures { OnOk result (parts.new.items ≡ parts.old.items ++ parts_of number record) }
+fn push_parts(parts: &mut Vec<Part>, number: u32, asked: TerminalRequest) -> Result<(), NoMemory>
+    ensures { OnOk result (parts.new.items ≡ parts.old.items ++ parts_of number asked) }
 {
-    match record {
+    match asked {
         TerminalRequest::NewOrder(asked) => push_part(parts, number, Request::NewOrder(asked)),
         TerminalRequest::Payment(asked) => push_part(parts, number, Request::Payment(asked)),
-        TerminalRequest::OrderStatus(asked) => push_part(parts, number, Request::OrderStatus(asked)),
-        TerminalRequest::Delivery(asked) => push_deliveries(parts, number, asked),
+        TerminalRequest::OrderStatus(asked) => push_part(
+            parts,
+            number,
+            Request::OrderStatus(asked),
+        ),
+        TerminalRequest::Delivery(asked) => push_deliveries(parts, number, &asked),
         TerminalRequest::StockLevel(asked) => push_part(parts, number, Request::StockLevel(asked)),
     }
 }
@@ -98,17 +98,18 @@ fn push_parts(
 fn push_part(parts: &mut Vec<Part>, number: u32, request: Request) -> Result<(), NoMemory>
     ensures { OnOk result (parts.new.items ≡ parts.old.items ++ (part number request ∷ [])) }
 {
-    parts.push(Part { number, request })
+    parts.push(Part { number, request })?;
+    Ok(())
 }
 
 // Adds the Deliveries of the warehouse's districts, in order.
 fn push_deliveries(
     parts: &mut Vec<Part>,
     number: u32,
-    asked: WarehouseDelivery,
+    asked: &WarehouseDelivery,
 ) -> Result<(), NoMemory>
     ensures { OnOk result
-        (parts.new.items ≡ parts.old.items ++ parts_of number (TerminalRequest.Delivery asked)) }
+        (parts.new.items ≡ parts.old.items ++ parts_of number (TerminalRequest.Delivery asked.now)) }
 {
     for d_id in 1..11 {
         let delivery = asked.of_district(d_id);

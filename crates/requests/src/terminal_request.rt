@@ -31,8 +31,8 @@ pub enum TerminalRequest {
 
 impl WarehouseDelivery {
     /// The Delivery of this district.
-    pub fn of_district(self, d_id: u32) -> Delivery
-        ensures { result ≡ delivery_in self d_id }
+    pub fn of_district(&self, d_id: u32) -> Delivery
+        ensures { result ≡ delivery_in self.now d_id }
     {
         let home = DistrictKey {
             w_id: self.w_id,
