@@ -1,7 +1,7 @@
 -- Which requests the check accepts, by their fields.
 use Rattle.std.proofs.Common.{◌≡◌, ℕ, true, List, [], ◌∷◌, length, map, refl}
 use Rattle.std.specs.Prelude.{All}
-use Rattle.std.specs.List.{AllByRecursion, list_all}
+use Rattle.std.specs.List.{AllByRecursion, list_all, range_with_len}
 use Rattle.std.proofs.lemmas.List.Elements.{All-nil, All-cons}
 use Rattle.rows.specs.Ranged.{is_between}
 use Rattle.schema.specs.declared.scale.Scale.{Scale}
@@ -16,7 +16,7 @@ use Rattle.requests.specs.declared.stock_level.StockLevel.{StockLevel as LevelRe
 use Rattle.requests.specs.declared.terminal_request.TerminalRequest.TheVariants as asked
 use Rattle.requests.specs.declared.terminal_request.WarehouseDelivery.{WarehouseDelivery}
 use Rattle.requests.specs.Check.{IsAccepted}
-use Rattle.requests.specs.TerminalRequest.{delivery_in, districts}
+use Rattle.requests.specs.TerminalRequest.{delivery_in}
 use Rattle.workload.specs.Within.{AreAccepted}
 
 pub accepted-new_order : (scale : Scale) (n : OrderRequest) → has_warehouse scale n.home.w_id ≡ true → is_between 1 10 n.home.d_id ≡ true → is_between 5 15 (length n.lines) ≡ true
@@ -42,7 +42,7 @@ accepted-deliveries scale d (k ∷ ks) warehouse carrier all =
 
 pub accepted-warehouse_delivery : (scale : Scale) (d : WarehouseDelivery) → has_warehouse scale d.w_id ≡ true → is_between 1 10 d.carrier_id ≡ true → AreAccepted scale (asked.Delivery d)
 accepted-warehouse_delivery scale d warehouse carrier =
-    accepted-deliveries scale d districts warehouse carrier (refl, refl, refl, refl, refl, refl, refl, refl, refl, refl, tt)
+    accepted-deliveries scale d (range_with_len 1 10) warehouse carrier (refl, (refl, (refl, (refl, (refl, (refl, (refl, (refl, (refl, (refl, tt))))))))))
 
 -- what is one request
 pub accepted-alone : (scale : Scale) (request : Request) → IsAccepted scale request → All (IsAccepted scale) (request ∷ [])
