@@ -1,5 +1,5 @@
 //! A session that asks interactively. Its caller owns it and waits for each answer.
-ghost use Rattle.std.specs.Prelude.{◌≡◌, ◌≤◌, [], ◌∷◌, ◌++◌, length, false, Ok, IfOk, IfErr, IfSome};
+ghost use Rattle.std.specs.Prelude.{◌≡◌, ◌≤◌, [], ◌∷◌, ◌++◌, length, true, false, Ok, IfOk, IfErr, IfSome};
 ghost use Rattle.requests.specs.Check.{check_of};
 ghost use Rattle.commit_log.specs.Items.{items_of};
 ghost use Rattle.executor.specs.Answers.{IsRecordedBy};
@@ -10,6 +10,7 @@ ghost use Rattle.engine.specs.Served.{ServedIn};
 ghost use Rattle.engine.specs.Interactive.{Asks, HasAsked, HasAskedNothing, HasMet, IsBackIn};
 
 use crate::asking::says_full;
+use crate::closed_engine::ClosedEngine;
 use crate::message::Message;
 use crate::{Answers, Engine, Gate, ServeNames};
 use commit_log::{Log, Pass, SessionSeat};
@@ -28,7 +29,8 @@ use transactions::home_of_request;
 /// A session that asks interactively, none of whose requests is in flight.
 ///
 /// Contracts see what it has asked so far (`script`), its pass, which records what it has seen of the log and logged (`pass`),
-/// and its answers (`answers`). Invariant: each answer is the result of its request.
+/// its answers (`answers`), and whether it has found the engine closed (`is_closed`). Invariant: each answer is the result of its
+/// request.
 #[derive(Drop)]
 pub struct Session<J: ServeNames> {
     seat: SessionSeat<J>,
@@ -37,6 +39,8 @@ pub struct Session<J: ServeNames> {
     answers: Vec<Result<u32, Refusal>>,
     // Whether it has had the answer LogFull. It asks no more then.
     is_full: bool,
+    // Some once it has found the engine closed.
+    closed: Option<ClosedEngine<J>>,
     // Senders into the inboxes of all executors, by their numbers.
     outlets: Vec<Sender<Message<J>>>,
 }
@@ -46,15 +50,16 @@ impl<J: ServeNames> Model for Session<J> {
 
     ghost Value = { ReadyView };
 
+    ghost use Rattle.std.specs.Prelude.{is_some};
     ghost use Rattle.engine.specs.Asking.{IsResting, ready_view};
     ghost use Rattle.engine.specs.Rules.{rules_of};
 
-    ghost view = { λ s. ready_view s.requests.items s.seat s.pass s.answers.items s.is_full };
+    ghost view = { λ s. record (ready_view s.requests.items s.seat s.pass s.answers.items s.is_full) { is_closed = is_some s.closed } };
 
     ghost invariant = { λ s. IsResting (rules_of J.opening J.most) (ready_view s.requests.items s.seat s.pass s.answers.items s.is_full) };
 }
 
-/// A session with its next request, and with capacity to keep the request and its answer.
+/// A session that has not found the engine closed, with its next request, and with capacity to keep the request and its answer.
 #[derive(Drop)]
 struct Asker<J: ServeNames> {
     seat: SessionSeat<J>,
@@ -157,6 +162,7 @@ impl<J: ServeNames> Session<J> {
             requests: Vec::new(alloc),
             answers: Vec::new(alloc),
             is_full: false,
+            closed: None,
             outlets,
         }
     }
@@ -192,7 +198,8 @@ impl<J: ServeNames> Session<J> {
     /// Asks a request and waits for its answer: the place of its entry in the log (`Engine::log`), or why it was refused. The
     /// entry is behind all that the session and those that it met have seen. After a refusal the session has seen and logged what
     /// it had before. The request is asked once; the caller may ask one again that was refused with Died or NoMemory. If the engine
-    /// is closed (`Engine::close`), the request is not asked: it is refused with Closed, and the session is unchanged.
+    /// is closed (`Engine::close`), the request is not asked: it is refused with Closed, and so are all that the session asks from
+    /// then on; nothing else of the session is changed.
     pub fn ask<G: Gate>(
         self,
         rt: &impl Wait,
@@ -203,14 +210,16 @@ impl<J: ServeNames> Session<J> {
         ensures asks { IfOk result (λ r. Asks (rules_of J.opening J.most) self request r.0 r.1) }
         ensures back { IfErr result (IsBackIn self) }
     {
-        if engine.is_closed() {
-            return Ok((self, Err(Refusal::Closed)));
+        let mut session = self;
+        session.look_for_close(engine);
+        if session.closed.is_some() {
+            return Ok((session, Err(Refusal::Closed)));
         }
         if engine.is_stopped() {
-            return Err(AskFault::Stopped(self));
+            return Err(AskFault::Stopped(session));
         }
-        let Ok(number) = u32::try_from(self.answers.len()) else {
-            return Err(AskFault::NoMemory(self));
+        let Ok(number) = u32::try_from(session.answers.len()) else {
+            return Err(AskFault::NoMemory(session));
         };
         let Session {
             seat,
@@ -218,8 +227,9 @@ impl<J: ServeNames> Session<J> {
             mut requests,
             mut answers,
             is_full,
+            closed: _,
             outlets,
-        } = self;
+        } = session;
         if requests.reserve(1).is_err() || answers.reserve(1).is_err() {
             return Err(AskFault::NoMemory(Session {
                 seat,
@@ -227,6 +237,7 @@ impl<J: ServeNames> Session<J> {
                 requests,
                 answers,
                 is_full,
+                closed: None,
                 outlets,
             }));
         }
@@ -247,6 +258,16 @@ impl<J: ServeNames> Session<J> {
                 Some(answered) => Ok(answered),
                 None => Err(AskFault::Lost),
             },
+        }
+    }
+
+    // Takes a token if the engine is closed, unless it has one.
+    fn look_for_close<G: Gate>(&mut self, engine: &Engine<'_, J, G>)
+        ensures same { self.new ≡ record self.old { is_closed = self.new.is_closed } }
+        ensures keeps { self.old.is_closed ≡ true → self.new.is_closed ≡ true }
+    {
+        if self.closed.is_none() {
+            self.closed = engine.closing.closed();
         }
     }
 
@@ -310,6 +331,7 @@ impl<J: ServeNames> Asker<J> {
             requests,
             answers,
             is_full,
+            closed: None,
             outlets,
         };
         (session, Err(refusal))
@@ -405,6 +427,7 @@ impl<J: ServeNames> Away<J> {
         ensures noted { result.0.script ≡ self.script ++ self.seat.asking.request ∷ [] }
         ensures answered { result.0.answers ≡ self.answers ++ answer ∷ [] }
         ensures pass { result.0.pass ≡ pass }
+        ensures open { result.0.is_closed ≡ false }
     {
         let Away {
             seat,
@@ -422,6 +445,7 @@ impl<J: ServeNames> Away<J> {
             requests,
             answers,
             is_full,
+            closed: None,
             outlets,
         };
         (session, answer)
