@@ -7,5 +7,8 @@ abbrev pub invariant-loop-number : goal.invariant-loop-number
 invariant-loop-number l = record {
   can_next : (goal.iterator-loop-number).can_next l.number-iterator;
   finite : (goal.iterator-loop-number).is_finite l.number-iterator;
-  hole : ?;
+  numbered : l.parts.items ++ parts_from l.number-iterator.count l.number-iterator.iter.rest.items ≡ parts_from 0 l.fn.requests.items;
+  count : length l.parts.items ≡ l.number-iterator.count;
+  all : l.number-iterator.count + length l.number-iterator.iter.rest.items ≡ length l.fn.requests.items;
+  room : length l.fn.requests.items ≤ vec_capacity l.parts;
 }
