@@ -7,3 +7,4 @@ pub mod DeliveryReplies
 pub mod StockLevelReplies
 pub mod SameReplies
 pub mod Sendable
+pub mod Parts

@@ -1,8 +1,11 @@
 -- The records of a log's entry, of a move and of a schedule's item determine it.
 use Rattle.std.proofs.Common.{◌≡◌, ℕ, List, ◌++◌, length, refl, sym, ap, subst, ◌∙◌, arith}
 use Rattle.std.specs.Fmt.{decimal}
+use Rattle.std.specs.List.{AllByRecursion}
 use Rattle.std.proofs.lemmas.Fmt.{decimal_injective}
 use Rattle.commit_log.specs.declared.entry.Entry.{Entry}
+use Rattle.requests.specs.declared.script.Part.{Part}
+use Rattle.requests.specs.Script.{parts_from}
 use Rattle.history.specs.declared.event.Event.{Event}
 use Rattle.history.specs.declared.event.Event.TheVariants.{Submit, Order, Take, Send}
 use Rattle.history.specs.declared.schedule.Scheduled.{Scheduled}
@@ -16,6 +19,7 @@ use Rattle.terminals.specs.Schedule.{IsEventRecord, IsScheduleRecord}
 use Rattle.terminals.specs.RecordLaws.{CanBeAsked, CanBeEvent, CanBeLogged, CanBeOrdered, CanBeScheduled, LogsDiffer, MovesDiffer, SchedulesDiffer, ScriptsDiffer}
 use Rattle.terminals.proofs.ListedTexts.{listing-reports, same_parts}
 use Rattle.terminals.proofs.RequestTexts.{few_fields, letter, same_request, same_word}
+use Rattle.terminals.proofs.ScriptRecords.{asked_of_all}
 use Rattle.terminals.proofs.ReplyTexts.{same_reply}
 
 same_entry : (place : ℕ) (a b : Entry) → CanBeLogged a → CanBeLogged b → (fields : List (List ℕ)) → IsLogRecord place a fields → IsLogRecord place b fields → a ≡ b
@@ -53,7 +57,11 @@ pub logs_differ : LogsDiffer
 logs_differ = listing-reports IsLogRecord CanBeLogged same_entry
 
 pub scripts_differ : ScriptsDiffer
-scripts_differ = listing-reports (λ place. IsRequest) CanBeAsked (λ place. same_request)
+scripts_differ one other can_one can_other rows of_one of_other =
+    let asked_one = asked_of_all CanBeAsked 0 of_one.0 (subst (AllByRecursion (λ (part : Part). CanBeAsked part.request)) of_one.1 can_one) in
+    let asked_other = asked_of_all CanBeAsked 0 of_other.0 (subst (AllByRecursion (λ (part : Part). CanBeAsked part.request)) of_other.1 can_other) in
+    let same = listing-reports (λ place. IsRequest) CanBeAsked (λ place. same_request) of_one.0 of_other.0 asked_one asked_other rows of_one.2 of_other.2 in
+    of_one.1 ∙ ap (parts_from 0) same ∙ sym of_other.1
 
 -- the letter of an item
 abbrev event_letter : Event → ℕ

@@ -8,6 +8,7 @@ pub mod Numbered
 pub mod OrderedLines
 pub mod ReplyTexts
 pub mod RequestTexts
+pub mod ScriptRecords
 pub mod StatusLines
 pub mod ColumnsTaken
 pub mod FirstFaults

@@ -16,6 +16,8 @@ use Rattle.files.proofs.KindsRead.{count_complete, whole_complete}
 use Rattle.files.proofs.Numerals.{is_number-decimal}
 use Rattle.commit_log.specs.declared.entry.Entry.{Entry}
 use Rattle.requests.specs.declared.request.Request.{Request}
+use Rattle.requests.specs.declared.script.Part.{Part}
+use Rattle.requests.proofs.Parts.{parts-length}
 use Rattle.history.specs.declared.event.Event.TheVariants.{Submit, Order, Take, Send}
 use Rattle.history.specs.declared.schedule.Scheduled.{Scheduled}
 use Rattle.history.specs.declared.schedule.Scheduled.TheVariants as scheduled
@@ -37,6 +39,7 @@ use Rattle.files.proofs.Unlike.{other}
 use Rattle.terminals.proofs.FirstFaults.{end_passes, item_passes}
 use Rattle.terminals.proofs.RepliesReadBack.{IsReadReply, reply_is_read}
 use Rattle.terminals.proofs.RequestTexts.{few_fields}
+use Rattle.terminals.proofs.ScriptRecords.{asked_of_all}
 use Rattle.terminals.proofs.RequestsReadBack.{IsReadRequest, alone_is_read, request_is_read}
 
 -- ---- records
@@ -96,7 +99,12 @@ asked_is_read place small r can fields is =
     record_is_read (λ place. after_asked) place request.letter request.said fields request.are request.utf8 request.apart (alone_is_read request)
 
 pub scripts_are_read : ScriptsAreRead
-scripts_are_read script small can rows kept is = listing_is_read (λ place. after_asked) (λ place. IsRequest) CanBeRead asked_is_read script small can rows is.0 kept is.1 is.2
+scripts_are_read script small can rows kept is =
+    let requests = is.0 in
+    let listed = is.2 in
+    let few : length requests < 2 ^ 32 = omega (arith, small, ap length is.1, parts-length 0 requests) in
+    let asked = asked_of_all CanBeRead 0 requests (subst (AllByRecursion (λ (part : Part). CanBeRead part.request)) is.1 can) in
+    listing_is_read (λ place. after_asked) (λ place. IsRequest) CanBeRead asked_is_read requests few asked rows listed.0 kept listed.1 listed.2
 
 -- ---- moves
 

@@ -6,7 +6,10 @@ use Rattle.rand_pcg.specs.Lcg.{Lcg}
 use Rattle.rows.specs.Ranged.{is_between}
 use Rattle.schema.specs.declared.scale.Scale.{Scale}
 use Rattle.schema.specs.Scale.{has_warehouse}
+use Rattle.requests.specs.declared.script.Part.{Part}
 use Rattle.requests.specs.Check.{IsAccepted}
+use Rattle.requests.specs.Script.{IsOfRecords}
+use Rattle.requests.proofs.Parts.{parts-all, parts-length, parts-map}
 use Rattle.number_draws.specs.Words.{seeded}
 use Rattle.workload.specs.declared.kind.Kind.{Kind}
 use Rattle.workload.specs.declared.terminal.Terminal.{Terminal}
@@ -49,19 +52,24 @@ requests-count terminal now number (kind ∷ kinds) generator =
 pub script-count : (workload : Workload) (session : ℕ) → length (script_drawn workload session) ≡ workload.requests
 unfolding script_drawn
 script-count workload session =
-    requests-count (terminal_of workload session) workload.start 0 _ _ ∙ kinds-count workload.mix workload.requests (seeded (workload.seed + 2 ^ 32 * (2 * session + 1)))
+    parts-length 0 _ ∙ requests-count (terminal_of workload session) workload.start 0 _ _ ∙ kinds-count workload.mix workload.requests (seeded (workload.seed + 2 ^ 32 * (2 * session + 1)))
 
-pub script-accepted : (workload : Workload) (session : ℕ) → All (IsAccepted workload.scale) (script_drawn workload session)
+pub script-accepted : (workload : Workload) (session : ℕ) → All (λ (one : Part). IsAccepted workload.scale one.request) (script_drawn workload session)
 unfolding script_drawn
-script-accepted workload session = requests-accepted (terminal_of workload session) workload.start 0 _ _ (terminal-there workload session)
+script-accepted workload session = parts-all (IsAccepted workload.scale) 0 _ (requests-accepted (terminal_of workload session) workload.start 0 _ _ (terminal-there workload session))
 
-pub script-within : (workload : Workload) (session : ℕ) → All (IsWithin (terminal_of workload session)) (script_drawn workload session)
+pub script-within : (workload : Workload) (session : ℕ) → All (λ (one : Part). IsWithin (terminal_of workload session) one.request) (script_drawn workload session)
 unfolding script_drawn
-script-within workload session = requests-within (terminal_of workload session) workload.start 0 _ _
+script-within workload session = parts-all (IsWithin (terminal_of workload session)) 0 _ (requests-within (terminal_of workload session) workload.start 0 _ _)
 
-pub script-mix : (workload : Workload) (session : ℕ) → AreDealt (cards_of workload.mix) (map kind_of (script_drawn workload session))
+pub script-mix : (workload : Workload) (session : ℕ) → AreDealt (cards_of workload.mix) (map (λ (one : Part). kind_of one.request) (script_drawn workload session))
 unfolding script_drawn
 script-mix workload session =
     let generator = seeded (workload.seed + 2 ^ 32 * (2 * session + 1)) in
     let kinds = kinds_drawn workload.mix workload.requests generator in
-    subst (AreDealt (cards_of workload.mix)) (sym (requests-kinds (terminal_of workload session) workload.start 0 kinds _)) (kinds-dealt workload.mix workload.requests generator)
+    subst (AreDealt (cards_of workload.mix)) (sym (parts-map kind_of 0 _ ∙ requests-kinds (terminal_of workload session) workload.start 0 kinds _)) (kinds-dealt workload.mix workload.requests generator)
+
+-- it can be written
+pub script-of_records : (workload : Workload) (session : ℕ) → IsOfRecords (script_drawn workload session)
+unfolding script_drawn
+script-of_records workload session = (_, refl)
