@@ -7,7 +7,7 @@ use Rattle.std.proofs.Crossing.{crosses, Box-send, Vec-send, Vec-sync, Deque-sen
 use Rattle.queues.specs.contracts.sender.Sender as Sender
 use Rattle.queues.proofs.Sendable.{Taker-send, Sender-send}
 use Rattle.routing.proofs.Sendable.{SharedRouting-sync}
-use Rattle.requests.proofs.Sendable.{Request-send, Script-sync}
+use Rattle.requests.proofs.Sendable.{Part-send, Script-sync}
 use Rattle.commit_log.proofs.Sendable.{Log-send, Pass-send, SessionSeat-send}
 use Rattle.executor.proofs.Sendable.{Answer-send, Act-send, CompletionOwner-send, CompletionPlace-send, GivenBack-send, Flow-send, PhaseOwner-send, CountedShard-send, ExecutorShards-send, SessionAnswer-send}
 use Rattle.executor.specs.contracts.counted_shard.CountedShard as CountedShard
@@ -123,7 +123,7 @@ module _ (J : RattleType) (log : LogNames J.Denot) (groups : GroupNames J.Denot)
     (
       Pass-send J log s,
       (
-        search (Request-send, Vec-send) depth 10,
+        search (Part-send, Vec-send) depth 10,
         (
           search (Answer-send, Vec-send) depth 10,
           (

@@ -86,14 +86,14 @@ request_is_read (OrderStatus o) can fields is =
 request_is_read (Delivery d) can fields is =
     record {
       letter = codes "D";
-      said = decimal d.w_id ∷ decimal d.carrier_id ∷ is.0 ∷ [];
+      said = decimal d.home.w_id ∷ decimal d.home.d_id ∷ decimal d.carrier_id ∷ is.0 ∷ [];
       are = is.2;
       utf8 = utf8_words (codes "D") refl;
       apart = refl;
       columns = delivery_columns;
       known = λ rest. refl;
       long = refl;
-      read = and_read (number_read d.w_id can.0.0) (and_read (number_read d.carrier_id can.0.1) (and_read (moment_is_read is.0 d.moment is.1 can.1) none_read));
+      read = and_read (number_read d.home.w_id can.0.0.0) (and_read (number_read d.home.d_id can.0.0.1) (and_read (number_read d.carrier_id can.0.1) (and_read (moment_is_read is.0 d.moment is.1 can.1) none_read)));
     }
 request_is_read (StockLevel s) can fields is =
     record {
