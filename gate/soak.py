@@ -1,9 +1,9 @@
 """Plays random schedules, and serves random scripts: gate/soak.py PROGRAM [--cases N] [--events N] [--first SEED] [--minutes N]
 [--beside OTHER]
 
-Each case has a seed. It plays a schedule of 500 events, or of as many as --events says, by `tpcc sim`: submissions of all five kinds, some of them hostile, moves
-between executors, takes, sends and now and then rounds, with small inboxes, and in some cases with a small log. Every tenth case
-also serves scripts by `tpcc run`, with moves. In each case
+Each case has a seed. It plays a schedule of 500 events, or of as many as --events says, by `tpcc sim`: submissions of all five
+kinds, some of them hostile, moves between executors, takes, sends and now and then rounds, with small inboxes, and in some cases
+with a small log. Every tenth case also serves scripts by `tpcc run`, with moves. In each case
 
 - `replay` of the log is equal, and gives the tables that were written; `check` of them succeeds. A schedule is also played up to
   each of its rounds, so this is so whenever nothing is active.
