@@ -22,7 +22,8 @@ import subprocess
 import sys
 import tempfile
 import time
-from concurrent.futures import ThreadPoolExecutor
+from concurrent.futures import ProcessPoolExecutor
+from functools import partial
 from itertools import count
 
 EXECUTORS = 3
@@ -212,6 +213,13 @@ def datasets_in(program, room):
     return paths
 
 
+def try_one(words, datasets, room, until, seed):
+    """Runs the case of this seed, unless the time is over. Returns the seed, what is wrong or None, and whether the case was run."""
+    if words.minutes and time.monotonic() > until:
+        return seed, None, False
+    return seed, Case(words, datasets, f"{room}/{seed}", seed).run(), True
+
+
 def main():
     words = argparse.ArgumentParser(description=__doc__, formatter_class=argparse.RawDescriptionHelpFormatter)
     words.add_argument("program", type=os.path.abspath, help="a built program")
@@ -226,18 +234,15 @@ def main():
     room, failed, tried = tempfile.mkdtemp(prefix="soak-"), 0, 0
     datasets, lanes = datasets_in(words.program, room), os.cpu_count() or 1
 
-    def one(seed):
-        if words.minutes and time.monotonic() > until:
-            return seed, None, False
-        return seed, Case(words, datasets, f"{room}/{seed}", seed).run(), True
-
-    with ThreadPoolExecutor(lanes) as pool:
+    with ProcessPoolExecutor(lanes) as pool:
         for some in iter(lambda: [it for _, it in zip(range(64 * lanes), seeds)], []):
-            for seed, wrong, was_tried in pool.map(one, some):
+            for seed, wrong, was_tried in pool.map(partial(try_one, words, datasets, room, until), some, chunksize=8):
                 tried += was_tried
                 if wrong:
                     failed += 1
                     print(f"soak: seed {seed}: {wrong}; its files are in {room}/{seed}", flush=True)
+            if sys.stderr.isatty():
+                print(f"\rsoak: {tried} cases, {failed} failed", end="", file=sys.stderr, flush=True)
             if words.minutes and time.monotonic() > until:
                 break
     print(f"soak: {tried} cases, {failed} failed")
