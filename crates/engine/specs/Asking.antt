@@ -25,16 +25,18 @@ abbrev pub known_of : Bool → ℕ → ℕ
 known_of is_full reached = if is_full then reached else 0
 
 -- What contracts see of a session none of whose requests is in flight: the parts that it asks, its seat, its pass, the answers
--- so far, and whether the log was full for it.
+-- so far, whether the log was full for it, and whether it has found the engine closed.
 pub record ReadyView : Type 0 where
   pub script : List Part
   pub seat : SessionSeatView
   pub pass : PassView
   pub answers : List (Result ℕ Refusal)
   pub is_full : Bool
+  pub is_closed : Bool
 
+-- a session that has not found the engine closed
 abbrev pub ready_view : List Part → SessionSeatView → PassView → List (Result ℕ Refusal) → Bool → ReadyView
-ready_view script seat pass answers is_full = record { script = script; seat = seat; pass = pass; answers = answers; is_full = is_full }
+ready_view script seat pass answers is_full = record { script = script; seat = seat; pass = pass; answers = answers; is_full = is_full; is_closed = false }
 
 -- A session that has its pass. It was asked exactly these parts, and each answer is the result of its part.
 pub record IsResting (rules : Rules) (s : ReadyView) : Type 0 where

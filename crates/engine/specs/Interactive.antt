@@ -1,5 +1,5 @@
 -- A session that asks interactively: its caller has every answer, and what it proves.
-use Rattle.std.specs.Prelude.{◌≡◌, ◌⊎◌, ℕ, ◌+◌, ◌<◌, ◌≤◌, List, [], ◌∷◌, ◌++◌, length, map, Result, Ok, Err}
+use Rattle.std.specs.Prelude.{◌≡◌, ◌⊎◌, ℕ, ◌+◌, ◌<◌, ◌≤◌, true, false, List, [], ◌∷◌, ◌++◌, length, map, Result, Ok, Err}
 use Rattle.requests.specs.declared.request.Request.{Request}
 use Rattle.requests.specs.declared.script.Part.{Part}
 use Rattle.requests.specs.declared.reply.Reply.{Reply}
@@ -26,23 +26,32 @@ Came rules before request after (Ok place) =
 Came rules before request after (Err why) =
     (after.seen ≡ before.pass.seen) × (after.mine ≡ before.pass.mine) × IsRefusal rules after.reached request why
 
--- the session has asked this request, with the number of those before it, and has had this answer
+-- The session has asked this request, with the number of those before it, and has had this answer. It has not found the engine
+-- closed.
 pub record HasAsked (rules : Rules) (before : ReadyView) (request : Request) (after : ReadyView) (answer : Result ℕ Refusal) : Type 0 where
+  pub was_open : before.is_closed ≡ false
+  pub is_open : after.is_closed ≡ false
   pub session_is : after.pass.session ≡ before.pass.session
   pub noted : after.script ≡ before.script ++ part (length before.script) request ∷ []
   pub answered : after.answers ≡ before.answers ++ answer ∷ []
   pub came : Came rules before request after.pass answer
 
--- The engine was closed: the request is refused with Closed, and the session is as it was. Or the session has asked the request and
--- has had this answer.
+-- the session, which has found the engine closed
+abbrev pub finding_closed : ReadyView → ReadyView
+finding_closed s = record s { is_closed = true }
+
+-- The session has found the engine closed, now or before: the request is refused with Closed, and nothing else of the session is
+-- changed. Or it has not: it has asked the request and has had this answer. A session can find an engine closed only after
+-- `Engine::close`: it has a token then that only a closed word gives.
 abbrev pub Asks : Rules → ReadyView → Request → ReadyView → Result ℕ Refusal → Type 0
-Asks rules before request after answer = ((answer ≡ Err Closed) × (after ≡ before)) ⊎ HasAsked rules before request after answer
+Asks rules before request after answer = ((answer ≡ Err Closed) × (after ≡ finding_closed before)) ⊎ HasAsked rules before request after answer
 
 -- the session has met another; only what it has seen is changed
 pub record HasMet (before other after : ReadyView) : Type 0 where
   pub pass_is : after.pass ≡ having_met before.pass other.pass
   pub noted : after.script ≡ before.script
   pub answered : after.answers ≡ before.answers
+  pub closed : after.is_closed ≡ before.is_closed
 
 -- the session comes back unchanged, or is lost
 abbrev pub IsBackIn : {J : Type 0} → ReadyView → AskFault J → Type 0

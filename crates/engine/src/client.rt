@@ -29,3 +29,23 @@ pub trait Client {
         requires { All HasAskedNothing sessions.items }
         ensures { promises self.now J.opening (asked_by result.items) (recorded_by result.items) };
 }
+
+/// A client that asks nothing, for scripts alone.
+#[derive(Clone, Copy, Debug, Drop)]
+pub struct NoClient;
+
+impl Client for NoClient {
+    ghost use Rattle.std.specs.Prelude.{⊤};
+
+    ghost promises = { λ _ _ _ _. ⊤ };
+
+    fn ask_all<J: ServeNames + Send + Sync, G: Gate, R: Threads + Wait + Sync>(
+        &self,
+        _rt: &R,
+        alloc: Global,
+        _engine: &Engine<'_, J, G>,
+        _sessions: Vec<Session<J>>,
+    ) -> Vec<Left<J>> {
+        Vec::new(alloc)
+    }
+}

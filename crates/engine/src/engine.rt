@@ -1,4 +1,5 @@
 //! The state that all executors share.
+use crate::closed_engine::Closing;
 use crate::moves::Moves;
 use crate::opening_scale::OpeningScale;
 use crate::parking::Parking;
@@ -46,8 +47,8 @@ pub struct Engine<'a, J: ServeNames, G: Gate> {
     pub(crate) unserved: AtomicUsize,
     /// Whether the executors are to end even if not all is served.
     pub(crate) is_stopped: AtomicBool,
-    /// Whether interactive sessions may ask no more.
-    pub(crate) is_closed: AtomicBool,
+    /// Closed once interactive sessions may ask no more.
+    pub(crate) closing: Closing<J>,
 }
 
 impl<J: ServeNames, G: Gate> Engine<'_, J, G> {
@@ -68,13 +69,13 @@ impl<J: ServeNames, G: Gate> Engine<'_, J, G> {
 
     /// Closes the engine to interactive sessions: what they ask from now on is refused with Closed. Requests in flight are answered,
     /// and scripts are served to their ends.
-    pub fn close(&self) {
-        self.is_closed.store(true, Ordering::SeqCst);
+    pub fn close(&self, rt: &impl Wait) {
+        self.closing.close(rt);
     }
 
     /// Whether `close` was called.
     pub fn is_closed(&self) -> bool {
-        self.is_closed.load(Ordering::SeqCst)
+        self.closing.closed().is_some()
     }
 
     /// Makes all executors end soon.

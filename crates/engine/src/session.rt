@@ -1,5 +1,5 @@
 //! A session that asks interactively. Its caller owns it and waits for each answer.
-ghost use Rattle.std.specs.Prelude.{◌≡◌, ◌≤◌, [], ◌∷◌, ◌++◌, length, false, Ok, IfOk, IfErr, IfSome};
+ghost use Rattle.std.specs.Prelude.{◌≡◌, ◌≤◌, [], ◌∷◌, ◌++◌, length, true, false, Ok, IfOk, IfErr, IfSome};
 ghost use Rattle.requests.specs.Check.{check_of};
 ghost use Rattle.requests.specs.Script.{AreNumberedByPlace, part};
 ghost use Rattle.commit_log.specs.Items.{items_of};
@@ -11,6 +11,7 @@ ghost use Rattle.engine.specs.Served.{ServedIn};
 ghost use Rattle.engine.specs.Interactive.{Asks, HasAsked, HasAskedNothing, HasMet, IsBackIn};
 
 use crate::asking::says_full;
+use crate::closed_engine::ClosedEngine;
 use crate::message::Message;
 use crate::{Answers, Engine, Gate, ServeNames};
 use commit_log::{Log, Pass, SessionSeat};
@@ -29,7 +30,8 @@ use transactions::home_of_request;
 /// A session that asks interactively, none of whose requests is in flight.
 ///
 /// Contracts see what it has asked so far (`script`), its pass, which records what it has seen of the log and logged (`pass`),
-/// and its answers (`answers`). Invariant: each answer is the result of its request, and the number of a request is its place.
+/// its answers (`answers`), and whether it has found the engine closed (`is_closed`). Invariant: each answer is the result of its
+/// request, and the number of a request is its place.
 #[derive(Drop)]
 pub struct Session<J: ServeNames> {
     seat: SessionSeat<J>,
@@ -38,6 +40,8 @@ pub struct Session<J: ServeNames> {
     answers: Vec<Result<u32, Refusal>>,
     // Whether it has had the answer LogFull. It asks no more then.
     is_full: bool,
+    // Some once it has found the engine closed.
+    closed: Option<ClosedEngine<J>>,
     // Senders into the inboxes of all executors, by their numbers.
     outlets: Vec<Sender<Message<J>>>,
 }
@@ -47,16 +51,18 @@ impl<J: ServeNames> Model for Session<J> {
 
     ghost Value = { ReadyView };
 
+    ghost use Rattle.std.specs.Prelude.{is_some};
     ghost use Rattle.engine.specs.Asking.{ready_view};
     ghost use Rattle.engine.specs.Interactive.{IsAtRest};
     ghost use Rattle.engine.specs.Rules.{rules_of};
 
-    ghost view = { λ s. ready_view s.parts.items s.seat s.pass s.answers.items s.is_full };
+    ghost view = { λ s. record (ready_view s.parts.items s.seat s.pass s.answers.items s.is_full) { is_closed = is_some s.closed } };
 
     ghost invariant = { λ s. IsAtRest (rules_of J.opening J.most) (ready_view s.parts.items s.seat s.pass s.answers.items s.is_full) };
 }
 
-/// A session with its next request, which has its number, and with capacity to keep the request and its answer.
+/// A session that has not found the engine closed, with its next request, which has its number, and with capacity to keep the request
+/// and its answer.
 #[derive(Drop)]
 struct Asker<J: ServeNames> {
     seat: SessionSeat<J>,
@@ -158,6 +164,7 @@ impl<J: ServeNames> Session<J> {
             parts: Vec::new(alloc),
             answers: Vec::new(alloc),
             is_full: false,
+            closed: None,
             outlets,
         }
     }
@@ -193,7 +200,8 @@ impl<J: ServeNames> Session<J> {
     /// Asks a request and waits for its answer: the place of its entry in the log (`Engine::log`), or why it was refused. The
     /// entry is behind all that the session and those that it met have seen. After a refusal the session has seen and logged what
     /// it had before. The request is asked once; the caller may ask one again that was refused with Died or NoMemory. If the engine
-    /// is closed (`Engine::close`), the request is not asked: it is refused with Closed, and the session is unchanged.
+    /// is closed (`Engine::close`), the request is not asked: it is refused with Closed, and so are all that the session asks from
+    /// then on; nothing else of the session is changed.
     pub fn ask<G: Gate>(
         self,
         rt: &impl Wait,
@@ -204,14 +212,16 @@ impl<J: ServeNames> Session<J> {
         ensures asks { IfOk result (λ r. Asks (rules_of J.opening J.most) self request r.0 r.1) }
         ensures back { IfErr result (IsBackIn self) }
     {
-        if engine.is_closed() {
-            return Ok((self, Err(Refusal::Closed)));
+        let mut session = self;
+        session.look_for_close(engine);
+        if session.closed.is_some() {
+            return Ok((session, Err(Refusal::Closed)));
         }
         if engine.is_stopped() {
-            return Err(AskFault::Stopped(self));
+            return Err(AskFault::Stopped(session));
         }
-        let Ok(number) = u32::try_from(self.answers.len()) else {
-            return Err(AskFault::NoMemory(self));
+        let Ok(number) = u32::try_from(session.answers.len()) else {
+            return Err(AskFault::NoMemory(session));
         };
         let Session {
             seat,
@@ -219,8 +229,9 @@ impl<J: ServeNames> Session<J> {
             mut parts,
             mut answers,
             is_full,
+            closed: _,
             outlets,
-        } = self;
+        } = session;
         if parts.reserve(1).is_err() || answers.reserve(1).is_err() {
             return Err(AskFault::NoMemory(Session {
                 seat,
@@ -228,6 +239,7 @@ impl<J: ServeNames> Session<J> {
                 parts,
                 answers,
                 is_full,
+                closed: None,
                 outlets,
             }));
         }
@@ -247,6 +259,16 @@ impl<J: ServeNames> Session<J> {
                 Some(answered) => Ok(answered),
                 None => Err(AskFault::Lost),
             },
+        }
+    }
+
+    // Takes a token if the engine is closed, unless it has one.
+    fn look_for_close<G: Gate>(&mut self, engine: &Engine<'_, J, G>)
+        ensures same { self.new ≡ record self.old { is_closed = self.new.is_closed } }
+        ensures keeps { self.old.is_closed ≡ true → self.new.is_closed ≡ true }
+    {
+        if self.closed.is_none() {
+            self.closed = engine.closing.closed();
         }
     }
 
@@ -309,6 +331,7 @@ impl<J: ServeNames> Asker<J> {
             parts,
             answers,
             is_full,
+            closed: None,
             outlets,
         };
         (session, Err(refusal))
@@ -404,6 +427,7 @@ impl<J: ServeNames> Away<J> {
             ≡ self.script ++ part self.seat.asking.number self.seat.asking.request ∷ [] }
         ensures answered { result.0.answers ≡ self.answers ++ answer ∷ [] }
         ensures pass { result.0.pass ≡ pass }
+        ensures open { result.0.is_closed ≡ false }
     {
         let Away {
             seat,
@@ -421,6 +445,7 @@ impl<J: ServeNames> Away<J> {
             parts,
             answers,
             is_full,
+            closed: None,
             outlets,
         };
         (session, answer)

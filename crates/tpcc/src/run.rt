@@ -21,7 +21,7 @@ use crate::tally::Tally;
 use crate::watch::Watch;
 use command_line::{RunSettings, Status};
 use commit_log::{Entry, Limits};
-use engine::{Answers, Outcome, ServeOptions, serve};
+use engine::{Answers, NoClient, Outcome, ServeOptions, serve};
 use files::Input;
 use range_moves::MoveOrder;
 use requests::{Part, Script};
@@ -152,6 +152,8 @@ fn run<
     let moves = read_orders(alloc, settings.moves, moves)?;
     let _ = watch.prepare(alloc, scripts.as_slice());
     let options = ServeOptions {
+        scripts: scripts.as_slice(),
+        sessions: 0,
         executors: settings.executors,
         tries: settings.tries,
         limits: Limits {
@@ -160,7 +162,7 @@ fn run<
         },
         moves: moves.as_slice(),
     };
-    let outcome = match serve(rt, alloc, opening, scripts.as_slice(), &options, &watch) {
+    let outcome = match serve(rt, alloc, opening, &options, &watch, &NoClient) {
         Ok(outcome) => outcome,
         Err(fault) => return Err(CommandFault::of_serving(fault)),
     };

@@ -3,7 +3,7 @@ ghost use Rattle.commit_log.specs.Limits.{AreLimits};
 
 use super::*;
 use commit_log::Limits;
-use engine::{Gate, MoveOrder, Outcome, ServeFault, ServeOptions, serve};
+use engine::{Gate, MoveOrder, NoClient, OpenGate, Outcome, ServeFault, ServeOptions, serve};
 use requests::{Part, Script};
 use std::alloc::Global;
 use std::process::Abort;
@@ -30,7 +30,7 @@ fn scripted(alloc: Global, w_id: u32, amount: u32, count: u32) -> Result<Script,
 }
 
 // 25 payments at a warehouse by a customer of another.
-fn crossing(alloc: Global, w_id: u32, customer_w_id: u32) -> Result<Script, Fail> {
+pub(super) fn crossing(alloc: Global, w_id: u32, customer_w_id: u32) -> Result<Script, Fail> {
     let mut parts = Vec::new(alloc);
     for number in 0..25 {
         let request = payment_by(w_id, customer_w_id, 100);
@@ -51,7 +51,7 @@ fn comes_to(count: &AtomicU64, least: u64) -> bool {
 }
 
 // The number of requests that were carried out.
-fn done_in(outcome: &Outcome) -> usize {
+pub(super) fn done_in(outcome: &Outcome) -> usize {
     let mut count: usize = 0;
     for answers in &outcome.answers {
         for answer in answers.as_slice() {
@@ -112,9 +112,9 @@ fn executors_serve_at_the_same_time(rt: HostRuntime) -> Result<(), Fail> {
         &rt,
         alloc,
         warehouses(alloc, 2)?,
-        &scripts,
-        &by(2, &[]),
+        &by(&scripts, 2, &[]),
         &gate,
+        &NoClient,
     )?;
     assert_eq!(rt; outcome.log.len(), 2);
     assert_eq!(rt; gate.entered.load(Ordering::SeqCst), 2);
@@ -163,9 +163,9 @@ fn one_waits<R: Threads + Wait + Abort + Sync>(
         rt,
         alloc,
         warehouses(alloc, 2)?,
-        &scripts,
-        &by(2, &[]),
+        &by(&scripts, 2, &[]),
         &gate,
+        &NoClient,
     )?;
     assert_eq!(rt; outcome.log.len(), 2);
     assert_eq!(rt; gate.met.load(Ordering::SeqCst), 1);
@@ -204,9 +204,9 @@ fn all_that_is_asked_is_carried_out(rt: HostRuntime) -> Result<(), Fail> {
             &rt,
             alloc,
             tables,
-            &scripts,
-            &by(executors, &[]),
-            engine::OpenGate,
+            &by(&scripts, executors, &[]),
+            OpenGate,
+            &NoClient,
         )?;
         assert_eq!(rt; done_in(&outcome), 200);
         assert_eq!(rt; outcome.log.len(), 200);
@@ -235,9 +235,9 @@ fn all_that_is_asked_is_carried_out_while_warehouses_move(rt: HostRuntime) -> Re
         &rt,
         alloc,
         tables,
-        &scripts,
-        &by(2, &moves),
-        engine::OpenGate,
+        &by(&scripts, 2, &moves),
+        OpenGate,
+        &NoClient,
     )?;
     assert_eq!(rt; done_in(&outcome), 100);
     assert_eq!(rt; outcome.log.len(), 100);
@@ -247,8 +247,8 @@ fn all_that_is_asked_is_carried_out_while_warehouses_move(rt: HostRuntime) -> Re
 // At this gate a thread yields 0 to 1,000 times before it logs a request, and once the request is answered. The numbers are drawn
 // from a seed.
 #[derive(Drop)]
-struct YieldsBySeed {
-    drawn: AtomicU64,
+pub(super) struct YieldsBySeed {
+    pub(super) drawn: AtomicU64,
 }
 
 impl YieldsBySeed {
@@ -294,6 +294,8 @@ fn all_is_carried_out_at_gates_that_yield(rt: HostRuntime) -> Result<(), Fail> {
             crossing(alloc, 2, 1)?,
         ];
         let options = ServeOptions {
+            scripts: &scripts,
+            sessions: 0,
             executors: 2,
             tries: 10_000,
             limits: Limits::greatest(),
@@ -302,7 +304,14 @@ fn all_is_carried_out_at_gates_that_yield(rt: HostRuntime) -> Result<(), Fail> {
         let gate = YieldsBySeed {
             drawn: AtomicU64::new(seed),
         };
-        let outcome = serve(&rt, alloc, warehouses(alloc, 2)?, &scripts, &options, &gate)?;
+        let outcome = serve(
+            &rt,
+            alloc,
+            warehouses(alloc, 2)?,
+            &options,
+            &gate,
+            &NoClient,
+        )?;
         assert_eq!(rt; done_in(&outcome), 100);
         assert_eq!(rt; outcome.log.len(), 100);
     }
@@ -324,6 +333,8 @@ fn inboxes_of_one_message_are_enough(rt: HostRuntime) -> Result<(), Fail> {
     ];
     let moves = [order(1, 1, 1), order(2, 2, 0), order(1, 2, 1)];
     let options = ServeOptions {
+        scripts: &scripts,
+        sessions: 0,
         executors: 2,
         tries: 10_000,
         limits: Limits { log: 150, inbox: 1 },
@@ -333,9 +344,9 @@ fn inboxes_of_one_message_are_enough(rt: HostRuntime) -> Result<(), Fail> {
         &rt,
         alloc,
         warehouses(alloc, 2)?,
-        &scripts,
         &options,
-        engine::OpenGate,
+        OpenGate,
+        &NoClient,
     )?;
     assert_eq!(rt; done_in(&outcome), 150);
     assert_eq!(rt; outcome.log.len(), 150);
@@ -385,9 +396,9 @@ fn parts_have_numbers_of_their_own(rt: HostRuntime) -> Result<(), Fail> {
         &rt,
         alloc,
         warehouses(alloc, 2)?,
-        &scripts,
-        &by(2, &[]),
+        &by(&scripts, 2, &[]),
         &gate,
+        &NoClient,
     )?;
     let mut logged = Vec::new(alloc);
     for entry in &outcome.log {
@@ -410,19 +421,24 @@ fn a_bad_move_is_recorded(rt: HostRuntime) -> Result<(), Fail> {
         &rt,
         alloc,
         warehouses(alloc, 2)?,
-        &scripts,
-        &by(2, &moves),
-        engine::OpenGate,
+        &by(&scripts, 2, &moves),
+        OpenGate,
+        &NoClient,
     );
     assert!(rt; matches!(served, Err(ServeFault::BadMove(1))));
     Ok(())
 }
 
-// By this many executors, with these moves; a request is tried a hundred times.
-fn by(executors: u32, moves: &[MoveOrder]) -> ServeOptions<'_>
-    ensures { (result.executors ≡ executors) × AreLimits result.limits }
+// These scripts, by this many executors, with these moves; a request is tried a hundred times.
+fn by<'a>(scripts: &'a [Script], executors: u32, moves: &'a [MoveOrder]) -> ServeOptions<'a>
+    ensures scripts { result.scripts.now ≡ scripts.now }
+    ensures alone { result.sessions ≡ 0 }
+    ensures executors { result.executors ≡ executors }
+    ensures limits { AreLimits result.limits }
 {
     ServeOptions {
+        scripts,
+        sessions: 0,
         executors,
         tries: 100,
         limits: Limits::greatest(),
@@ -430,6 +446,6 @@ fn by(executors: u32, moves: &[MoveOrder]) -> ServeOptions<'_>
     }
 }
 
-fn order(lo: u32, hi: u32, to: u32) -> MoveOrder {
+pub(super) fn order(lo: u32, hi: u32, to: u32) -> MoveOrder {
     MoveOrder { lo, hi, to }
 }
