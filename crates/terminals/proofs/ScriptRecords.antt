@@ -39,8 +39,11 @@ pub script_listed : (script : List Part) (rows : List (List (List ℕ))) → IsO
 script_listed script rows made listed = (made.0, made.1, listed_of_parts made.0 rows (subst (λ (l : List Part). IsListing IsPart l rows) made.1 listed))
 
 pub script_begun : (script : List Part) (rows : List (List (List ℕ))) → IsOfRecords script → BeginsListing IsPart script rows → BeginsScript script rows
-script_begun script rows made begun =
-    (made.0, made.1, elim (subst (λ (l : List Part). BeginsListing IsPart l rows) made.1 begun) as (λ _. BeginsListing (λ place. IsRequest) made.0 rows) [
-      | inl some ↦ inl (some.0, numbered_of_parts 0 0 (take some.0 made.0) rows (subst (λ (l : List Part). AreNumbered IsPart 0 l rows) (first_parts some.0 0 made.0) some.1))
-      | inr all ↦ inr (listed_of_parts made.0 rows all)
-    ])
+script_begun script rows made begun = (
+  made.0,
+  made.1,
+  elim (subst (λ (l : List Part). BeginsListing IsPart l rows) made.1 begun) as (λ _. BeginsListing (λ place. IsRequest) made.0 rows) [
+    | inl some ↦ inl (some.0, numbered_of_parts 0 0 (take some.0 made.0) rows (subst (λ (l : List Part). AreNumbered IsPart 0 l rows) (first_parts some.0 0 made.0) some.1))
+    | inr all ↦ inr (listed_of_parts made.0 rows all)
+  ],
+)
