@@ -4,8 +4,10 @@ use Rattle.std.specs.List.{All}
 use Rattle.std.specs.Borrow.{Bor}
 use Rattle.std.proofs.lemmas.List.{drop-drop, get_or-drop, get_or_default}
 use Rattle.requests.specs.Check.{IsAccepted}
-use Rattle.requests.specs.declared.request.Request.{Request}
+use Rattle.requests.specs.declared.script.Part.{Part}
+use Rattle.requests.specs.Script.{IsOfRecords}
 use Rattle.terminals.specs.Script.{IsScript}
+use Rattle.workload.proofs.WholeScripts.{script-of_records}
 use Rattle.tpcc.specs.Script.{AreDrawn, NamesScripts}
 use Rattle.files.proofs.Sent.{on_any_err}
 use Rattle.tpcc.proofs.ScriptFiles.{names-first, scripts-more}
@@ -36,8 +38,8 @@ loop-session-preserved g c =
     let is : file ≡ get_or files session file =
     c.remove-file.ensures.value ∙ ap (λ l. get_or l 0 file) is_left ∙ get_or-drop session files 0 file ∙ ap (λ n. get_or files n file) at in
     let ok = c.in_ok-write_requests.ensures.ok in
-    let Accepted : List Request → Type 0 = λ l. All (IsAccepted workload.scale) l in
-    let Scripts : List Request → Type 0 = λ l. IsScript l ok.1.0 in
+    let Accepted : List Part → Type 0 = λ l. All (λ (one : Part). IsAccepted workload.scale one.request) l in
+    let Scripts : List Part → Type 0 = λ l. IsScript l ok.1.0 in
     let drawn : AreDrawn workload session ok.1.0 = (subst Scripts c.in_ok-script.ensures.drawn ok.1.1, subst Accepted c.in_ok-script.ensures.drawn c.in_ok-script.ensures.accepted) in
     record {
       left = c.remove-file.ensures.items ∙ ap (drop 1) is_left ∙ drop-drop 1 session files;
@@ -59,3 +61,7 @@ returns-in_err-write_requests-clause-fault g c =
     let path = get_or paths session nowhere in
     let there : session < length paths = omega (arith, c.loop-session-test.true) in
     rw (p.1, p.2) (inr (record { place = session; there = there; path = path; is_path = get_or_default paths session nowhere path there; said = c.in_err-write_requests.ensures.fault }))
+
+pub write_requests-requires : goal.write_requests-requires
+write_requests-requires g c =
+    subst IsOfRecords (sym c.in_ok-script.ensures.drawn) (script-of_records c.args.workload.now c.loop-session.session)
