@@ -1,5 +1,6 @@
-use Rattle.std.proofs.Common.{◌≡◌, ◌≤◌, ◌<◌, ◌+◌, ℕ, List, [], ◌∷◌, ◌++◌, length, take, get_or, Result, Ok, subst, ap, ◌∙◌}
+use Rattle.std.proofs.Common.{◌≡◌, ◌≤◌, ◌<◌, ◌+◌, ℕ, List, [], ◌∷◌, ◌++◌, length, take, get_or, Result, Ok, refl, sym, subst, ap, ◌∙◌, arith}
 use Rattle.std.proofs.lemmas.List.{get_or_default, take_all}
+use Rattle.std.proofs.lemmas.Option.{slice_get_read}
 use Rattle.std.proofs.lemmas.Result.{on_err_weaker, on_ok_weaker}
 use Rattle.commit_log.specs.declared.entry.Entry.{Entry}
 use Rattle.files.specs.Sending.{Begins, BeginsToWrite, OfFirst, Sends}
@@ -8,7 +9,7 @@ use Rattle.files.proofs.Sent.{on_any_err}
 use Rattle.files.proofs.Texts.{begins-end, begins-push, sends-push, sends-start, sent-end}
 use Rattle.requests.specs.declared.refusal.Refusal.{Refusal}
 use Rattle.requests.specs.declared.script.Part.{Part}
-use Rattle.terminals.specs.Answers.{IsAnswerAt, AreAnswers}
+use Rattle.terminals.specs.Answers.{IsAnswerAt, IsAnswerIn, AreAnswers}
 use Rattle.terminals.proofs.Numbered.{numbered-none, numbered-more}
 use Rattle.terminals.proofs.answers.write_answers.Goals as goal
 
@@ -30,10 +31,15 @@ loop-place-preserved g c =
     let contents = g.W.Write.contents in
     let there : i < length c.args.answers.now = c.loop-place-test.true in
     let put = c.in_ok-put_answer_in.ensures in
+    let part = c.index-script-place.result in
+    let at = slice_get_read c.args.script.now (length c.args.script.now) i part refl (omega (arith, there, c.requires.each)) c.index-script-place.is in
+    let number : c.from.result ≡ part.number = c.from.ensures ∙ sym (ap (λ (p : Part). p.number) c.index-script-place.is) in
+    let Answers : ℕ → Type 0 = λ number. IsAnswerIn c.args.log.now c.args.session number (get_or c.args.answers.now i (Ok 0)) put.0 in
+    let one : IsAnswerAt c.args.log.now c.args.session c.args.script.now i (get_or c.args.answers.now i (Ok 0)) put.0 = (part, at, subst Answers number put.1) in
     let fields : c.put_answer_in.new.row ≡ put.0 = put.2 ∙ ap (λ l. l ++ put.0) c.clear.ensures in
     let Sent : List (List ℕ) → Type 0 = λ f. Sends (contents c.loop-place.sink) (contents c.write.new.sink) (c.loop-place.writer.text ++ record_text f) c.write.new.self.text in (
       inv.0 ++ (put.0 ∷ []),
-      answered-more c.args.log.now c.args.session c.args.script.now i c.args.answers.now inv.0 put.0 there inv.1 put.1,
+      answered-more c.args.log.now c.args.session c.args.script.now i c.args.answers.now inv.0 put.0 there inv.1 one,
       sends-push _ _ _ inv.0 _ inv.2 put.0 c.write.new.self.text (subst Sent fields c.in_ok-write.ensures.sent),
     )
 
@@ -53,11 +59,16 @@ returns-in_err-write-clause-begun g c =
     let contents = g.W.Write.contents in
     let there : i < length c.args.answers.now = c.loop-place-test.true in
     let put = c.in_ok-put_answer_in.ensures in
+    let part = c.index-script-place.result in
+    let at = slice_get_read c.args.script.now (length c.args.script.now) i part refl (omega (arith, there, c.requires.each)) c.index-script-place.is in
+    let number : c.from.result ≡ part.number = c.from.ensures ∙ sym (ap (λ (p : Part). p.number) c.index-script-place.is) in
+    let Answers : ℕ → Type 0 = λ number. IsAnswerIn c.args.log.now c.args.session number (get_or c.args.answers.now i (Ok 0)) put.0 in
+    let one : IsAnswerAt c.args.log.now c.args.session c.args.script.now i (get_or c.args.answers.now i (Ok 0)) put.0 = (part, at, subst Answers number put.1) in
     let fields : c.put_answer_in.new.row ≡ put.0 = put.2 ∙ ap (λ l. l ++ put.0) c.clear.ensures in
     let Begun : List (List ℕ) → Type 0 = λ f. Begins (contents c.loop-place.sink) (contents c.write.new.sink) (c.loop-place.writer.text ++ record_text f) in
     let early : BeginsToWrite (g.W.Write.contents c.args.sink.now) (g.W.Write.contents c.write.new.sink) (OfFirst (AreAnswers c.args.log.now c.args.session c.args.script.now) c.args.answers.now) = (
       inv.0 ++ (put.0 ∷ []),
-      (i + 1, answered-more c.args.log.now c.args.session c.args.script.now i c.args.answers.now inv.0 put.0 there inv.1 put.1),
+      (i + 1, answered-more c.args.log.now c.args.session c.args.script.now i c.args.answers.now inv.0 put.0 there inv.1 one),
       begins-push _ _ _ inv.0 _ inv.2 put.0 (subst Begun fields c.in_err-write.ensures.begun),
     ) in
     on_any_err _ early
