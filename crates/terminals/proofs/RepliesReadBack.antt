@@ -1,7 +1,7 @@
 -- The records of replies are read.
 use Rattle.std.proofs.Common.{◌≡◌, ◌-◌, ◌*◌, ◌/◌, ℕ, List, [], ◌∷◌, ◌++◌, length, flat_map, Option, Some, None, IfSome, IsUtf8, codes, refl, sym, ap, subst, ◌∙◌, arith}
 use Rattle.std.specs.Fmt.{decimal, signed_decimal}
-use Rattle.std.specs.List.{AllByRecursion, AllZip}
+use Rattle.std.specs.List.{AllZip}
 use Rattle.std.proofs.lemmas.List.{append-nil, length-append}
 use Rattle.rows.specs.declared.stock_rules.BrandGeneric.{BrandGeneric}
 use Rattle.rows.specs.declared.stock_rules.BrandGeneric.TheVariants.{Brand, Generic}

@@ -1,5 +1,5 @@
 -- The parts of a script's records.
-use Rattle.std.proofs.Common.{◌≡◌, ◌≤◌, ◌+◌, ℕ, List, [], ◌∷◌, ◌++◌, length, map, refl, arith, length-append}
+use Rattle.std.proofs.Common.{◌≤◌, ◌+◌, ℕ, List, [], ◌∷◌, ◌++◌, length, map, arith, length-append}
 use Rattle.std.specs.List.{AllByRecursion}
 use Rattle.requests.specs.Script.{part, parts_of, parts_from}
 use Rattle.requests.specs.TerminalRequest.{requests_of}
