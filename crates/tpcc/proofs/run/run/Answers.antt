@@ -3,7 +3,7 @@ use Rattle.std.specs.Borrow.{Bor}
 use Rattle.std.specs.Option.{option_map}
 use Rattle.std.proofs.lemmas.Result.{err_from_is_err_and}
 use Rattle.rows.specs.declared.limits.TheConstants.{SESSIONS}
-use Rattle.requests.specs.declared.request.Request.{Request}
+use Rattle.requests.specs.declared.script.Part.{Part}
 use Rattle.range_moves.specs.declared.order.MoveOrder.{MoveOrder}
 use Rattle.engine.specs.Faults.{AreWithin, IsFaultOf}
 use Rattle.engine.specs.Outcome.{IsOutcome}
@@ -11,7 +11,7 @@ use Rattle.files.proofs.Sent.{on_any_err}
 use Rattle.tpcc.specs.declared.command_fault.CommandFault.{CommandFault}
 use Rattle.tpcc.specs.EarlyEnds.{IsOfScripts, IsOfServing}
 use Rattle.tpcc.specs.Effects.{output_of}
-use Rattle.tpcc.specs.Run.{AreServed, ServesSome, run_outputs, texts_of}
+use Rattle.tpcc.specs.Run.{AreAllAnswered, AreServed, HandsOut, HandsOutSome, ServesSome, run_outputs, texts_of}
 use Rattle.tpcc.proofs.AnswerRecords.{outcome_in_log, same_count}
 use Rattle.tpcc.proofs.ServeFaults.{of_tables}
 use Rattle.tpcc.proofs.run.run.Goals as goal
@@ -37,6 +37,11 @@ hand_out-requires-clause-few g c =
     let few : length c.args.settings.now.scripts.items ≤ SESSIONS = c.requires.limits.0.1 in
     omega arith
 
+pub hand_out-requires-clause-each : goal.hand_out-requires-clause-each
+hand_out-requires-clause-each g c =
+    let answers = c.in-Ok.outcome.answers.items in
+    subst (λ (l : List (List Part)). AreAllAnswered l answers) (c.as_slice-3.ensures.value ∙ sym c.as_slice-4.ensures.value) c.in-Ok.ensures.outcome.answered
+
 pub hand_out-requires-clause-placed : goal.hand_out-requires-clause-placed
 hand_out-requires-clause-placed g c =
     let outcome = c.in-Ok.outcome in
@@ -48,7 +53,7 @@ returns-in_err-hand_out-clause-some g c =
     let log = c.in-Ok.outcome.log.items in
     let last = c.in-Ok.outcome.tables in
     let answers = c.in-Ok.outcome.answers.items in
-    let Serves : List (List Request) → Type 0 = λ l. IsOutcome opening c.args.settings.now.log_limit l log last answers in
+    let Serves : List (List Part) → Type 0 = λ l. IsOutcome opening c.args.settings.now.log_limit l log last answers in
     let Within : List MoveOrder → Type 0 = AreWithin opening c.args.settings.now.executors in
     let texts = texts_of (g.D.Input.remaining c.args.data) (map g.S.Input.remaining c.args.scripts.now) (option_map g.S.Input.remaining c.args.moves) in
     let are : AreServed c.args.settings.now texts log last answers = record {
@@ -63,7 +68,8 @@ returns-in_err-hand_out-clause-some g c =
       outcome = subst Serves c.as_slice-3.ensures.value c.in-Ok.ensures.outcome;
     } in
     let output = output_of g.A.Write.contents c.args.answers.now c.hand_out.new.answers g.N.OutputFiles.named c.args.output_files.now c.hand_out.new.output_files in
-    let some : ServesSome g.F.Write.contents c.args.settings.now texts (run_outputs c.args.log c.args.tables) output = inr (log, last, answers, are, c.in_err-hand_out.ensures.some) in
+    let HasHandedOut : List (List Part) → Type 0 = λ l. HandsOutSome g.F.Write.contents (run_outputs c.args.log c.args.tables) output l log answers in
+    let some : ServesSome g.F.Write.contents c.args.settings.now texts (run_outputs c.args.log c.args.tables) output = inr (log, last, answers, are, subst HasHandedOut c.as_slice-4.ensures.value c.in_err-hand_out.ensures.some) in
     on_any_err c.from_residual-in_err-hand_out.result some
 
 pub returns-clause-serves : goal.returns-clause-serves
@@ -72,7 +78,7 @@ returns-clause-serves g c =
     let log = c.in-Ok.outcome.log.items in
     let last = c.in-Ok.outcome.tables in
     let answers = c.in-Ok.outcome.answers.items in
-    let Serves : List (List Request) → Type 0 = λ l. IsOutcome opening c.args.settings.now.log_limit l log last answers in
+    let Serves : List (List Part) → Type 0 = λ l. IsOutcome opening c.args.settings.now.log_limit l log last answers in
     let Within : List MoveOrder → Type 0 = AreWithin opening c.args.settings.now.executors in
     let texts = texts_of (g.D.Input.remaining c.args.data) (map g.S.Input.remaining c.args.scripts.now) (option_map g.S.Input.remaining c.args.moves) in
     let are : AreServed c.args.settings.now texts log last answers = record {
@@ -86,12 +92,14 @@ returns-clause-serves g c =
       are_scripts = c.in_ok-scripts.ensures.scripts;
       outcome = subst Serves c.as_slice-3.ensures.value c.in-Ok.ensures.outcome;
     } in
+    let output = output_of g.A.Write.contents c.args.answers.now c.hand_out.new.answers g.N.OutputFiles.named c.args.output_files.now c.hand_out.new.output_files in
+    let HasHandedOut : List (List Part) → Type 0 = λ l. HandsOut g.F.Write.contents (run_outputs c.args.log c.args.tables) output l log last answers in
     record {
       log = log;
       last = last;
       answers = answers;
       are_served = are;
-      handed_out = c.in_ok-hand_out.ensures.all;
+      handed_out = subst HasHandedOut c.as_slice-4.ensures.value c.in_ok-hand_out.ensures.all;
       no_fault = c.sum_up.ensures;
     }
 
