@@ -15,11 +15,11 @@ use Rattle.machine.specs.NewOrder.{order_key}
 use Rattle.machine.specs.Delivery.{with_delivered, customer_delivered, amount_of, receiver, handed_over, delivered_order, Turn, turn_of, delivered_oldest, recorded, delivery}
 
 -- a value that is there after a step was there before it
-pub mapped_there : {X Y : Type 0} (f : X → Y) (r : Option X) (y : Y) → option_map f r ≡ Some y → (x : X) × (r ≡ Some x) × (f x ≡ y)
+mapped_there : {X Y : Type 0} (f : X → Y) (r : Option X) (y : Y) → option_map f r ≡ Some y → (x : X) × (r ≡ Some x) × (f x ≡ y)
 mapped_there f None y e = absurd cc
 mapped_there f (Some x) y e = (x, refl, cc)
 
-pub then_there : {X Y : Type 0} (f : X → Option Y) (r : Option X) (y : Y) → option_and_then f r ≡ Some y → (x : X) × (r ≡ Some x) × (f x ≡ Some y)
+then_there : {X Y : Type 0} (f : X → Option Y) (r : Option X) (y : Y) → option_and_then f r ≡ Some y → (x : X) × (r ≡ Some x) × (f x ≡ Some y)
 then_there f None y e = absurd cc
 then_there f (Some x) y e = (x, refl, e)
 

@@ -1,5 +1,5 @@
 -- The turn of a district by what its order is handed over to, which follows from the district's own rows.
-use Rattle.std.proofs.Common.{◌≡◌, ℕ, List, Option, Some, None, IsTrue, is_some, refl, sym, ap, subst, ◌∙◌}
+use Rattle.std.proofs.Common.{◌≡◌, ℕ, List, Option, Some, None, refl, ap, ◌∙◌}
 use Rattle.std.specs.List.{sum_by}
 use Rattle.std.specs.Option.{option_map, option_and_then}
 use Rattle.std.specs.FinMap as table
@@ -13,15 +13,10 @@ use Rattle.schema.specs.Scale.{customer_key}
 use Rattle.schema.specs.Database.{Database, customer_of_order}
 use Rattle.schema.specs.Consistency.{lines_of}
 use Rattle.schema.specs.OrderRows.{oldest_new_order, with_delivery}
-use Rattle.requests.specs.declared.delivery.Delivery.{Delivery}
-use Rattle.requests.specs.declared.reply.Shown.TheVariants.{Delivery as DeliveryShown}
-use Rattle.requests.specs.declared.reply.Fault.TheVariants.{Range}
 use Rattle.machine.specs.declared.delivery.Handover.{Handover}
-use Rattle.machine.specs.Outcome.{done, rolled_back}
 use Rattle.machine.specs.NewOrder.{order_key}
-use Rattle.machine.specs.Delivery.{customer_delivered, amount_of, receiver, handed_over, Turn, turn_of, delivery_reply, recorded, delivery}
+use Rattle.machine.specs.Delivery.{customer_delivered, amount_of, receiver, handed_over, Turn, turn_of}
 use Rattle.machine.specs.DeliverySteps.{handover_of}
-use Rattle.machine.proofs.DeliveryCases.{mapped_there, then_there}
 
 -- ---- a turn by its handover
 
@@ -48,36 +43,6 @@ turn_by_handover t home carrier moment o_id =
         | Some c ↦ refl
       ]
     ]
-
--- ---- the Delivery
-
--- a district without a new order
-pub skipped : (t : Database) (d : Delivery) → None ≡ oldest_new_order t d.home → delivery t d ≡ done t (DeliveryShown (delivery_reply d None))
-skipped t d none = ap (λ r. recorded t d (turn_of t d.home d.carrier_id d.moment r)) (sym none)
-
-delivered_by : (t : Database) (d : Delivery) (o_id : ℕ) (r : Option Handover) → Some o_id ≡ oldest_new_order t d.home → r ≡ handover_of t (order_key d.home o_id)
-    → delivery t d ≡ recorded t d (option_map (turn_with t (order_key d.home o_id) d.carrier_id d.moment) r)
-delivered_by t d o_id r oldest is =
-    ap (λ r. recorded t d (turn_of t d.home d.carrier_id d.moment r)) (sym oldest)
-    ∙ ap (recorded t d) (turn_by_handover t d.home d.carrier_id d.moment o_id ∙ ap (option_map (turn_with t (order_key d.home o_id) d.carrier_id d.moment)) (sym is))
-
--- an order that can't be delivered
-pub not_delivered : (t : Database) (d : Delivery) (o_id : ℕ) → Some o_id ≡ oldest_new_order t d.home → None ≡ handover_of t (order_key d.home o_id) → delivery t d ≡ rolled_back t Range
-not_delivered t d o_id oldest none = delivered_by t d o_id None oldest none
-
--- an order that is delivered
-pub delivered : (t : Database) (d : Delivery) (o_id : ℕ) (handover : Handover) → Some o_id ≡ oldest_new_order t d.home → Some handover ≡ handover_of t (order_key d.home o_id)
-    → delivery t d ≡ done (turn_with t (order_key d.home o_id) d.carrier_id d.moment handover).tables (DeliveryShown (delivery_reply d (Some o_id)))
-delivered t d o_id handover oldest is = delivered_by t d o_id (Some handover) oldest is
-
--- the customer who gets the order is there
-pub customer_is_there : (t : Database) (order : OrderKey) (handover : Handover) → Some handover ≡ handover_of t order → IsTrue (table.contains_key t.customers handover.customer)
-customer_is_there t order handover is =
-    let of_order = then_there (λ row. option_map (λ c. let h : Handover = record { customer = customer_of_order order row; row = c } in h) (receiver t order row)) (table.get t.orders order) handover (sym is) in
-    let of_row = mapped_there (λ c. let h : Handover = record { customer = customer_of_order order of_order.0; row = c } in h) (receiver t order of_order.0) handover of_order.2 in
-    let of_customer = then_there (λ c. customer_delivered c (amount_of t order)) (table.get t.customers (customer_of_order order of_order.0)) of_row.0 of_row.1 in
-    let who : customer_of_order order of_order.0 ≡ handover.customer = ap (λ (h : Handover). h.customer) of_row.2 in
-    subst (λ k. IsTrue (table.contains_key t.customers k)) who (ap is_some of_customer.1)
 
 -- ---- the rows of a district
 

@@ -396,9 +396,9 @@ fn parts_have_numbers_of_their_own(rt: HostRuntime) -> Result<(), Fail> {
         &rt,
         alloc,
         warehouses(alloc, 2)?,
-        &scripts,
-        &by(2, &[]),
+        &by(&scripts, 2, &[]),
         &gate,
+        &NoClient,
     )?;
     let mut logged = Vec::new(alloc);
     for entry in &outcome.log {
