@@ -102,7 +102,10 @@ fn kinds_of(alloc: Global, parts: &[Part]) -> Result<Vec<u8>, NoMemory>
     ensures { IfOk result
         (λ kinds. kinds.items ≡ map (λ part. kind_number part.request) parts.now) }
 {
-    parts.iter().map(|it| kind_number(&it.request)).collect(alloc)
+    parts
+        .iter()
+        .map(|it| kind_number(&it.request))
+        .collect(alloc)
 }
 
 fn ends_of(
