@@ -54,9 +54,9 @@ pub fn write_answers<W: Write>(
     let mut writer = RecordWriter::new(alloc);
     let mut row = NewRecord::new(alloc);
     for (place, answer) in answers.iter().enumerate() {
+        let number = script[place].number;
         row.clear();
-        let number = u64::from(script[place].number);
-        put_answer_in(&mut row, session, number, answer, log)?;
+        put_answer_in(&mut row, session, u64::from(number), answer, log)?;
         writer.write(sink, &row)?;
     }
     writer.finish(sink)
