@@ -14,6 +14,7 @@ pub type Place = Seat<(), View>;
 
 // What the word is while it is open, and once it is closed.
 const OPEN: u64 = 0;
+
 const CLOSED: u64 = 1;
 
 /// Opens the table of a word that is not closed. Returns the table and the closer's place.

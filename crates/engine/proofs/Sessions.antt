@@ -6,7 +6,7 @@ use Rattle.std.proofs.lemmas.Option.{slice_get-map, slice_get_within}
 use Rattle.rows.specs.declared.limits.TheConstants.{SESSIONS}
 use Rattle.requests.specs.declared.script.Part.{Part}
 use Rattle.requests.specs.declared.refusal.Refusal.{Refusal}
-use Rattle.requests.specs.Script.{AreNumberedByPlace, part}
+use Rattle.requests.specs.Script.{AreNumberedByPlace}
 use Rattle.commit_log.specs.declared.entry.Entry.{Entry}
 use Rattle.commit_log.specs.Items.{items_of}
 use Rattle.commit_log.specs.PassView.{PassView, SessionSeatView, new_pass, new_seat}

@@ -16,9 +16,9 @@ use Rattle.engine.specs.declared.session.AskFault.{AskFault}
 use Rattle.engine.specs.declared.session.AskFault.TheVariants.{Lost, NoMemory, Stopped}
 use Rattle.engine.specs.declared.session.Left.{Left}
 
--- The result of a request, which has the number of those before it. Either it was carried out: its entry is behind all that the session had seen, the session has logged
--- this one more, and it has seen the log up to there. Or it was refused, for a reason that IsRefusal permits: the session has
--- logged and seen what it had.
+-- The result of a request; its number is how many the session asked before. Either it was carried out: its entry is behind all that
+-- the session had seen, the session has logged this one more, and it has seen the log up to there. Or it was refused, for a reason
+-- that IsRefusal permits: the session has logged and seen what it had.
 abbrev pub Came : Rules → ReadyView → Request → PassView → Result ℕ Refusal → Type 0
 Came rules before request after (Ok place) =
     (check_of rules.scale request ≡ Ok tt) × (before.pass.seen ≤ place) × (after.seen ≡ place + 1)
@@ -26,8 +26,8 @@ Came rules before request after (Ok place) =
 Came rules before request after (Err why) =
     (after.seen ≡ before.pass.seen) × (after.mine ≡ before.pass.mine) × IsRefusal rules after.reached request why
 
--- The session has asked this request, with the number of those before it, and has had this answer. It has not found the engine
--- closed.
+-- The session has asked this request, whose number is how many it asked before, and has had this answer. It has not found the
+-- engine closed.
 pub record HasAsked (rules : Rules) (before : ReadyView) (request : Request) (after : ReadyView) (answer : Result ℕ Refusal) : Type 0 where
   pub was_open : before.is_closed ≡ false
   pub is_open : after.is_closed ≡ false
@@ -95,7 +95,7 @@ pub record IsCalling (rules : Rules) (s : ReadyView) (number room_to_ask room_to
   pub can_keep : length s.script < room_to_ask
   pub can_answer : length s.answers < room_to_answer
 
--- this request is in flight, with the next number, and there is capacity to keep both and the answer
+-- this part is in flight, with the next number, and there is capacity to keep it and its answer
 pub record IsCalled (rules : Rules) (s : AskedView) (asked : Part) (room_to_ask room_to_answer : ℕ) : Type 0 where
   pub so_far : IsAway rules s
   pub numbered : AreNumberedByPlace s.script

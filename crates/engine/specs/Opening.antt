@@ -1,5 +1,6 @@
 -- The state for which an engine is opened.
 use Rattle.std.specs.Prelude.{◌≡◌, ◌<◌, ◌≤◌, ℕ, List, [], length}
+use Rattle.atomic_table.specs.Seated.{TableId}
 use Rattle.rows.specs.declared.limits.TheConstants.{SESSIONS}
 use Rattle.schema.specs.Database.{Database}
 use Rattle.partitions.specs.Parts.{shared_of}
@@ -10,13 +11,12 @@ use Rattle.commit_log.specs.declared.log_names.LogNames.{Ghosts as LogNames}
 use Rattle.commit_log.specs.LogTables.{table_of}
 use Rattle.slices.specs.Openings.{AreOpenedFor}
 use Rattle.slices.specs.SliceView.{SliceView}
-use Rattle.engine.specs.declared.names.ServeNames.{Ghosts as ServeNames}
 use Rattle.engine.specs.declared.opening.Opening.{Opening}
 
 -- The type parameter identifies this opening's tables and agreements, and these scripts: there is an agreement for each group
 -- of the tables, with the group's content; the log and the word that closes the engine are those that were opened; and each script
 -- has a session.
-pub record IsNamedFor {J : Type 0} (log : LogNames J) (groups : GroupNames J) (serve : ServeNames J) (scripts : List (List Part)) (opening : Opening) : Type 0 where
+pub record IsNamedFor {J : Type 0} (log : LogNames J) (groups : GroupNames J) (named : List (List Part)) (closing : TableId) (scripts : List (List Part)) (opening : Opening) : Type 0 where
   pub opened : AreOpenedFor opening.tables opening.groups.items
   pub tables_are : log.opening ≡ opening.tables
   pub warehouses : groups.warehouses ≡ opening.tables.scale.warehouses
@@ -26,9 +26,9 @@ pub record IsNamedFor {J : Type 0} (log : LogNames J) (groups : GroupNames J) (s
   pub mine : (session : ℕ) → session < SESSIONS → log.mine session ≡ table_of opening.log.mine session
   pub asks : (session : ℕ) → session < SESSIONS → log.asks session ≡ table_of opening.log.asks session
   pub enough : length scripts ≤ opening.sessions
-  pub scripts_are : serve.scripts ≡ scripts
-  pub closing_is : serve.closing ≡ opening.closing
-  pub closer_is : serve.closing ≡ opening.closer
+  pub scripts_are : named ≡ scripts
+  pub closing_is : closing ≡ opening.closing
+  pub closer_is : closing ≡ opening.closer
 
 -- a slice of the opening that has no waiting action
 pub record IsToOpen (opening : Database) (s : SliceView) : Type 0 where

@@ -104,8 +104,8 @@ pub fn open<'a, J: ServeNames, G: Gate + Drop>(
     gate: G,
 ) -> Result<Opened<'a, J, G>, NoMemory>
     requires limits { AreLimits options.now.limits }
-    requires named { IsNamedFor J.LogNames J.GroupNames J.ServeNames options.now.scripts.now
-        opening }
+    requires named { IsNamedFor J.LogNames J.GroupNames J.scripts J.closing
+        options.now.scripts.now opening }
     requires some { 1 ≤ options.now.executors }
     requires most { opening.sessions ≤ SESSIONS }
     ensures catalog { IfOk result (λ opened. opened.catalog ≡ shared_of opening.tables) }

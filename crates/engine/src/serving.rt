@@ -108,8 +108,8 @@ fn serve_from<
     client: &C,
 ) -> Result<Outcome, ServeFault>
     requires limits { AreLimits options.now.limits }
-    requires named { IsNamedFor J.LogNames J.GroupNames J.ServeNames options.now.scripts.now
-        opening }
+    requires named { IsNamedFor J.LogNames J.GroupNames J.scripts J.closing
+        options.now.scripts.now opening }
     requires some { 1 ≤ options.now.executors }
     requires most { opening.sessions ≤ SESSIONS }
     ensures outcome { IfOk result (λ outcome. IsOutcomeOf opening.tables J.most

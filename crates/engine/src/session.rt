@@ -453,8 +453,8 @@ impl<J: ServeNames> Away<J> {
 }
 
 impl<J: ServeNames> Left<J> {
-    /// The requests it has asked, with their numbers, and their answers, after an audit of the session: it has logged exactly its entries in the log.
-    /// Returns `None` if it is another session, or if it has asked more than a script can have.
+    /// The requests it has asked, with their numbers, and their answers, after an audit of the session: it has logged exactly its
+    /// entries in the log. Returns `None` if it is another session, or if it has asked more than a script can have.
     pub(crate) fn audit(self, log: &mut Log<J>, number: usize) -> Option<(Script, Answers)>
         ensures asked { IfSome result (λ r. r.0 ≡ self.session.script) }
         ensures numbered { IfSome result (λ r. AreNumberedByPlace r.0) }

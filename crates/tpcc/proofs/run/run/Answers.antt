@@ -1,4 +1,4 @@
-use Rattle.std.proofs.Common.{◌≡◌, ◌≤◌, ℕ, List, inl, inr, length, map, ap, sym, subst, ◌∙◌, arith}
+use Rattle.std.proofs.Common.{◌≡◌, ◌≤◌, ℕ, List, inl, inr, length, map, refl, ap, sym, subst, ◌∙◌, arith}
 use Rattle.std.specs.Borrow.{Bor}
 use Rattle.std.specs.Option.{option_map}
 use Rattle.std.proofs.lemmas.Result.{err_from_is_err_and}
@@ -24,15 +24,15 @@ returns-in-Err-clause-fault g c =
     let opening = c.in_ok-opening.opening in
     let moves = c.in_ok-moves.moves.items in
     let IsFault : List MoveOrder → Type 0 = λ l. IsFaultOf opening executors l c.in-Err.fault in
-    let is = subst IsFault c.as_slice-2.ensures.value c.in-Err.ensures.fault in
+    let is = subst IsFault c.as_slice-3.ensures.value c.in-Err.ensures.fault in
     inr (inl (subst (IsOfServing source executors moving) (sym c.of_serving.ensures)
     (of_tables source executors moving opening moves c.in-Err.fault c.in_ok-opening.ensures.tables c.in_ok-moves.ensures.moves is)))
 
 pub hand_out-requires-clause-few : goal.hand_out-requires-clause-few
 hand_out-requires-clause-few g c =
     let answers = c.in-Ok.outcome.answers.items in
-    let asked : length answers ≡ length c.as_slice-3.result.now = same_count answers c.as_slice-3.result.now c.in-Ok.ensures.outcome.answered in
-    let scripts : length c.as_slice-3.result.now ≡ length c.in_ok-scripts.scripts.items = ap length c.as_slice-3.ensures.value in
+    let asked : length answers ≡ length c.as_slice-2.result.now = same_count answers c.as_slice-2.result.now (c.in-Ok.ensures.scripts refl).answered in
+    let scripts : length c.as_slice-2.result.now ≡ length c.in_ok-scripts.scripts.items = ap length c.as_slice-2.ensures.value in
     let paths : length c.in_ok-scripts.scripts.items ≡ length c.args.settings.now.scripts.items = c.in_ok-scripts.ensures.count ∙ ap length c.deref.ensures.value in
     let few : length c.args.settings.now.scripts.items ≤ SESSIONS = c.requires.limits.0.1 in
     omega arith
@@ -40,12 +40,12 @@ hand_out-requires-clause-few g c =
 pub hand_out-requires-clause-each : goal.hand_out-requires-clause-each
 hand_out-requires-clause-each g c =
     let answers = c.in-Ok.outcome.answers.items in
-    subst (λ (l : List (List Part)). AreAllAnswered l answers) (c.as_slice-3.ensures.value ∙ sym c.as_slice-4.ensures.value) c.in-Ok.ensures.outcome.answered
+    subst (λ (l : List (List Part)). AreAllAnswered l answers) (c.as_slice-2.ensures.value ∙ sym c.as_slice-4.ensures.value) (c.in-Ok.ensures.scripts refl).answered
 
 pub hand_out-requires-clause-placed : goal.hand_out-requires-clause-placed
 hand_out-requires-clause-placed g c =
     let outcome = c.in-Ok.outcome in
-    outcome_in_log c.in_ok-opening.opening c.args.settings.now.log_limit c.as_slice-3.result.now outcome.log.items outcome.tables outcome.answers.items c.in-Ok.ensures.outcome
+    outcome_in_log c.in_ok-opening.opening c.args.settings.now.log_limit c.as_slice-2.result.now outcome.log.items outcome.tables outcome.answers.items (c.in-Ok.ensures.scripts refl)
 
 pub returns-in_err-hand_out-clause-some : goal.returns-in_err-hand_out-clause-some
 returns-in_err-hand_out-clause-some g c =
@@ -62,10 +62,10 @@ returns-in_err-hand_out-clause-some g c =
       consistent = c.in-Ok.ensures.consistent;
       moves = c.in_ok-moves.moves.items;
       are_moves = c.in_ok-moves.ensures.moves;
-      within = subst Within c.as_slice-2.ensures.value c.in-Ok.ensures.within;
+      within = subst Within c.as_slice-3.ensures.value c.in-Ok.ensures.within;
       scripts = c.in_ok-scripts.scripts.items;
       are_scripts = c.in_ok-scripts.ensures.scripts;
-      outcome = subst Serves c.as_slice-3.ensures.value c.in-Ok.ensures.outcome;
+      outcome = subst Serves c.as_slice-2.ensures.value (c.in-Ok.ensures.scripts refl);
     } in
     let output = output_of g.A.Write.contents c.args.answers.now c.hand_out.new.answers g.N.OutputFiles.named c.args.output_files.now c.hand_out.new.output_files in
     let HasHandedOut : List (List Part) → Type 0 = λ l. HandsOutSome g.F.Write.contents (run_outputs c.args.log c.args.tables) output l log answers in
@@ -87,10 +87,10 @@ returns-clause-serves g c =
       consistent = c.in-Ok.ensures.consistent;
       moves = c.in_ok-moves.moves.items;
       are_moves = c.in_ok-moves.ensures.moves;
-      within = subst Within c.as_slice-2.ensures.value c.in-Ok.ensures.within;
+      within = subst Within c.as_slice-3.ensures.value c.in-Ok.ensures.within;
       scripts = c.in_ok-scripts.scripts.items;
       are_scripts = c.in_ok-scripts.ensures.scripts;
-      outcome = subst Serves c.as_slice-3.ensures.value c.in-Ok.ensures.outcome;
+      outcome = subst Serves c.as_slice-2.ensures.value (c.in-Ok.ensures.scripts refl);
     } in
     let output = output_of g.A.Write.contents c.args.answers.now c.hand_out.new.answers g.N.OutputFiles.named c.args.output_files.now c.hand_out.new.output_files in
     let HasHandedOut : List (List Part) → Type 0 = λ l. HandsOut g.F.Write.contents (run_outputs c.args.log c.args.tables) output l log last answers in

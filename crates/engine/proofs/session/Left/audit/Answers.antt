@@ -1,6 +1,7 @@
 use Rattle.std.proofs.Common.{List, Result, ℕ, length, ap, subst, sym, ◌∙◌}
 use Rattle.requests.specs.declared.script.Part.{Part}
 use Rattle.requests.specs.declared.refusal.Refusal.{Refusal}
+use Rattle.requests.specs.Script.{AreNumberedByPlace}
 use Rattle.commit_log.specs.Items.{items_of}
 use Rattle.engine.specs.Rules.{rules_of}
 use Rattle.engine.specs.Asking.{ReadyView}
@@ -19,4 +20,4 @@ returns-clause-served g c =
     (resting_audited rules own.parts.items own.seat own.pass own.answers.items own.is_full c.args.number log c.session.invariant.resting (sym c.session-2.ensures ∙ c.if-session-number.false) recorded.mine recorded.reached))
 
 pub returns-clause-numbered : goal.returns-clause-numbered
-returns-clause-numbered g c = ?
+returns-clause-numbered g c = subst AreNumberedByPlace (sym c.in_ok-script.ensures.value) c.session.invariant.numbered
