@@ -6,7 +6,7 @@ use Rattle.tickets.specs.Unset.{no_table, nothing}
 use Rattle.slices.specs.Openings.{AreOpenedFor}
 use Rattle.engine.specs.Outcome.{IsOutcomeOf}
 use Rattle.engine.proofs.AtOpening.{agreements_named}
-use Rattle.engine.proofs.ByScripts.{of_scripts}
+use Rattle.engine.proofs.ByScripts.{outcome_alone}
 use Rattle.engine.proofs.serving.serve.Goals as goal
 
 -- the type parameter identifies what was opened for the scripts
@@ -28,3 +28,10 @@ serve_from-requires-clause-named g c = λ κs within.
       closing_is = refl;
       closer_is = sym c.in_ok-opened.ensures.closer;
     }
+
+pub returns-clause-scripts : goal.returns-clause-scripts
+returns-clause-scripts g c = λ none.
+    let opened = c.in_ok-opened.opened in
+    let options = c.args.options.now in
+    outcome_alone c.args.opening opened.tables options.limits.log opened.log.most options.sessions opened.sessions options.scripts.now c.serve_from.result
+    c.in_ok-opened.ensures.tables (c.in_ok-opened.ensures.limit ∙ c.new-log_limit.ensures) (omega (arith, c.in_ok-opened.ensures.sessions)) none c.serve_from.ensures.outcome c.serve_from.ensures.asked
