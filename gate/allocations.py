@@ -28,7 +28,7 @@ ROOT = os.path.dirname(os.path.dirname(os.path.abspath(__file__)))
 POPULATION = ["--warehouses", "1", "--items", "10", "--customers", "3"]
 MOMENT = "2024-05-01T12:00:00"
 # A payment by number, a query of a customer's last order, a payment by last name, a payment that is rolled back, an order whose
-# second line takes from the same row of stock as its first, an order of an unknown item, a query of low stock, and a delivery.
+# second line takes from the same row of stock as its first, an order of an unknown item, and a query of low stock.
 REQUESTS = [
     f"P,1,1,1,1,#1,100,{MOMENT}",
     "O,1,1,BARBARBAR",
@@ -37,8 +37,9 @@ REQUESTS = [
     f"N,1,1,1,{MOMENT},1,1,5,1,1,6,2,1,1,3,1,2,4,1,3",
     f"N,1,1,2,{MOMENT},1,1,5,2,1,6,3,1,1,4,1,2,11,1,3",
     "L,1,1,20",
-    f"D,1,7,{MOMENT}",
 ]
+# A delivery of a warehouse, as in a script, where it is ten requests; and one of a district, as in a schedule.
+OF_WAREHOUSE, OF_DISTRICT, DISTRICTS = f"D,1,7,{MOMENT}", f"D,1,1,7,{MOMENT}", 10
 # Schedules on the two warehouses of the examples, each with its number of executors and of requests: an action of an order waits for
 # a younger reader; a delivery waits for an order, which dies; messages follow a warehouse there and back.
 SCHEDULES = [("sim/new_order_waits", 1, 2), ("sim/delivery_waits", 1, 2), ("moves/messages_follow", 2, 1)]
@@ -202,11 +203,11 @@ def sweeps_of(program, room, refuser):
     dataset, two = f"{room}/dataset.csv", f"{ROOT}/examples/two-warehouses.csv"
     subprocess.run([program, "populate", dataset, *POPULATION], check=True)
     files = {
-        "all-kinds": REQUESTS,
+        "all-kinds": [*REQUESTS, OF_WAREHOUSE],
         "payment": [PAYMENT],
         "order": [ORDER],
         # With each request the warehouse moves to the other executor.
-        "schedule": [it for number, request in enumerate(REQUESTS) for it in (f"S,0,{number},{request}", f"M,1,1,{(number + 1) % 2}", "R")],
+        "schedule": [it for number, request in enumerate([*REQUESTS, OF_DISTRICT]) for it in (f"S,0,{number},{request}", f"M,1,1,{(number + 1) % 2}", "R")],
         "events": [*read(f"{ROOT}/examples/one-payment.csv").splitlines()[:-1], "R"],
         "moves": ["1,1,1", "1,1,0", "1,1,1"],
         "move": ["1,2,1"],
@@ -216,10 +217,10 @@ def sweeps_of(program, room, refuser):
         write(paths[name], [*records, f"END,{len(records)}"])
     sweep = lambda *words: Sweep(program, room, refuser, *words)
     return [
-        sweep("run", [dataset, *[paths["all-kinds"]] * 2, "--moves", paths["moves"]], 2 * len(REQUESTS)),
+        sweep("run", [dataset, *[paths["all-kinds"]] * 2, "--moves", paths["moves"]], 2 * (len(REQUESTS) + DISTRICTS)),
         sweep("run", [two, *[paths["payment"]] * 4], 4),
         sweep("run", [two, *[paths["order"]] * 16, "--moves", paths["move"]], 16),
-        sweep("sim", [dataset, paths["schedule"]], len(REQUESTS)),
+        sweep("sim", [dataset, paths["schedule"]], len(REQUESTS) + 1),
         sweep("sim", [two, paths["events"], "--executors", "1"], 1, UNLOGGED),
         *[
             sweep("sim", [two, schedule_of(name, room), "--executors", str(executors), "--locks"], requests)

@@ -3,8 +3,8 @@
 First the gate compares the definitions that documents quote with the files, checks the order of crates.txt, and checks
 the form of every wrong program. Five parts follow:
 
-1. `rt ci` proves every crate and its tests from nothing, and runs the tests and the stored run. The longest chain of
-   crates goes first, if memory suffices. Meanwhile the prover must refuse the wrong programs of must-fail/, each at the
+1. `rt ci` proves every crate and its tests from nothing, and runs the tests and the stored run, on a schedule of the
+   gate's own (gate/schedule.py): the longest chain of crates goes first. Meanwhile the prover must refuse the wrong programs of must-fail/, each at the
    function that it names, over the libraries that are built by then.
 2. The proved program runs all scenarios.
 3. Each allocation of that program is made to fail in turn.
@@ -37,18 +37,12 @@ import threading
 import time
 
 from costs import Costs, record
-from edits import KINDS, Trials, edits_of, free_memory
+from edits import KINDS, Trials, edits_of
 
 ROOT = os.path.dirname(os.path.dirname(os.path.abspath(__file__)))
 PROGRAM = "crates/tpcc/out/tpcc"
-# The crates whose proofs take longest. `rt ci` assigns processors to a proof when it starts, and such a proof would start beside others
-# and get one processor. So a run of these crates and those below them goes first. Beside it, at a lower priority, goes a run of all
-# crates that stand on neither. The main run reuses what these two have proved, and proves the rest.
-TOPS = ("engine", "world")
-# `rt ci` with a schedule for a toolchain that keeps nothing.
+# `rt ci` with the schedule of the gate.
 SCHEDULED = [sys.executable, "-B", f"{ROOT}/gate/schedule.py"]
-# Two runs go side by side only with more free memory than this, in bytes.
-ENOUGH_FOR_TWO = 16_000_000_000
 VERDICT = re.compile(r"(\d+) passed, (\d+) failed")
 START = time.monotonic()
 
@@ -73,19 +67,6 @@ def misplaced():
         faults += [f"crates.txt is not lowest first: {name} must come after {it}, on which it stands" for it in later]
         earlier.add(name)
     return faults
-
-
-def with_all_below():
-    """Returns for each crate the set of itself and all crates below it, in whatever order crates.txt lists them."""
-    named, found = crates(), {}
-
-    def below(name):
-        if name not in found:
-            found[name] = {name}
-            found[name] = {name}.union(*(below(it) for it in named[name] if it in named))
-        return found[name]
-
-    return {name: below(name) for name in named}
 
 
 class Progress:
@@ -115,9 +96,9 @@ class Progress:
 class Run:
     """A run of `rt ci` in a folder, as a context manager. Leaving it early ends the run and the provers that it has started."""
 
-    def __init__(self, folder, progress, *words, priority=0, command=("rt", "ci")):
+    def __init__(self, folder, progress, *words):
         self.folder, self.progress, self.verdict = folder, progress, (0, 1)
-        self.words = ["nice", "-n", str(priority), *command, *words]
+        self.words = [*SCHEDULED, *words]
         self.reader = threading.Thread(target=self.read)
 
     def __enter__(self):
@@ -139,20 +120,6 @@ class Run:
                 self.progress.look(self.folder, line)
         if self.ran.wait():
             self.verdict = self.verdict[0], max(self.verdict[1], 1)
-
-    def is_running(self):
-        return self.reader.is_alive()
-
-
-def ahead(chain, others):
-    """Waits until both runs have ended, or one of them has failed. Returns how many passed and failed in the runs that have ended."""
-    with chain, others:
-        while True:
-            ended = [it.verdict for it in (chain, others) if not it.is_running()]
-            passed, failed = (sum(counts) for counts in zip((0, 0), *ended))
-            if len(ended) == 2 or failed:
-                return passed, failed
-            time.sleep(1)
 
 
 def keeps_results():
@@ -191,23 +158,10 @@ def run(anew, whole):
         return 0, 1
     edits = edits_of(ROOT, crates(), KINDS if whole else KINDS[:1])
     say(f"part 1 of 5: proving every crate and its tests, running the tests, and trying {len(edits)} wrong programs")
-    below = with_all_below()
     with contextlib.ExitStack() as held:
-        copy_of = lambda names: held.enter_context(without_edits(names))
-        room = copy_of(crates())
+        room = held.enter_context(without_edits(crates()))
         trials = held.enter_context(Trials(edits, say))
-        progress = Progress(trials.begin)
-        keeps = keeps_results()
-        if not keeps:
-            say("this toolchain's rt ci keeps nothing, so one run proves everything, on a schedule of the gate's own")
-        elif not anew and free_memory() > ENOUGH_FOR_TWO:
-            chain = copy_of(set().union(*(below[top] for top in TOPS)))
-            others = copy_of(it for it in crates() if not below[it].intersection(TOPS))
-            passed, failed = ahead(Run(chain, progress), Run(others, progress, priority=10))
-            if failed:
-                return passed, failed
-        judge = Run(room, progress, *["--anew"] * anew) if keeps else Run(room, progress, command=SCHEDULED)
-        with judge:
+        with Run(room, Progress(trials.begin), *["--anew"] * (anew and keeps_results())) as judge:
             judge.reader.join()
         passed, failed = judge.verdict
         if failed:

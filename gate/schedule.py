@@ -1,4 +1,4 @@
-"""Runs `rt ci` in the current folder, with a schedule for machines on which it proves everything from nothing.
+"""Runs `rt ci` in the current folder, with the words that follow, on a schedule of its own.
 
 `rt ci` decides once, when a proof starts, how many processors the proof gets, and it reserves more memory than a check takes. So the
 longest proof, which starts beside others, gets one processor, and others are idle meanwhile. Here a task starts when everything that
@@ -102,7 +102,7 @@ def in_order(tasks):
 def main():
     rt = load_rt()
     rt.in_lanes = in_order
-    return rt.main(["ci"])
+    return rt.main(["ci", *sys.argv[1:]])
 
 
 if __name__ == "__main__":

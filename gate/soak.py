@@ -1,8 +1,9 @@
-"""Plays random schedules, and serves random scripts: gate/soak.py PROGRAM [--cases N] [--first SEED] [--minutes N] [--beside OTHER]
+"""Plays random schedules, and serves random scripts: gate/soak.py PROGRAM [--cases N] [--events N] [--first SEED] [--minutes N]
+[--beside OTHER]
 
-Each case has a seed. It plays a schedule of 500 events by `tpcc sim`: submissions of all five kinds, some of them hostile, moves
-between executors, takes, sends and now and then rounds, with small inboxes, and in some cases with a small log. Every tenth case
-also serves scripts by `tpcc run`, with moves. In each case
+Each case has a seed. It plays a schedule of 500 events, or of as many as --events says, by `tpcc sim`: submissions of all five
+kinds, some of them hostile, moves between executors, takes, sends and now and then rounds, with small inboxes, and in some cases
+with a small log. Every tenth case also serves scripts by `tpcc run`, with moves. In each case
 
 - `replay` of the log is equal, and gives the tables that were written; `check` of them succeeds. A schedule is also played up to
   each of its rounds, so this is so whenever nothing is active.
@@ -21,10 +22,10 @@ import subprocess
 import sys
 import tempfile
 import time
-from concurrent.futures import ThreadPoolExecutor
+from concurrent.futures import ProcessPoolExecutor
+from functools import partial
 from itertools import count
 
-EVENTS = 500
 EXECUTORS = 3
 MOMENTS = ["2024-05-01T12:00:00", "1970-01-01T00:00:00", "9999-12-31T23:59:59"]
 NAMES = ["BARBARBAR", "BARBAROUGHT", "BARBARABLE", "EINGEINGEING"]
@@ -53,8 +54,8 @@ class Draws:
         number = self.random.random() < 0.7
         return f"#{self.number(self.scale[2])}" if number else self.random.choice(NAMES)
 
-    def request(self):
-        """Returns a request. Most are of few groups, so that many wait or die."""
+    def request(self, in_script=False):
+        """Returns a request, or a record of a script. Most are of few groups, so that many wait or die."""
         warehouses, items, _ = self.scale
         w, d, moment = self.number(warehouses), self.number(2), self.random.choice(MOMENTS)
         kind = self.random.choice("NNNPPPODL")
@@ -63,16 +64,17 @@ class Draws:
         if kind == "O":
             return f"O,{w},{d},{self.customer()}"
         if kind == "D":
-            return f"D,{w},{self.random.randint(1, 10)},{moment}"
+            # In a script a Delivery is of a warehouse, and is carried out as ten, one for each district.
+            return f"D,{w}{'' if in_script else f',{d}'},{self.random.randint(1, 10)},{moment}"
         if kind == "L":
             return f"L,{w},{d},{self.random.randint(10, 20)}"
         lines = [f"{self.number(items)},{self.number(warehouses)},{self.random.randint(1, 10)}" for _ in range(self.random.randint(5, 15))]
         return f"N,{w},{d},{self.number(self.scale[2])},{moment},{','.join(lines)}"
 
-    def schedule(self):
-        """Returns the items of a schedule that ends with rounds."""
+    def schedule(self, events):
+        """Returns the items of a schedule of so many events that ends with rounds."""
         items, numbers = [], [0] * self.random.choice([2, 4, 8, 64])
-        for _ in range(EVENTS):
+        for _ in range(events):
             pick = self.random.random()
             if pick < 0.1:
                 session = self.random.randrange(len(numbers))
@@ -109,6 +111,7 @@ class Case:
 
     def __init__(self, words, datasets, folder, seed):
         self.program, self.other, self.folder, self.seed, self.draws = words.program, words.beside, folder, seed, Draws(seed)
+        self.events = words.events
         self.dataset = datasets[self.draws.scale]
 
     def call(self, *words, program=None):
@@ -159,16 +162,22 @@ class Case:
 
     def serve(self):
         """Serves scripts, with moves, by executors in threads."""
-        scripts = self.draws.random.randint(1, 6)
-        for number in range(scripts):
-            write(f"{self.folder}/script-{number}.csv", [self.draws.request() for _ in range(40)])
+        scripts = [[self.draws.request(in_script=True) for _ in range(40)] for _ in range(self.draws.random.randint(1, 6))]
+        for script, records in enumerate(scripts):
+            write(f"{self.folder}/script-{script}.csv", records)
         first = self.draws.random.randint(1, self.draws.scale[0])
         write(f"{self.folder}/moves.csv", [f"{first},{self.draws.scale[0]},{self.draws.random.randrange(EXECUTORS)}" for _ in range(20)])
         words = ["--executors", str(EXECUTORS), *self.draws.limits(), "--moves", "moves.csv", "--log", "log.csv", "--tables", "tables.csv", "--quiet"]
-        answers = [line.split(",") for line in self.call("run", self.dataset, *[f"script-{it}.csv" for it in range(scripts)], *words)]
-        if [it[:2] for it in answers] != [[str(script), str(number)] for script in range(scripts) for number in range(40)]:
+        answers = [line.split(",") for line in self.call("run", self.dataset, *[f"script-{it}.csv" for it in range(len(scripts))], *words)]
+        asked = [
+            [str(script), str(number)]
+            for script, records in enumerate(scripts)
+            for number, record in enumerate(records)
+            for _ in range(10 if record.startswith("D,") else 1)
+        ]
+        if [it[:2] for it in answers] != asked:
             raise Wrong("not every request has one answer")
-        for script in range(scripts):
+        for script in range(len(scripts)):
             places = [int(it[3]) for it in answers if it[0] == str(script) and it[2] == "done"]
             if places != sorted(places):
                 raise Wrong(f"the places of script {script} do not ascend")
@@ -177,7 +186,7 @@ class Case:
     def run(self):
         """Runs the case. Returns what is wrong, or None."""
         os.makedirs(self.folder)
-        items, limits = self.draws.schedule(), self.draws.limits()
+        items, limits = self.draws.schedule(self.events), self.draws.limits()
         try:
             for end in [place + 1 for place, it in enumerate(items) if it == "R"]:
                 self.play(items[:end], limits)
@@ -204,10 +213,18 @@ def datasets_in(program, room):
     return paths
 
 
+def try_one(words, datasets, room, until, seed):
+    """Runs the case of this seed, unless the time is over. Returns the seed, what is wrong or None, and whether the case was run."""
+    if words.minutes and time.monotonic() > until:
+        return seed, None, False
+    return seed, Case(words, datasets, f"{room}/{seed}", seed).run(), True
+
+
 def main():
     words = argparse.ArgumentParser(description=__doc__, formatter_class=argparse.RawDescriptionHelpFormatter)
     words.add_argument("program", type=os.path.abspath, help="a built program")
     words.add_argument("--cases", type=int, default=1000, help="how many cases there are; 1000 by default")
+    words.add_argument("--events", type=int, default=500, help="how many events a schedule has; 500 by default")
     words.add_argument("--first", type=int, default=1, metavar="SEED", help="the seed of the first case; 1 by default")
     words.add_argument("--beside", type=os.path.abspath, metavar="OTHER", help="another program that must print and write the same")
     words.add_argument("--minutes", type=float, help="try new cases for so long, whatever --cases says")
@@ -217,18 +234,15 @@ def main():
     room, failed, tried = tempfile.mkdtemp(prefix="soak-"), 0, 0
     datasets, lanes = datasets_in(words.program, room), os.cpu_count() or 1
 
-    def one(seed):
-        if words.minutes and time.monotonic() > until:
-            return seed, None, False
-        return seed, Case(words, datasets, f"{room}/{seed}", seed).run(), True
-
-    with ThreadPoolExecutor(lanes) as pool:
+    with ProcessPoolExecutor(lanes) as pool:
         for some in iter(lambda: [it for _, it in zip(range(64 * lanes), seeds)], []):
-            for seed, wrong, was_tried in pool.map(one, some):
+            for seed, wrong, was_tried in pool.map(partial(try_one, words, datasets, room, until), some, chunksize=8):
                 tried += was_tried
                 if wrong:
                     failed += 1
                     print(f"soak: seed {seed}: {wrong}; its files are in {room}/{seed}", flush=True)
+            if sys.stderr.isatty():
+                print(f"\rsoak: {tried} cases, {failed} failed", end="", file=sys.stderr, flush=True)
             if words.minutes and time.monotonic() > until:
                 break
     print(f"soak: {tried} cases, {failed} failed")

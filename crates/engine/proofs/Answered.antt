@@ -1,10 +1,11 @@
 -- A session has one more answer: its facts then.
 use Rattle.std.proofs.Common.{◌≡◌, ℕ, ◌+◌, ◌<◌, ◌≤◌, max, Bool, true, false, List, [], ◌∷◌, ◌++◌, length, Result, Ok, Err, inr, refl, sym, ap, subst, ◌∙◌, arith}
 use Rattle.std.proofs.lemmas.List.Elements.{Contains-push}
-use Rattle.requests.specs.declared.request.Request.{Request}
+use Rattle.requests.specs.declared.script.Part.{Part}
 use Rattle.requests.specs.declared.refusal.Refusal.{Refusal}
 use Rattle.requests.specs.declared.refusal.Refusal.TheVariants as refusal
 use Rattle.requests.specs.Check.{check_of}
+use Rattle.requests.specs.Script.{part}
 use Rattle.commit_log.specs.declared.entry.Entry.{Entry}
 use Rattle.commit_log.specs.declared.mine.Item.{Item}
 use Rattle.commit_log.specs.Asks.{asking}
@@ -34,10 +35,10 @@ seen_more answers place seen behind saw k there at =
 
 module _ (rules : Rules) where
   -- nothing was asked yet
-  pub resting_first : (script : List Request) (seat : SessionSeatView) (pass : PassView) (answers : List (Result ℕ Refusal)) → seat.session ≡ pass.session → pass.mine ≡ [] → script ≡ [] → answers ≡ []
+  pub resting_first : (script : List Part) (seat : SessionSeatView) (pass : PassView) (answers : List (Result ℕ Refusal)) → seat.session ≡ pass.session → pass.mine ≡ [] → script ≡ [] → answers ≡ []
       → IsResting rules (ready_view script seat pass answers false)
   resting_first script seat pass answers seat_is new nothing none =
-      subst (λ (rs : List Request). IsResting rules (ready_view rs seat pass answers false)) (sym nothing)
+      subst (λ (ps : List Part). IsResting rules (ready_view ps seat pass answers false)) (sym nothing)
       (subst (λ (recorded : List (Result ℕ Refusal)). IsResting rules (ready_view [] seat pass recorded false)) (sym none) (record {
         seat_is = seat_is;
         served = subst (λ (m : List Item). Served rules [] [] m 0) (sym new) (served_begun rules 0);
@@ -46,35 +47,34 @@ module _ (rules : Rules) where
       }))
 
   -- a request is refused
-  module _ (script : List Request) (seat : SessionSeatView) (pass : PassView) (answers : List (Result ℕ Refusal)) (is_full : Bool) (request : Request) (why : Refusal)
-      (h : IsResting rules (ready_view script seat pass answers is_full)) (rightly : IsRefusal rules (known_of is_full pass.reached) request why) where
-    pub resting_refused : (asked : List Request) (recorded : List (Result ℕ Refusal)) → asked ≡ script ++ request ∷ [] → recorded ≡ answers ++ Err why ∷ []
-        → IsResting rules (ready_view asked seat pass recorded is_full)
-    resting_refused asked recorded noted answered =
-        subst (λ (rs : List Request). IsResting rules (ready_view rs seat pass recorded is_full)) (sym noted)
-        (subst (λ (all : List (Result ℕ Refusal)). IsResting rules (ready_view (script ++ request ∷ []) seat pass all is_full)) (sym answered) (record {
+  module _ (script : List Part) (seat : SessionSeatView) (pass : PassView) (answers : List (Result ℕ Refusal)) (is_full : Bool) (asked : Part) (why : Refusal)
+      (h : IsResting rules (ready_view script seat pass answers is_full)) (rightly : IsRefusal rules (known_of is_full pass.reached) asked.request why) where
+    pub resting_refused : (parts : List Part) (recorded : List (Result ℕ Refusal)) → parts ≡ script ++ asked ∷ [] → recorded ≡ answers ++ Err why ∷ []
+        → IsResting rules (ready_view parts seat pass recorded is_full)
+    resting_refused parts recorded noted answered =
+        subst (λ (ps : List Part). IsResting rules (ready_view ps seat pass recorded is_full)) (sym noted)
+        (subst (λ (all : List (Result ℕ Refusal)). IsResting rules (ready_view (script ++ asked ∷ []) seat pass all is_full)) (sym answered) (record {
           seat_is = h.seat_is;
-          served = refused_more rules script answers pass.mine (known_of is_full pass.reached) (known_of is_full pass.reached) request why h.served (omega arith) rightly;
+          served = refused_more rules script answers pass.mine (known_of is_full pass.reached) (known_of is_full pass.reached) asked why h.served (omega arith) rightly;
           has_seen = seen_still answers why pass.seen pass.seen refl h.has_seen;
           full = h.full;
         }))
 
-  -- a request is asked, which the check accepts
-  pub away_now : (script : List Request) (seat after : SessionSeatView) (pass : PassView) (answers : List (Result ℕ Refusal)) (is_full : Bool) (request : Request) (number : ℕ)
-      → IsResting rules (ready_view script seat pass answers is_full) → is_full ≡ false → number ≡ length answers → check_of rules.scale request ≡ Ok tt
-      → after ≡ session_seat_view seat.session (asking number request pass.seen pass.mine) → IsAway rules (asked_view script after answers)
-  away_now script seat after pass answers is_full request number h not_full number_is accepted after_is =
+  -- a part is asked whose request the check accepts
+  pub away_now : (script : List Part) (seat after : SessionSeatView) (pass : PassView) (answers : List (Result ℕ Refusal)) (is_full : Bool) (asked : Part)
+      → IsResting rules (ready_view script seat pass answers is_full) → is_full ≡ false → check_of rules.scale asked.request ≡ Ok tt
+      → after ≡ session_seat_view seat.session (asking asked.number asked.request pass.seen pass.mine) → IsAway rules (asked_view script after answers)
+  away_now script seat after pass answers is_full asked h not_full accepted after_is =
       subst (λ (s : SessionSeatView). IsAway rules (asked_view script s answers)) (sym after_is) (record {
         served = subst (λ (b : Bool). Served rules script answers pass.mine (known_of b pass.reached)) not_full h.served;
         has_seen = h.has_seen;
-        number_is = number_is;
         accepted = accepted;
       })
 
   -- the answer has come
-  module _ (script : List Request) (seat : SessionSeatView) (pass : PassView) (answers : List (Result ℕ Refusal)) (h : IsAway rules (asked_view script seat answers)) (session : pass.session ≡ seat.session) where
-    abbrev pub request : Request
-    request = seat.asking.request
+  module _ (script : List Part) (seat : SessionSeatView) (pass : PassView) (answers : List (Result ℕ Refusal)) (h : IsAway rules (asked_view script seat answers)) (session : pass.session ≡ seat.session) where
+    abbrev pub asked : Part
+    asked = part seat.asking.number seat.asking.request
 
     -- it is to be asked again
     pub resting_again : (why : Refusal) → IsRecordedBy rules.most seat.asking pass (Err why) → IsResting rules (ready_view script seat pass answers false)
@@ -86,16 +86,16 @@ module _ (rules : Rules) where
     }
 
     so_refused : (why : Refusal) (known : ℕ) → IsRecordedBy rules.most seat.asking pass (Err why) → MayBeRefused rules.most known seat.asking.request why
-        → Served rules (script ++ request ∷ []) (answers ++ Err why ∷ []) pass.mine known
+        → Served rules (script ++ asked ∷ []) (answers ++ Err why ∷ []) pass.mine known
     so_refused why known recorded may =
-        subst (λ (m : List Item). Served rules (script ++ request ∷ []) (answers ++ Err why ∷ []) m known) (sym recorded.1)
-        (refused_more rules script answers seat.asking.mine 0 known request why h.served (omega arith)
+        subst (λ (m : List Item). Served rules (script ++ asked ∷ []) (answers ++ Err why ∷ []) m known) (sym recorded.1)
+        (refused_more rules script answers seat.asking.mine 0 known asked why h.served (omega arith)
         (inr (h.accepted, may)))
 
     seen_so : (why : Refusal) → IsRecordedBy rules.most seat.asking pass (Err why) → HasSeen pass.seen (answers ++ Err why ∷ [])
     seen_so why recorded = seen_still answers why seat.asking.seen pass.seen recorded.0 h.has_seen
 
-    recorded_full : (why : Refusal) → rules.most ≤ pass.reached → IsRecordedBy rules.most seat.asking pass (Err why) → IsResting rules (ready_view (script ++ request ∷ []) seat pass (answers ++ Err why ∷ []) true)
+    recorded_full : (why : Refusal) → rules.most ≤ pass.reached → IsRecordedBy rules.most seat.asking pass (Err why) → IsResting rules (ready_view (script ++ asked ∷ []) seat pass (answers ++ Err why ∷ []) true)
     recorded_full why full recorded = record {
       seat_is = sym session;
       served = so_refused why pass.reached recorded recorded.2;
@@ -103,7 +103,7 @@ module _ (rules : Rules) where
       full = λ is. full;
     }
 
-    recorded_refused : (why : Refusal) → MayBeRefused rules.most 0 seat.asking.request why → IsRecordedBy rules.most seat.asking pass (Err why) → IsResting rules (ready_view (script ++ request ∷ []) seat pass (answers ++ Err why ∷ []) false)
+    recorded_refused : (why : Refusal) → MayBeRefused rules.most 0 seat.asking.request why → IsRecordedBy rules.most seat.asking pass (Err why) → IsResting rules (ready_view (script ++ asked ∷ []) seat pass (answers ++ Err why ∷ []) false)
     recorded_refused why may recorded = record {
       seat_is = sym session;
       served = so_refused why 0 recorded may;
@@ -111,24 +111,20 @@ module _ (rules : Rules) where
       full = λ is. absurd cc;
     }
 
-    recorded_done : (place : ℕ) → IsRecordedBy rules.most seat.asking pass (Ok place) → IsResting rules (ready_view (script ++ request ∷ []) seat pass (answers ++ Ok place ∷ []) false)
+    recorded_done : (place : ℕ) → IsRecordedBy rules.most seat.asking pass (Ok place) → IsResting rules (ready_view (script ++ asked ∷ []) seat pass (answers ++ Ok place ∷ []) false)
     recorded_done place recorded =
         let reply = recorded.2 in
-        let even = h.served.answered in
-        let number : seat.asking.number ≡ length script = h.number_is ∙ even in
-        let x = item place (length script) request reply in
-        let mine : pass.mine ≡ seat.asking.mine ++ x ∷ [] =
-        recorded.3 ∙ ap (λ (n : ℕ). seat.asking.mine ++ item place n request reply ∷ []) number in
+        let x = item place seat.asking.number seat.asking.request reply in
         record {
           seat_is = sym session;
-          served = subst (λ (m : List Item). Served rules (script ++ request ∷ []) (answers ++ Ok place ∷ []) m 0) (sym mine)
-              (done_more rules script answers seat.asking.mine 0 0 seat.asking.seen place request reply h.served h.has_seen (omega arith) recorded.0
+          served = subst (λ (m : List Item). Served rules (script ++ asked ∷ []) (answers ++ Ok place ∷ []) m 0) (sym recorded.3)
+              (done_more rules script answers seat.asking.mine 0 0 seat.asking.seen place asked reply h.served h.has_seen (omega arith) recorded.0
               (h.accepted, reply, Contains-push seat.asking.mine x));
           has_seen = subst (λ (n : ℕ). HasSeen n (answers ++ Ok place ∷ [])) (sym recorded.1) (seen_more answers place seat.asking.seen recorded.0 h.has_seen);
           full = λ is. absurd cc;
         }
 
-    recorded_any : (answer : Result ℕ Refusal) → IsRecordedBy rules.most seat.asking pass answer → IsResting rules (ready_view (script ++ request ∷ []) seat pass (answers ++ answer ∷ []) (says_full answer))
+    recorded_any : (answer : Result ℕ Refusal) → IsRecordedBy rules.most seat.asking pass answer → IsResting rules (ready_view (script ++ asked ∷ []) seat pass (answers ++ answer ∷ []) (says_full answer))
     recorded_any (Ok place) recorded = recorded_done place recorded
     recorded_any (Err refusal.LogFull) recorded = recorded_full refusal.LogFull recorded.2 recorded
     recorded_any (Err refusal.NoMemory) recorded = recorded_refused refusal.NoMemory tt recorded
@@ -145,15 +141,15 @@ module _ (rules : Rules) where
     recorded_any (Err refusal.SessionBusy) recorded = absurd recorded.2
     recorded_any (Err refusal.Closed) recorded = absurd recorded.2
 
-    pub resting_recorded : (asked : List Request) (recorded : List (Result ℕ Refusal)) (answer : Result ℕ Refusal) (is_full : Bool) → IsRecordedBy rules.most seat.asking pass answer
-        → asked ≡ script ++ request ∷ [] → recorded ≡ answers ++ answer ∷ [] → is_full ≡ says_full answer → IsResting rules (ready_view asked seat pass recorded is_full)
-    resting_recorded asked recorded answer is_full is noted answered full_is =
-        subst (λ (rs : List Request). IsResting rules (ready_view rs seat pass recorded is_full)) (sym noted)
-        (subst (λ (all : List (Result ℕ Refusal)). IsResting rules (ready_view (script ++ request ∷ []) seat pass all is_full)) (sym answered)
-        (subst (λ (b : Bool). IsResting rules (ready_view (script ++ request ∷ []) seat pass (answers ++ answer ∷ []) b)) (sym full_is) (recorded_any answer is)))
+    pub resting_recorded : (parts : List Part) (recorded : List (Result ℕ Refusal)) (answer : Result ℕ Refusal) (is_full : Bool) → IsRecordedBy rules.most seat.asking pass answer
+        → parts ≡ script ++ asked ∷ [] → recorded ≡ answers ++ answer ∷ [] → is_full ≡ says_full answer → IsResting rules (ready_view parts seat pass recorded is_full)
+    resting_recorded parts recorded answer is_full is noted answered full_is =
+        subst (λ (ps : List Part). IsResting rules (ready_view ps seat pass recorded is_full)) (sym noted)
+        (subst (λ (all : List (Result ℕ Refusal)). IsResting rules (ready_view (script ++ asked ∷ []) seat pass all is_full)) (sym answered)
+        (subst (λ (b : Bool). IsResting rules (ready_view (script ++ asked ∷ []) seat pass (answers ++ answer ∷ []) b)) (sym full_is) (recorded_any answer is)))
 
   -- the session has met another
-  pub resting_met : (script : List Request) (seat : SessionSeatView) (pass after other : PassView) (answers : List (Result ℕ Refusal)) (is_full : Bool) → IsResting rules (ready_view script seat pass answers is_full)
+  pub resting_met : (script : List Part) (seat : SessionSeatView) (pass after other : PassView) (answers : List (Result ℕ Refusal)) (is_full : Bool) → IsResting rules (ready_view script seat pass answers is_full)
       → after ≡ having_met pass other → IsResting rules (ready_view script seat after answers is_full)
   resting_met script seat pass after other answers is_full h met =
       subst (λ (p : PassView). IsResting rules (ready_view script seat p answers is_full)) (sym met) (record {
@@ -164,7 +160,7 @@ module _ (rules : Rules) where
       })
 
   -- the session is compared with the log
-  pub resting_audited : (script : List Request) (seat : SessionSeatView) (pass : PassView) (answers : List (Result ℕ Refusal)) (is_full : Bool) (session : ℕ) (log : List Entry) → IsResting rules (ready_view script seat pass answers is_full)
+  pub resting_audited : (script : List Part) (seat : SessionSeatView) (pass : PassView) (answers : List (Result ℕ Refusal)) (is_full : Bool) (session : ℕ) (log : List Entry) → IsResting rules (ready_view script seat pass answers is_full)
       → pass.session ≡ session → pass.mine ≡ items_of pass.session log → pass.reached ≤ length log → Served rules script answers (items_of session log) (length log)
   resting_audited script seat pass answers is_full session log h session_is mine reached =
       let below = known_below is_full pass.reached in

@@ -6,7 +6,7 @@ use Rattle.std.proofs.lemmas.Option.{slice_get_within}
 use Rattle.rows.specs.declared.limits.TheConstants.{SESSIONS}
 use Rattle.schema.specs.Database.{Database, IsWithinScale}
 use Rattle.partitions.specs.Parts.{SharedTables, shared_of}
-use Rattle.requests.specs.declared.request.Request.{Request}
+use Rattle.requests.specs.declared.script.Part.{Part}
 use Rattle.requests.specs.declared.refusal.Refusal.{Refusal}
 use Rattle.requests.specs.Check.{IsAccepted}
 use Rattle.machine.specs.Machine.{replies, tables_after}
@@ -31,7 +31,7 @@ of_all P xs n x all at = subst P (stands_at xs n x at) (all n x (slice_get_withi
     stands_at (z ∷ ys) (suc k) y h = stands_at ys k y h
 
 -- The log is as it was when the executors had ended, however often it was looked at since.
-pub closed : (opening : Database) (most : ℕ) (scripts : List (List Request)) (answers : List (List (Result ℕ Refusal))) (ended served idle settled entries : List Entry) (catalog : SharedTables) (slices : List SliceView) (tables : Database)
+pub closed : (opening : Database) (most : ℕ) (scripts : List (List Part)) (answers : List (List (Result ℕ Refusal))) (ended served idle settled entries : List Entry) (catalog : SharedTables) (slices : List SliceView) (tables : Database)
     → catalog ≡ shared_of opening → IsWithinScale opening
     → served ≡ ended → idle ≡ served → settled ≡ idle → entries ≡ settled
     → length answers ≡ length scripts → ServedEach (rules_of opening most) scripts ended answers

@@ -1,13 +1,14 @@
--- A session asks one request more.
+-- A session asks one part more.
 use Rattle.std.proofs.Common.{◌≡◌, ℕ, zero, suc, ◌+◌, ◌<◌, ◌≤◌, true, false, cond, eqb, List, [], ◌∷◌, ◌++◌, length, Some, Result, Ok, Err, inl, inr, length-append, get_or, take, refl, sym, ap, subst, ◌∙◌, arith}
 use Rattle.std.specs.List.{slice_get}
 use Rattle.std.proofs.lemmas.Bool.Decides.{nat_tests}
 use Rattle.std.proofs.Math.Seq.{take-suc}
 use Rattle.std.proofs.lemmas.Option.{get_or_from_slice_get, slice_get_within}
 use Rattle.std.proofs.lemmas.List.Elements.{Contains-append_left, Contains-push_cases}
-use Rattle.requests.specs.declared.request.Request.{Request}
+use Rattle.requests.specs.declared.script.Part.{Part}
 use Rattle.requests.specs.declared.reply.Reply.{Reply}
 use Rattle.requests.specs.declared.refusal.Refusal.{Refusal}
+use Rattle.requests.specs.Script.{part}
 use Rattle.commit_log.specs.declared.mine.Item.{Item}
 use Rattle.commit_log.specs.Items.{item}
 use Rattle.engine.specs.Rules.{Rules}
@@ -43,18 +44,18 @@ stays xs x y n h =
     let other : eqb n (length xs) ≡ false = grind (arith, nat_tests) in
     slice_get-push xs x n ∙ rw other h
 
--- ---- one request more
+-- ---- one part more
 
 -- an answer means the same when the session has logged more and its pass records a longer log
-answers_still : (rules : Rules) (reached further : ℕ) (mine rest : List Item) (k : ℕ) (request : Request) (answer : Result ℕ Refusal) → reached ≤ further
-    → IsAnswerTo rules reached mine k request answer → IsAnswerTo rules further (mine ++ rest) k request answer
-answers_still rules reached further mine rest k request (Ok place) grown h = (h.0, h.1, Contains-append_left mine rest (item place k request h.1) h.2)
-answers_still rules reached further mine rest k request (Err refusal) grown h = longer rules reached further request refusal grown h
+answers_still : (rules : Rules) (reached further : ℕ) (mine rest : List Item) (asked : Part) (answer : Result ℕ Refusal) → reached ≤ further
+    → IsAnswerTo rules reached mine asked answer → IsAnswerTo rules further (mine ++ rest) asked answer
+answers_still rules reached further mine rest asked (Ok place) grown h = (h.0, h.1, Contains-append_left mine rest (item place asked.number asked.request h.1) h.2)
+answers_still rules reached further mine rest asked (Err refusal) grown h = longer rules reached further asked.request refusal grown h
 
-answers_further : (rules : Rules) (reached further : ℕ) (mine : List Item) (k : ℕ) (request : Request) (answer : Result ℕ Refusal) → reached ≤ further
-    → IsAnswerTo rules reached mine k request answer → IsAnswerTo rules further mine k request answer
-answers_further rules reached further mine k request (Ok place) grown h = h
-answers_further rules reached further mine k request (Err refusal) grown h = longer rules reached further request refusal grown h
+answers_further : (rules : Rules) (reached further : ℕ) (mine : List Item) (asked : Part) (answer : Result ℕ Refusal) → reached ≤ further
+    → IsAnswerTo rules reached mine asked answer → IsAnswerTo rules further mine asked answer
+answers_further rules reached further mine asked (Ok place) grown h = h
+answers_further rules reached further mine asked (Err refusal) grown h = longer rules reached further asked.request refusal grown h
 
 evenly : {X Y : Type 0} (xs : List X) (x : X) (ys : List Y) (y : Y) → length xs ≡ length ys → length (xs ++ x ∷ []) ≡ length (ys ++ y ∷ [])
 evenly xs x ys y even = length-append xs (x ∷ []) ∙ ap (λ n. n + 1) even ∙ sym (length-append ys (y ∷ []))
@@ -63,35 +64,39 @@ evenly xs x ys y even = length-append xs (x ∷ []) ∙ ap (λ n. n + 1) even �
 pub served_begun : (rules : Rules) (reached : ℕ) → Served rules [] [] [] reached
 served_begun rules reached = record {
   answered = refl;
-  each = λ k request answer asked recorded. absurd cc;
+  each = λ k asked answer there recorded. absurd cc;
   logged = λ x c. let low = c.1 in absurd (omega arith);
   ascending = λ j k place later below first second. absurd cc;
 }
 
-pub done_more : (rules : Rules) (script : List Request) (answers : List (Result ℕ Refusal)) (mine : List Item) (reached further seen place : ℕ) (request : Request) (reply : Reply)
+pub done_more : (rules : Rules) (script : List Part) (answers : List (Result ℕ Refusal)) (mine : List Item) (reached further seen place : ℕ) (asked : Part) (reply : Reply)
     → Served rules script answers mine reached → HasSeen seen answers → reached ≤ further → seen ≤ place
-    → IsAnswerTo rules further (mine ++ item place (length script) request reply ∷ []) (length script) request (Ok place)
-    → Served rules (script ++ request ∷ []) (answers ++ Ok place ∷ []) (mine ++ item place (length script) request reply ∷ []) further
-done_more rules script answers mine reached further seen place request reply h saw grown behind so =
-    let x = item place (length script) request reply in
+    → IsAnswerTo rules further (mine ++ item place asked.number asked.request reply ∷ []) asked (Ok place)
+    → Served rules (script ++ asked ∷ []) (answers ++ Ok place ∷ []) (mine ++ item place asked.number asked.request reply ∷ []) further
+done_more rules script answers mine reached further seen place asked reply h saw grown behind so =
+    let x = item place asked.number asked.request reply in
     let even = h.answered in
     record {
-      answered = evenly answers (Ok place) script request even;
-      each = λ k r a asked recorded.
-          by_end (IsAnswerTo rules further (mine ++ x ∷ []) k r a) script request r k asked
-          (λ k_is r_is. by_end (IsAnswerTo rules further (mine ++ x ∷ []) k r a) answers (Ok place) a k recorded
-          (λ _ a_is. subst (λ n. IsAnswerTo rules further (mine ++ x ∷ []) n r a) (sym k_is)
-          (subst (λ q. IsAnswerTo rules further (mine ++ x ∷ []) (length script) q a) r_is
-          (subst (IsAnswerTo rules further (mine ++ x ∷ []) (length script) request) a_is so)))
+      answered = evenly answers (Ok place) script asked even;
+      each = λ k p a there recorded.
+          by_end (IsAnswerTo rules further (mine ++ x ∷ []) p a) script asked p k there
+          (λ k_is p_is. by_end (IsAnswerTo rules further (mine ++ x ∷ []) p a) answers (Ok place) a k recorded
+          (λ _ a_is. subst (λ q. IsAnswerTo rules further (mine ++ x ∷ []) q a) p_is (subst (IsAnswerTo rules further (mine ++ x ∷ []) asked) a_is so))
           (λ low _. absurd (omega arith)))
-          (λ low before. by_end (IsAnswerTo rules further (mine ++ x ∷ []) k r a) answers (Ok place) a k recorded
+          (λ low before. by_end (IsAnswerTo rules further (mine ++ x ∷ []) p a) answers (Ok place) a k recorded
           (λ k_is _. absurd (omega arith))
-          (λ _ old. answers_still rules reached further mine (x ∷ []) k r a grown (h.each k r a before old)));
+          (λ _ old. answers_still rules reached further mine (x ∷ []) p a grown (h.each k p a before old)));
       logged = λ y c.
-          elim (Contains-push_cases mine x y c) as (λ _. slice_get (answers ++ Ok place ∷ []) y.number ≡ Some (Ok y.place)) [
-            | inl before ↦ stays answers (Ok place) (Ok y.place) y.number (h.logged y before)
-            | inr is ↦ subst (λ (z : Item). slice_get (answers ++ Ok place ∷ []) z.number ≡ Some (Ok z.place)) is
-                (subst (λ n. slice_get (answers ++ Ok place ∷ []) n ≡ Some (Ok place)) even (stands answers (Ok place)))
+          let Logged : Item → Type 0 =
+          λ z. (k : ℕ) × (slice_get (script ++ asked ∷ []) k ≡ Some (part z.number z.request)) × (slice_get (answers ++ Ok place ∷ []) k ≡ Some (Ok z.place)) in
+          elim (Contains-push_cases mine x y c) as (λ _. Logged y) [
+            | inl before ↦
+                let d = h.logged y before in (
+                  d.0,
+                  stays script asked (part y.number y.request) d.0 d.1,
+                  stays answers (Ok place) (Ok y.place) d.0 d.2,
+                )
+            | inr is ↦ subst Logged is (length script, stands script asked, subst (λ n. slice_get (answers ++ Ok place ∷ []) n ≡ Some (Ok place)) even (stands answers (Ok place)))
           ];
       ascending = λ j k earlier later below first second.
           by_end (earlier < later) answers (Ok place) (Ok earlier) j first
@@ -102,25 +107,28 @@ done_more rules script answers mine reached further seen place request reply h s
           (λ _ after. h.ascending j k earlier later below before after));
     }
 
-pub refused_more : (rules : Rules) (script : List Request) (answers : List (Result ℕ Refusal)) (mine : List Item) (reached further : ℕ) (request : Request) (refusal : Refusal)
+pub refused_more : (rules : Rules) (script : List Part) (answers : List (Result ℕ Refusal)) (mine : List Item) (reached further : ℕ) (asked : Part) (refusal : Refusal)
     → Served rules script answers mine reached → reached ≤ further
-    → IsAnswerTo rules further mine (length script) request (Err refusal)
-    → Served rules (script ++ request ∷ []) (answers ++ Err refusal ∷ []) mine further
-refused_more rules script answers mine reached further request refusal h grown so =
+    → IsAnswerTo rules further mine asked (Err refusal)
+    → Served rules (script ++ asked ∷ []) (answers ++ Err refusal ∷ []) mine further
+refused_more rules script answers mine reached further asked refusal h grown so =
     let even = h.answered in
     record {
-      answered = evenly answers (Err refusal) script request even;
-      each = λ k r a asked recorded.
-          by_end (IsAnswerTo rules further mine k r a) script request r k asked
-          (λ k_is r_is. by_end (IsAnswerTo rules further mine k r a) answers (Err refusal) a k recorded
-          (λ _ a_is. subst (λ n. IsAnswerTo rules further mine n r a) (sym k_is)
-          (subst (λ q. IsAnswerTo rules further mine (length script) q a) r_is
-          (subst (IsAnswerTo rules further mine (length script) request) a_is so)))
+      answered = evenly answers (Err refusal) script asked even;
+      each = λ k p a there recorded.
+          by_end (IsAnswerTo rules further mine p a) script asked p k there
+          (λ k_is p_is. by_end (IsAnswerTo rules further mine p a) answers (Err refusal) a k recorded
+          (λ _ a_is. subst (λ q. IsAnswerTo rules further mine q a) p_is (subst (IsAnswerTo rules further mine asked) a_is so))
           (λ low _. absurd (omega arith)))
-          (λ low before. by_end (IsAnswerTo rules further mine k r a) answers (Err refusal) a k recorded
+          (λ low before. by_end (IsAnswerTo rules further mine p a) answers (Err refusal) a k recorded
           (λ k_is _. absurd (omega arith))
-          (λ _ old. answers_further rules reached further mine k r a grown (h.each k r a before old)));
-      logged = λ y c. stays answers (Err refusal) (Ok y.place) y.number (h.logged y c);
+          (λ _ old. answers_further rules reached further mine p a grown (h.each k p a before old)));
+      logged = λ y c.
+          let d = h.logged y c in (
+            d.0,
+            stays script asked (part y.number y.request) d.0 d.1,
+            stays answers (Err refusal) (Ok y.place) d.0 d.2,
+          );
       ascending = λ j k earlier later below first second.
           by_end (earlier < later) answers (Err refusal) (Ok earlier) j first
           (λ _ is. absurd cc)
@@ -136,11 +144,11 @@ seen_still answers refusal before after same saw k there at =
     (λ _ recorded. let low : there < before = saw k there recorded in omega arith)
 
 -- What a session was served, when the log has come to reach further.
-pub served_further : (rules : Rules) (script : List Request) (answers : List (Result ℕ Refusal)) (mine : List Item) (reached further : ℕ) → reached ≤ further
+pub served_further : (rules : Rules) (script : List Part) (answers : List (Result ℕ Refusal)) (mine : List Item) (reached further : ℕ) → reached ≤ further
     → Served rules script answers mine reached → Served rules script answers mine further
 served_further rules script answers mine reached further grown h = record {
   answered = h.answered;
-  each = λ k r a asked recorded. answers_further rules reached further mine k r a grown (h.each k r a asked recorded);
+  each = λ k p a there recorded. answers_further rules reached further mine p a grown (h.each k p a there recorded);
   logged = h.logged;
   ascending = h.ascending;
 }
@@ -153,13 +161,13 @@ take-next xs n x below is =
 
 -- ---- the script of a session
 
-module _ (script : List Request) (answers : List (Result ℕ Refusal)) (request : Request) (next : slice_get script (length answers) ≡ Some request) where
+module _ (script : List Part) (answers : List (Result ℕ Refusal)) (asked : Part) (next : slice_get script (length answers) ≡ Some asked) where
   below : length answers < length script
-  below = slice_get_within script (length answers) request next
+  below = slice_get_within script (length answers) asked next
 
-  -- with one answer more, the requests that were asked are one more
-  pub one_more : (answer : Result ℕ Refusal) → asked_of script (answers ++ answer ∷ []) ≡ asked_of script answers ++ request ∷ []
-  one_more answer = ap (λ (n : ℕ). take n script) (length-append answers (answer ∷ [])) ∙ take-next script (length answers) request below (sym (get_or_from_slice_get script (length answers) request request next))
+  -- with one answer more, the parts that were asked are one more
+  pub one_more : (answer : Result ℕ Refusal) → asked_of script (answers ++ answer ∷ []) ≡ asked_of script answers ++ asked ∷ []
+  one_more answer = ap (λ (n : ℕ). take n script) (length-append answers (answer ∷ [])) ∙ take-next script (length answers) asked below (sym (get_or_from_slice_get script (length answers) asked asked next))
 
   pub few_still : (answer : Result ℕ Refusal) → length (answers ++ answer ∷ []) ≤ length script
   few_still answer = let more = length-append answers (answer ∷ []) in let low = below in omega (arith, more, low)

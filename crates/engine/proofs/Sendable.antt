@@ -7,7 +7,8 @@ use Rattle.std.proofs.Crossing.{crosses, Box-send, Vec-send, Vec-sync, Deque-sen
 use Rattle.queues.specs.contracts.sender.Sender as Sender
 use Rattle.queues.proofs.Sendable.{Taker-send, Sender-send}
 use Rattle.routing.proofs.Sendable.{SharedRouting-sync}
-use Rattle.requests.proofs.Sendable.{Request-send, Script-sync}
+use Rattle.requests.proofs.Sendable.{Part-send, Script-sync}
+use Rattle.closing_word.proofs.Sendable.{Closed-send, Closer-send, ClosingWord-sync}
 use Rattle.commit_log.proofs.Sendable.{Log-send, Pass-send, SessionSeat-send}
 use Rattle.executor.proofs.Sendable.{Answer-send, Act-send, CompletionOwner-send, CompletionPlace-send, GivenBack-send, Flow-send, PhaseOwner-send, CountedShard-send, ExecutorShards-send, SessionAnswer-send}
 use Rattle.executor.specs.contracts.counted_shard.CountedShard as CountedShard
@@ -16,6 +17,9 @@ use Rattle.commit_log.specs.declared.log_names.LogNames.{Ghosts as LogNames}
 use Rattle.engine.specs.declared.names.ServeNames.{Ghosts as ServeNames}
 use Rattle.engine.specs.contracts.asking.Ready as Ready
 use Rattle.engine.specs.contracts.asking.Asked as Asked
+use Rattle.engine.specs.contracts.closed_engine.ClosedEngine as ClosedEngine
+use Rattle.engine.specs.contracts.closed_engine.Closing as Closing
+use Rattle.engine.specs.contracts.closed_engine.EngineCloser as EngineCloser
 use Rattle.engine.specs.contracts.parking.Parking as Parking
 use Rattle.engine.specs.contracts.engine.Engine as Engine
 use Rattle.engine.specs.contracts.serving.Crew as Crew
@@ -116,6 +120,22 @@ module _ (J : RattleType) (log : LogNames J.Denot) (groups : GroupNames J.Denot)
     ),
   )
 
+  -- the word by which the engine is closed, and a token that it was closed
+  ClosedEngine-send : (serve : ServeNames J.Denot) → IsSend (ClosedEngine.the_row J serve log groups)
+  ClosedEngine-send serve = view_send _ _ _ _ _ (declared_send (ClosedEngine.TheInside.the_type J serve log groups) (Closed-send, (search sendable depth 20, tt)))
+
+  EngineCloser-send : (serve : ServeNames J.Denot) → IsSend (EngineCloser.the_row J serve log groups)
+  EngineCloser-send serve = view_send _ _ _ _ _ (declared_send (EngineCloser.TheInside.the_type J serve log groups) (Closer-send, (search sendable depth 20, tt)))
+
+  Closing-sync : (serve : ServeNames J.Denot) → IsSync (Closing.the_row J serve log groups)
+  Closing-sync serve = view_sync _ _ _ _ _ (declared_sync (Closing.TheInside.the_type J serve log groups) (
+    ClosingWord-sync,
+    (
+      search (EngineCloser-send, crosses, sendable) depth 20,
+      tt,
+    ),
+  ))
+
   -- a session that asks interactively
   pub Session-send : (serve : ServeNames J.Denot) → IsSend (Session.the_row J serve log groups)
   Session-send serve = view_send _ _ _ _ _ (declared_send (Session.TheInside.the_type J serve log groups) (
@@ -123,14 +143,17 @@ module _ (J : RattleType) (log : LogNames J.Denot) (groups : GroupNames J.Denot)
     (
       Pass-send J log s,
       (
-        search (Request-send, Vec-send) depth 10,
+        search (Part-send, Vec-send) depth 10,
         (
           search (Answer-send, Vec-send) depth 10,
           (
             search sendable depth 20,
             (
-              search (Outlet-send, Vec-send, sendable) depth 20,
-              tt,
+              search (ClosedEngine-send, sendable) depth 20,
+              (
+                search (Outlet-send, Vec-send, sendable) depth 20,
+                tt,
+              ),
             ),
           ),
         ),
@@ -249,7 +272,7 @@ module _ (J : RattleType) (log : LogNames J.Denot) (groups : GroupNames J.Denot)
                               (
                                 search (crosses, sendable) depth 20,
                                 (
-                                  search (crosses, sendable) depth 20,
+                                  Closing-sync serve,
                                   tt,
                                 ),
                               ),

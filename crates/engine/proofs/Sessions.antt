@@ -4,8 +4,9 @@ use Rattle.std.specs.List.{slice_get}
 use Rattle.std.specs.Option.{option_map}
 use Rattle.std.proofs.lemmas.Option.{slice_get-map, slice_get_within}
 use Rattle.rows.specs.declared.limits.TheConstants.{SESSIONS}
-use Rattle.requests.specs.declared.request.Request.{Request}
+use Rattle.requests.specs.declared.script.Part.{Part}
 use Rattle.requests.specs.declared.refusal.Refusal.{Refusal}
+use Rattle.requests.specs.Script.{AreNumberedByPlace}
 use Rattle.commit_log.specs.declared.entry.Entry.{Entry}
 use Rattle.commit_log.specs.Items.{items_of}
 use Rattle.commit_log.specs.PassView.{PassView, SessionSeatView, new_pass, new_seat}
@@ -65,10 +66,20 @@ none_next first session entries before here s from up =
     by_last (suc n) zero G up' less last = less (omega arith)
     by_last (suc n) (suc m) G up' less last = by_last n m G (omega arith) (λ l. less (omega arith)) (λ e. last (ap suc e))
 
+-- ---- sessions that number what they ask
+
+-- one request more, with the next number
+pub numbered_more : (parts after : List Part) (one : Part) → AreNumberedByPlace parts → one.number ≡ length parts → after ≡ parts ++ one ∷ [] → AreNumberedByPlace after
+numbered_more parts after one numbered next pushed =
+    subst AreNumberedByPlace (sym pushed)
+    (λ place other at. by_end (other.number ≡ place) parts one other place at
+    (λ last is. sym (ap (λ (p : Part). p.number) is) ∙ next ∙ sym last)
+    (λ _ old. numbered place other old))
+
 -- ---- sessions that were served
 
 -- one script more that was served its answers
-pub each_next : (rules : Rules) (scripts : List (List Request)) (entries : List Entry) (answers after : List (List (Result ℕ Refusal))) (k : ℕ) (script : List Request) (recorded : List (Result ℕ Refusal))
+pub each_next : (rules : Rules) (scripts : List (List Part)) (entries : List Entry) (answers after : List (List (Result ℕ Refusal))) (k : ℕ) (script : List Part) (recorded : List (Result ℕ Refusal))
     → ServedEach rules scripts entries answers → length answers ≡ k → slice_get scripts k ≡ Some script
     → Served rules script recorded (items_of k entries) (length entries) → after ≡ answers ++ recorded ∷ [] → ServedEach rules scripts entries after
 each_next rules scripts entries answers after k script recorded before count asked served pushed =
@@ -112,19 +123,19 @@ at_right [] ys n = let none : 0 + n ≡ n = omega arith in ap (slice_get ys) non
 at_right (x ∷ xs) ys n = let next : suc (length xs) + n ≡ suc (length xs + n) = omega arith in ap (slice_get (x ∷ (xs ++ ys))) next ∙ at_right xs ys n
 
 -- the scripts that were served are among all that was asked
-pub served_among : (rules : Rules) (scripts more : List (List Request)) (entries : List Entry) (answers : List (List (Result ℕ Refusal))) → length answers ≡ length scripts
+pub served_among : (rules : Rules) (scripts more : List (List Part)) (entries : List Entry) (answers : List (List (Result ℕ Refusal))) → length answers ≡ length scripts
     → ServedEach rules scripts entries answers → ServedEach rules (scripts ++ more) entries answers
 served_among rules scripts more entries answers even each = λ s script recorded asked is_recorded.
     let low : s < length answers = slice_get_within answers s recorded is_recorded in
     each s script recorded (sym (at_left scripts more s (omega (arith, low, even))) ∙ asked) is_recorded
 
 -- what the sessions asked is behind the scripts
-pub asked_behind : {J : Type 0} (scripts : List (List Request)) (left : List (Left J)) (first : ℕ) → first ≡ length scripts → AreAskedFrom first (scripts ++ map (λ (one : Left J). one.session.script) left) left
+pub asked_behind : {J : Type 0} (scripts : List (List Part)) (left : List (Left J)) (first : ℕ) → first ≡ length scripts → AreAskedFrom first (scripts ++ map (λ (one : Left J). one.session.script) left) left
 asked_behind {J = J} scripts left first is = λ k one found.
     let asked = λ (l : Left J). l.session.script in
     ap (λ (n : ℕ). slice_get (scripts ++ map asked left) (n + k)) is ∙ at_right scripts (map asked left) k ∙ slice_get-map asked left k ∙ ap (option_map asked) found
 
 -- the next of these sessions has asked the script at its place
-pub asked_next : {J : Type 0} (first : ℕ) (scripts : List (List Request)) (all done rest : List (Left J)) (one : Left J) → all ≡ done ++ one ∷ rest → AreAskedFrom first scripts all
+pub asked_next : {J : Type 0} (first : ℕ) (scripts : List (List Part)) (all done rest : List (Left J)) (one : Left J) → all ≡ done ++ one ∷ rest → AreAskedFrom first scripts all
     → slice_get scripts (first + length done) ≡ Some one.session.script
 asked_next first scripts all done rest one is asked = asked (length done) one (ap (λ l. slice_get l (length done)) is ∙ at_seam done one rest)

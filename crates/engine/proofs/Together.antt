@@ -7,10 +7,12 @@ use Rattle.std.proofs.lemmas.List.Elements.{Contains-append_left, Contains-appen
 use Rattle.rows.specs.declared.limits.TheConstants.{SESSIONS}
 use Rattle.schema.specs.Database.{Database}
 use Rattle.requests.specs.declared.request.Request.{Request}
+use Rattle.requests.specs.declared.script.Part.{Part}
 use Rattle.requests.specs.declared.reply.Reply.{Reply}
 use Rattle.requests.specs.declared.refusal.Refusal.{Refusal}
 use Rattle.requests.specs.declared.refusal.Refusal.TheVariants as refusal
 use Rattle.requests.specs.Check.{check_of}
+use Rattle.requests.specs.Script.{part}
 use Rattle.commit_log.specs.declared.entry.Entry.{Entry}
 use Rattle.commit_log.specs.Log.{IsLegal}
 use Rattle.commit_log.specs.declared.mine.Item.{Item}
@@ -141,7 +143,7 @@ longer rules reached entries request why grown (inr (accepted, reason)) = inr (a
     still refusal.SessionBusy r = r
     still refusal.Closed r = r
 
-pub together : (opening : Database) (most : ℕ) (scripts : List (List Request)) (entries : List Entry) (last : Database) (answers : List (List (Result ℕ Refusal)))
+pub together : (opening : Database) (most : ℕ) (scripts : List (List Part)) (entries : List Entry) (last : Database) (answers : List (List (Result ℕ Refusal)))
     → IsLegal opening entries last → length entries ≤ most → length answers ≡ length scripts
     → ((place : ℕ) (e : Entry) → slice_get entries place ≡ Some e → e.session < SESSIONS)
     → ServedEach (rules_of opening most) scripts entries answers
@@ -170,37 +172,39 @@ together opening most scripts entries last answers legal few even known each oth
           let recorded = at_parts answers s k (Ok place) at in
           let script = partner answers scripts s recorded.0 even recorded.1 in
           let h = each s script.0 recorded.0 script.1 recorded.1 in
-          let request = partner recorded.0 script.0 k (Ok place) h.answered recorded.2 in
-          let stands = h.each k request.0 (Ok place) request.1 recorded.2 in
-          (request.0, at_both scripts script.0 s k script.1 ∙ request.1, stands.1, stands_in_log s entries place k request.0 stands.1 stands.2);
+          let asked = partner recorded.0 script.0 k (Ok place) h.answered recorded.2 in
+          let stands = h.each k asked.0 (Ok place) asked.1 recorded.2 in
+          (asked.0, at_both scripts script.0 s k script.1 ∙ asked.1, stands.1, stands_in_log s entries place asked.0.number asked.0.request stands.1 stands.2);
       logged = λ place entry at.
           let x = item place entry.number entry.request entry.reply in
           let listed : Contains (items_of entry.session entries) x = logged_by_session entries place entry at in
           let low : entry.session < SESSIONS = known place entry at in
-          by_order entry.session (length scripts) (item_at answers entry.session entry.number ≡ Some (Ok place))
+          by_order entry.session (length scripts)
+          ((k : ℕ) × (item_at scripts entry.session k ≡ Some (part entry.number entry.request)) × (item_at answers entry.session k ≡ Some (Ok place)))
           (λ below.
           let script = reaches scripts entry.session below in
           let recorded = partner scripts answers entry.session script.0 (sym even) script.1 in
           let h = each entry.session script.0 recorded.0 script.1 recorded.1 in
-          at_both answers recorded.0 entry.session entry.number recorded.1 ∙ h.logged x listed)
+          let d = h.logged x listed in
+          (d.0, at_both scripts script.0 entry.session d.0 script.1 ∙ d.1, at_both answers recorded.0 entry.session d.0 recorded.1 ∙ d.2))
           (λ above. absurd (none entry.session x (others entry.session above low) listed));
       ascending = λ s j k place later below first second.
           let recorded = at_parts answers s j (Ok place) first in
           let script = partner answers scripts s recorded.0 even recorded.1 in
           let h = each s script.0 recorded.0 script.1 recorded.1 in
           h.ascending j k place later below recorded.2 (sym (at_both answers recorded.0 s k recorded.1) ∙ second);
-      refused = λ s k request refusal asked at.
+      refused = λ s k asked refusal there at.
           let recorded = at_parts answers s k (Err refusal) at in
-          let script = at_parts scripts s k request asked in
+          let script = at_parts scripts s k asked there in
           let h = each s script.0 recorded.0 script.1 recorded.1 in
-          h.each k request (Err refusal) script.2 recorded.2;
-      checked = λ s k request refusal asked refuses.
-          let script = at_parts scripts s k request asked in
+          h.each k asked (Err refusal) script.2 recorded.2;
+      checked = λ s k asked refusal there refuses.
+          let script = at_parts scripts s k asked there in
           let recorded = partner scripts answers s script.0 (sym even) script.1 in
           let h = each s script.0 recorded.0 script.1 recorded.1 in
-          let answer = partner script.0 recorded.0 k request (sym h.answered) script.2 in
+          let answer = partner script.0 recorded.0 k asked (sym h.answered) script.2 in
           at_both answers recorded.0 s k recorded.1 ∙ answer.1
-          ∙ ap Some (refuses_so rules (length entries) (items_of s entries) k request refusal answer.0 refuses (h.each k request answer.0 script.2 answer.1));
+          ∙ ap Some (refuses_so rules (length entries) (items_of s entries) asked refusal answer.0 refuses (h.each k asked answer.0 script.2 answer.1));
     }
   where
     by_order : (a b : ℕ) (G : Type 0) → (a < b → G) → (b ≤ a → G) → G
@@ -208,8 +212,8 @@ together opening most scripts entries last answers legal few even known each oth
     by_order zero (suc b) G less more = less (omega arith)
     by_order (suc a) (suc b) G less more = by_order a b G (λ l. less (omega arith)) (λ m. more (omega arith))
 
-    refuses_so : (rules : Rules) (reached : ℕ) (mine : List Item) (k : ℕ) (request : Request) (refusal : Refusal) (answer : Result ℕ Refusal)
-        → check_of rules.scale request ≡ Err refusal → IsAnswerTo rules reached mine k request answer → answer ≡ Err refusal
-    refuses_so rules reached mine k request refusal (Ok place) refuses h = let accepted = h.0 in absurd cc
-    refuses_so rules reached mine k request refusal (Err other) refuses (inl so) = cc
-    refuses_so rules reached mine k request refusal (Err other) refuses (inr so) = let accepted : check_of rules.scale request ≡ Ok tt = so.0 in absurd cc
+    refuses_so : (rules : Rules) (reached : ℕ) (mine : List Item) (asked : Part) (refusal : Refusal) (answer : Result ℕ Refusal)
+        → check_of rules.scale asked.request ≡ Err refusal → IsAnswerTo rules reached mine asked answer → answer ≡ Err refusal
+    refuses_so rules reached mine asked refusal (Ok place) refuses h = let accepted = h.0 in absurd cc
+    refuses_so rules reached mine asked refusal (Err other) refuses (inl so) = cc
+    refuses_so rules reached mine asked refusal (Err other) refuses (inr so) = let accepted : check_of rules.scale asked.request ≡ Ok tt = so.0 in absurd cc

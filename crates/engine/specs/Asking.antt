@@ -1,10 +1,11 @@
 -- A session that asks one request after another, interactively or by a script.
 use Rattle.std.specs.Prelude.{◌≡◌, ℕ, ◌<◌, ◌≤◌, Bool, true, false, List, take, length, Some, Result, Ok, Err, if◌then◌else◌}
 use Rattle.std.specs.List.{slice_get}
-use Rattle.requests.specs.declared.request.Request.{Request}
 use Rattle.requests.specs.declared.refusal.Refusal.{Refusal}
 use Rattle.requests.specs.declared.refusal.Refusal.TheVariants.{LogFull}
+use Rattle.requests.specs.declared.script.Part.{Part}
 use Rattle.requests.specs.Check.{check_of}
+use Rattle.requests.specs.Script.{part}
 use Rattle.commit_log.specs.PassView.{PassView, SessionSeatView}
 use Rattle.engine.specs.Rules.{Rules}
 use Rattle.engine.specs.Outcome.{IsRefusal}
@@ -23,19 +24,21 @@ says_full _ = false
 abbrev pub known_of : Bool → ℕ → ℕ
 known_of is_full reached = if is_full then reached else 0
 
--- What contracts see of a session none of whose requests is in flight: the requests that it asks, its seat, its pass, the answers
--- so far, and whether the log was full for it.
+-- What contracts see of a session none of whose requests is in flight: the parts that it asks, its seat, its pass, the answers
+-- so far, whether the log was full for it, and whether it has found the engine closed.
 pub record ReadyView : Type 0 where
-  pub script : List Request
+  pub script : List Part
   pub seat : SessionSeatView
   pub pass : PassView
   pub answers : List (Result ℕ Refusal)
   pub is_full : Bool
+  pub is_closed : Bool
 
-abbrev pub ready_view : List Request → SessionSeatView → PassView → List (Result ℕ Refusal) → Bool → ReadyView
-ready_view script seat pass answers is_full = record { script = script; seat = seat; pass = pass; answers = answers; is_full = is_full }
+-- a session that has not found the engine closed
+abbrev pub ready_view : List Part → SessionSeatView → PassView → List (Result ℕ Refusal) → Bool → ReadyView
+ready_view script seat pass answers is_full = record { script = script; seat = seat; pass = pass; answers = answers; is_full = is_full; is_closed = false }
 
--- A session that has its pass. It was asked exactly these requests, and each answer is the result of its request.
+-- A session that has its pass. It was asked exactly these parts, and each answer is the result of its part.
 pub record IsResting (rules : Rules) (s : ReadyView) : Type 0 where
   pub seat_is : s.seat.session ≡ s.pass.session
   pub served : Served rules s.script s.answers s.pass.mine (known_of s.is_full s.pass.reached)
@@ -44,42 +47,41 @@ pub record IsResting (rules : Rules) (s : ReadyView) : Type 0 where
 
 -- what contracts see of a session whose next request is in flight
 pub record AskedView : Type 0 where
-  pub script : List Request
+  pub script : List Part
   pub seat : SessionSeatView
   pub answers : List (Result ℕ Refusal)
 
-abbrev pub asked_view : List Request → SessionSeatView → List (Result ℕ Refusal) → AskedView
+abbrev pub asked_view : List Part → SessionSeatView → List (Result ℕ Refusal) → AskedView
 asked_view script seat answers = record { script = script; seat = seat; answers = answers }
 
--- A session whose pass goes with its request: its seat records what it asked, and what the pass was then. Before, it was asked
--- exactly these requests, and each answer is the result of its request.
+-- A session whose pass goes with its request: its seat records the number and the request of the part that it asks, and what the
+-- pass was then. Before, it was asked exactly these parts, and each answer is the result of its part.
 pub record IsAway (rules : Rules) (s : AskedView) : Type 0 where
   pub served : Served rules s.script s.answers s.seat.asking.mine 0
   pub has_seen : HasSeen s.seat.asking.seen s.answers
-  pub number_is : s.seat.asking.number ≡ length s.answers
   pub accepted : check_of rules.scale s.seat.asking.request ≡ Ok tt
 
 -- ---- a session that has a script
 
--- the requests of a script that have these answers
-abbrev pub asked_of : List Request → List (Result ℕ Refusal) → List Request
+-- the parts of a script that have these answers
+abbrev pub asked_of : List Part → List (Result ℕ Refusal) → List Part
 asked_of script answers = take (length answers) script
 
--- It was asked the first requests of its script. There is capacity for all answers.
-pub record IsReady (rules : Rules) (scripts : List (List Request)) (s : ReadyView) (room : ℕ) : Type 0 where
+-- It was asked the first parts of its script. There is capacity for all answers.
+pub record IsReady (rules : Rules) (scripts : List (List Part)) (s : ReadyView) (room : ℕ) : Type 0 where
   pub script_is : slice_get scripts s.pass.session ≡ Some s.script
   pub few : length s.answers ≤ length s.script
   pub so_far : IsResting rules (ready_view (asked_of s.script s.answers) s.seat s.pass s.answers s.is_full)
   pub room_is : length s.script ≤ room
 
--- The next request of its script is in flight.
-pub record IsAsked (rules : Rules) (scripts : List (List Request)) (s : AskedView) (room : ℕ) : Type 0 where
+-- The next part of its script is in flight.
+pub record IsAsked (rules : Rules) (scripts : List (List Part)) (s : AskedView) (room : ℕ) : Type 0 where
   pub script_is : slice_get scripts s.seat.session ≡ Some s.script
-  pub next : slice_get s.script (length s.answers) ≡ Some s.seat.asking.request
+  pub next : slice_get s.script (length s.answers) ≡ Some (part s.seat.asking.number s.seat.asking.request)
   pub so_far : IsAway rules (asked_view (asked_of s.script s.answers) s.seat s.answers)
   pub room_is : length s.script ≤ room
 
--- the session's next request may be refused for this reason
+-- the session's next part may be refused for this reason
 abbrev pub IsRefusedNext : Rules → ReadyView → Refusal → Type 0
 IsRefusedNext rules s why =
-    (request : Request) × (slice_get s.script (length s.answers) ≡ Some request) × IsRefusal rules (known_of s.is_full s.pass.reached) request why
+    (asked : Part) × (slice_get s.script (length s.answers) ≡ Some asked) × IsRefusal rules (known_of s.is_full s.pass.reached) asked.request why

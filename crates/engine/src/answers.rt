@@ -3,8 +3,8 @@ ghost use Rattle.std.specs.Prelude.{◌≡◌};
 use requests::Refusal;
 use std::marker::Model;
 
-/// The answers to the requests of one script, by the requests' numbers: the place of the request's entry, with its reply, in the
-/// log, or why the request was refused.
+/// The answers to the parts of one script, in order: the place of the part's entry, with its reply, in the log, or why its request
+/// was refused.
 #[derive(Drop)]
 pub struct Answers {
     answers: Vec<Result<u32, Refusal>>,
@@ -27,7 +27,7 @@ impl Answers {
         Answers { answers }
     }
 
-    /// The answers, by the numbers of their requests.
+    /// The answers, in the order of the parts.
     pub fn as_slice(&self) -> &[Result<u32, Refusal>]
         ensures { result.now ≡ self.now }
     {

@@ -10,23 +10,23 @@ ghost use Rattle.engine.specs.Served.{ServedIn};
 use crate::{Answers, ServeNames};
 use commit_log::{Log, Pass, SessionSeat};
 use executor::{Flow, SessionAnswer};
-use requests::{Refusal, Request, Script, check};
+use requests::{Part, Refusal, Script, check};
 use schema::{NoMemory, Scale};
 use std::alloc::Global;
 use std::marker::Model;
 use std::sync::atomic::{AtomicU64, Ordering};
 use transactions::home_of_request;
 
-/// A session none of whose requests is in flight. It has its pass. Invariant: its requests so far have these answers, each of
-/// which is the result of its request.
+/// A session none of whose requests is in flight. It has its pass. Invariant: the parts of its script so far have these answers,
+/// each of which is the result of its part.
 #[derive(Drop)]
 pub(crate) struct Ready<'a, J: ServeNames> {
     script: &'a Script,
     seat: SessionSeat<J>,
     pass: Pass<J>,
-    // It has capacity for the answers to all requests.
+    // It has capacity for the answers to all parts.
     answers: Vec<Result<u32, Refusal>>,
-    // How often its next request may still be asked.
+    // How often its next part may still be asked.
     tries_left: u32,
     // Whether it has had the answer LogFull. It asks no more then.
     is_full: bool,
@@ -46,8 +46,8 @@ impl<'a, J: ServeNames> Model for Ready<'a, J> {
     ghost invariant = { λ r. IsReady (rules_of J.opening J.most) J.scripts (ready_view r.script.now r.seat r.pass r.answers.items r.is_full) (vec_capacity r.answers) };
 }
 
-/// A session one of whose requests is in flight; its pass goes with the request. Invariant: its requests before have these
-/// answers, each of which is the result of its request.
+/// A session one of whose requests is in flight; its pass goes with the request. Invariant: the parts of its script before have
+/// these answers, each of which is the result of its part, and the request is that of the next part, with its number.
 #[derive(Drop)]
 pub(crate) struct Asked<'a, J: ServeNames> {
     script: &'a Script,
@@ -94,7 +94,7 @@ impl<'a, J: ServeNames> Ready<'a, J> {
         requires seat { seat.session ≡ pass.session }
         requires nothing { pass.mine ≡ [] }
     {
-        let answers = Vec::with_capacity(alloc, script.requests().len())?;
+        let answers = Vec::with_capacity(alloc, script.parts().len())?;
         Ok(Ready {
             script,
             seat,
@@ -105,8 +105,8 @@ impl<'a, J: ServeNames> Ready<'a, J> {
         })
     }
 
-    /// Takes the session's next request. If the check refuses it, that is its answer. If the log is full for the session, the
-    /// answer is LogFull. Else the request begins in this slot, with the next age.
+    /// Takes the next part of the session's script. If the check refuses it, that is its answer. If the log is full for the session, the
+    /// answer is LogFull. Else its request begins in this slot, with the next age.
     pub(crate) fn next(
         self,
         alloc: Global,
@@ -117,17 +117,17 @@ impl<'a, J: ServeNames> Ready<'a, J> {
     ) -> Next<'a, J>
         requires { scale.now ≡ J.opening.scale }
     {
-        let Some(request) = self.script.requests().get(self.answers.len()) else {
+        let Some(part) = self.script.parts().get(self.answers.len()) else {
             return Next::Ended(self);
         };
-        match check(scale, request) {
+        match check(scale, &part.request) {
             Err(refusal) => Next::Ready(self.refused(refusal, tries)),
             Ok(()) if self.is_full => Next::Ready(self.refused(Refusal::LogFull, tries)),
-            Ok(()) => self.ask(alloc, ages, slot, tries, request),
+            Ok(()) => self.ask(alloc, ages, slot, tries, part),
         }
     }
 
-    // Answers its next request with a refusal.
+    // Answers its next part with a refusal.
     fn refused(self, refusal: Refusal, tries: u32) -> Ready<'a, J>
         requires { IsRefusedNext (rules_of J.opening J.most) self refusal }
     {
@@ -150,17 +150,17 @@ impl<'a, J: ServeNames> Ready<'a, J> {
         }
     }
 
-    // Asks its next request, which its check accepts.
+    // Asks the request of its next part, which its check accepts, with its number.
     fn ask(
         self,
         alloc: Global,
         ages: &AtomicU64,
         slot: usize,
         tries: u32,
-        request: &Request,
+        part: &Part,
     ) -> Next<'a, J>
-        requires request { slice_get self.script (length self.answers) ≡ Some request.now }
-        requires accepted { check_of J.opening.scale request.now ≡ Ok tt }
+        requires part { slice_get self.script (length self.answers) ≡ Some part.now }
+        requires accepted { check_of J.opening.scale part.now.request ≡ Ok tt }
         requires open { self.is_full ≡ false }
     {
         let Ready {
@@ -171,9 +171,8 @@ impl<'a, J: ServeNames> Ready<'a, J> {
             tries_left,
             is_full: _,
         } = self;
-        let _ = script.requests();
-        let number = answers.len() as u32;
-        seat.ask(&mut pass, number, request);
+        let number = part.number;
+        seat.ask(&mut pass, number, &part.request);
         let asked = Asked {
             script,
             seat,
@@ -181,7 +180,7 @@ impl<'a, J: ServeNames> Ready<'a, J> {
             tries_left,
         };
         let age = ages.fetch_add(1, Ordering::SeqCst);
-        match Flow::begin(alloc, age, slot, number, request, pass) {
+        match Flow::begin(alloc, age, slot, number, &part.request, pass) {
             Ok(flow) => Next::Asks(asked, flow),
             Err(pass) => Next::Ready(asked.answered(pass, Err(Refusal::NoMemory), tries)),
         }
@@ -189,8 +188,8 @@ impl<'a, J: ServeNames> Ready<'a, J> {
 
     /// The W_ID of the warehouse whose terminal asks its next request. `None` at the script's end.
     pub(crate) fn next_home(&self) -> Option<u32> {
-        let request = self.script.requests().get(self.answers.len())?;
-        Some(home_of_request(request))
+        let part = self.script.parts().get(self.answers.len())?;
+        Some(home_of_request(&part.request))
     }
 
     /// How often its next request was asked, of the `tries` times that it may be, and was refused with Died or NoMemory.
@@ -207,7 +206,7 @@ impl<'a, J: ServeNames> Ready<'a, J> {
         ensures same { log.new ≡ log.old }
     {
         if self.pass.session() as usize != session
-            || self.answers.len() != self.script.requests().len()
+            || self.answers.len() != self.script.parts().len()
         {
             return None;
         }
@@ -217,13 +216,17 @@ impl<'a, J: ServeNames> Ready<'a, J> {
 }
 
 impl<'a, J: ServeNames> Asked<'a, J> {
-    /// The session and the number of its request, if the request was not asked before.
-    pub(crate) fn first_try(&self, tries: u32) -> Option<(u32, u32)> {
+    /// The place, in its script, of the part in flight.
+    pub(crate) fn place(&self) -> usize {
+        self.answers.len()
+    }
+
+    /// The session and the place of its part, if this was not asked before.
+    pub(crate) fn first_try(&self, tries: u32) -> Option<(u32, usize)> {
         if self.tries_left != tries {
             return None;
         }
-        let number = u32::try_from(self.answers.len()).ok()?;
-        Some((self.seat.session(), number))
+        Some((self.seat.session(), self.place()))
     }
 
     /// Takes the answer. A request that died or found no memory is to be asked again as long as it may. Returns `None` if the

@@ -10,12 +10,12 @@ use std::thread::Threads;
 pub trait Client {
     ghost use Rattle.std.specs.Prelude.{ℕ, List, Result};
     ghost use Rattle.schema.specs.Database.{Database};
-    ghost use Rattle.requests.specs.declared.request.Request.{Request};
+    ghost use Rattle.requests.specs.declared.script.Part.{Part};
     ghost use Rattle.requests.specs.declared.refusal.Refusal.{Refusal};
 
-    /// What the client promises of the requests that each of its sessions has asked and of their answers, for these opening
-    /// tables.
-    ghost promises: { Self → Database → List (List Request) → List (List (Result ℕ Refusal)) → Type 0 };
+    /// What the client promises of the requests that each of its sessions has asked, with their numbers, and of their answers, for
+    /// these opening tables.
+    ghost promises: { Self → Database → List (List Part) → List (List (Result ℕ Refusal)) → Type 0 };
 
     /// Asks by these sessions, which are in the order of their numbers, while executors work in threads of their own. Returns the
     /// sessions, in this order, once they have left.
@@ -28,4 +28,24 @@ pub trait Client {
     ) -> Vec<Left<J>>
         requires { All HasAskedNothing sessions.items }
         ensures { promises self.now J.opening (asked_by result.items) (recorded_by result.items) };
+}
+
+/// A client that asks nothing, for scripts alone.
+#[derive(Clone, Copy, Debug, Drop)]
+pub struct NoClient;
+
+impl Client for NoClient {
+    ghost use Rattle.std.specs.Prelude.{⊤};
+
+    ghost promises = { λ _ _ _ _. ⊤ };
+
+    fn ask_all<J: ServeNames + Send + Sync, G: Gate, R: Threads + Wait + Sync>(
+        &self,
+        _rt: &R,
+        alloc: Global,
+        _engine: &Engine<'_, J, G>,
+        _sessions: Vec<Session<J>>,
+    ) -> Vec<Left<J>> {
+        Vec::new(alloc)
+    }
 }

@@ -1,9 +1,10 @@
 //! The outcome, once all executors have ended.
-ghost use Rattle.std.specs.Prelude.{◌≡◌, ◌<◌, ◌≤◌, ◌+◌, ℕ, List, [], ◌∷◌, ◌++◌, IfOk, IfSome, OnOk, drop, length};
+ghost use Rattle.std.specs.Prelude.{◌≡◌, ◌<◌, ◌≤◌, ◌+◌, ℕ, List, [], ◌∷◌, ◌++◌, All, IfOk, IfSome, OnOk, drop, length};
 ghost use Rattle.partitions.specs.Parts.{shared_of};
 ghost use Rattle.schema.specs.Database.{IsWithinScale};
 ghost use Rattle.commit_log.specs.Items.{items_of};
-ghost use Rattle.requests.specs.declared.request.Request.{Request};
+ghost use Rattle.requests.specs.declared.script.Part.{Part};
+ghost use Rattle.requests.specs.Script.{AreNumberedByPlace};
 ghost use Rattle.engine.specs.Interactive.{asked_by, recorded_by};
 ghost use Rattle.engine.specs.Closing.{tables_left, want_of_kind, wants_of_all, AreSettled, IsBackAt, IsSettledAt};
 ghost use Rattle.engine.specs.Outcome.{IsOutcomeOf};
@@ -48,6 +49,7 @@ pub fn close<J: ServeNames, G: Gate + Drop>(
     ensures outcome { IfOk result (λ outcome.
         IsOutcomeOf J.opening J.most (scripts.now ++ outcome.asked.items) outcome) }
     ensures asked { IfOk result (λ outcome. outcome.asked.items ≡ asked_by left.items) }
+    ensures numbered { IfOk result (λ outcome. All AreNumberedByPlace outcome.asked.items) }
     ensures recorded { IfOk result (λ outcome.
         drop (length scripts.now) outcome.answers.items ≡ recorded_by left.items) }
     ensures all { IfOk result (λ outcome.
@@ -125,9 +127,10 @@ fn audit_left<J: ServeNames>(
     answers: &mut Vec<Answers>,
 ) -> Result<Vec<Script>, CloseFault>
     ensures asked { IfOk result (λ asked. asked.items ≡ asked_by left.items) }
+    ensures numbered { IfOk result (λ asked. All AreNumberedByPlace asked.items) }
     ensures recorded { IfOk result (λ _.
         answers.new.items ≡ answers.old.items ++ recorded_by left.items) }
-    ensures each { IfOk result (λ _. (scripts : List (List Request))
+    ensures each { IfOk result (λ _. (scripts : List (List Part))
         → AreAskedFrom (length answers.old.items) scripts left.items
         → ServedEach (rules_of J.opening J.most) scripts log.old answers.old.items
         → ServedEach (rules_of J.opening J.most) scripts log.old answers.new.items) }

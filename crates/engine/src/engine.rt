@@ -1,4 +1,5 @@
 //! The state that all executors share.
+use crate::closed_engine::Closing;
 use crate::moves::Moves;
 use crate::opening_scale::OpeningScale;
 use crate::parking::Parking;
@@ -7,7 +8,7 @@ use crate::{Gate, ServeNames};
 use commit_log::Log;
 use crossbeam_utils::Backoff;
 use executor::{CompletionOwner, Flow, PhaseOwner, SessionAnswer};
-use requests::{Request, Script};
+use requests::{Part, Script};
 use routing::SharedRouting;
 use std::alloc::Global;
 use std::sync::atomic::{AtomicBool, AtomicU64, AtomicUsize, Ordering};
@@ -46,8 +47,8 @@ pub struct Engine<'a, J: ServeNames, G: Gate> {
     pub(crate) unserved: AtomicUsize,
     /// Whether the executors are to end even if not all is served.
     pub(crate) is_stopped: AtomicBool,
-    /// Whether interactive sessions may ask no more.
-    pub(crate) is_closed: AtomicBool,
+    /// Closed once interactive sessions may ask no more.
+    pub(crate) closing: Closing<J>,
 }
 
 impl<J: ServeNames, G: Gate> Engine<'_, J, G> {
@@ -68,13 +69,13 @@ impl<J: ServeNames, G: Gate> Engine<'_, J, G> {
 
     /// Closes the engine to interactive sessions: what they ask from now on is refused with Closed. Requests in flight are answered,
     /// and scripts are served to their ends.
-    pub fn close(&self) {
-        self.is_closed.store(true, Ordering::SeqCst);
+    pub fn close(&self, rt: &impl Wait) {
+        self.closing.close(rt);
     }
 
     /// Whether `close` was called.
     pub fn is_closed(&self) -> bool {
-        self.is_closed.load(Ordering::SeqCst)
+        self.closing.closed().is_some()
     }
 
     /// Makes all executors end soon.
@@ -119,12 +120,9 @@ impl<J: ServeNames, G: Gate> Engine<'_, J, G> {
         self.waiters.get(slot.checked_sub(self.scripts.len())?)
     }
 
-    /// The request of this number in this session's script. `None` for a session without a script.
-    pub(crate) fn request(&self, session: u32, number: u32) -> Option<&Request> {
-        self.scripts
-            .get(session as usize)?
-            .requests()
-            .get(number as usize)
+    /// The part at this place of this session's script. `None` for a session without a script.
+    pub(crate) fn part(&self, session: u32, place: usize) -> Option<&Part> {
+        self.scripts.get(session as usize)?.parts().get(place)
     }
 
     /// Takes the log's lock and returns the log. No request is logged while it is held.

@@ -180,12 +180,12 @@ impl<J: ServeNames, G: Gate, R: Wait> AtWork<'_, '_, J, G, R> {
         }
     }
 
-    // Calls the gate if a session asks the request of this number for the first time.
-    fn record_asked(&self, first: Option<(u32, u32)>) {
-        if let Some((session, number)) = first
-            && let Some(request) = self.engine.request(session, number)
+    // Calls the gate if a session asks the part at this place of its script for the first time.
+    fn record_asked(&self, first: Option<(u32, usize)>) {
+        if let Some((session, place)) = first
+            && let Some(part) = self.engine.part(session, place)
         {
-            self.engine.gate.asked(session, number, request);
+            self.engine.gate.asked(session, part.number, &part.request);
         }
     }
 
@@ -324,7 +324,6 @@ impl<J: ServeNames, G: Gate, R: Wait> AtWork<'_, '_, J, G, R> {
     fn release(&mut self, slot: usize, release: Release<J>) {
         let (recorded, mut returns, phase_owner) = release.into_parts();
         let session = recorded.session();
-        let number = recorded.number();
         let elsewhere = self.give_back_last(&mut returns);
         let completes = elsewhere.is_some();
         let Ok(ended) = self
@@ -334,7 +333,7 @@ impl<J: ServeNames, G: Gate, R: Wait> AtWork<'_, '_, J, G, R> {
             return self.engine.stop();
         };
         self.engine.call_session(slot);
-        self.record_answered(session, number, ended.is_answered);
+        self.record_answered(session, ended.answered);
         match (elsewhere, ended.completion) {
             (Some(first), Some(completion)) => self.send_back(completion.begin(first, returns)),
             (None, _) => self.send_over(slot, ended.begun_by),
@@ -369,10 +368,14 @@ impl<J: ServeNames, G: Gate, R: Wait> AtWork<'_, '_, J, G, R> {
         }
     }
 
-    // Calls the gate if the request of this number has its answer and is not asked again.
-    fn record_answered(&self, session: u32, number: u32, is_answered: bool) {
-        if is_answered && let Some(request) = self.engine.request(session, number) {
-            self.engine.gate.answered(session, number, request);
+    // Calls the gate if the part at this place of a session's script has its answer and is not asked again.
+    fn record_answered(&self, session: u32, answered: Option<usize>) {
+        if let Some(place) = answered
+            && let Some(part) = self.engine.part(session, place)
+        {
+            self.engine
+                .gate
+                .answered(session, part.number, &part.request);
         }
     }
 

@@ -1,12 +1,13 @@
 //! Executors in threads of their own that serve sessions, which ask scripts or interactively. `open` opens an engine over tables;
 //! each executor works on messages and begins the requests of sessions; `close` returns the outcome once all executors have
-//! ended. `serve` and `serve_client` start the threads; nothing else does.
+//! ended. `serve` starts the threads; nothing else does.
 #![tactic(auto)]
 
 mod answers;
 mod asking;
 mod belongings;
 mod client;
+mod closed_engine;
 mod closing;
 mod engine;
 mod executing;
@@ -28,7 +29,7 @@ mod threads;
 
 pub use answers::Answers;
 pub use belongings::Executor;
-pub use client::Client;
+pub use client::{Client, NoClient};
 pub use closing::close;
 pub use engine::Engine;
 pub use executing::AtWork;
@@ -40,5 +41,5 @@ pub use options::ServeOptions;
 pub use outcome::{CloseFault, Outcome, ServeFault};
 pub use range_moves::MoveOrder;
 pub use routing::MOST_EXECUTORS;
-pub use serving::{serve, serve_client};
+pub use serving::serve;
 pub use session::{AskFault, Left, Session, meet};

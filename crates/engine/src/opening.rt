@@ -9,6 +9,7 @@ ghost use Rattle.engine.specs.Sessions.{AreNewFrom};
 
 use crate::asking::Ready;
 use crate::belongings::Executor;
+use crate::closed_engine::Closing;
 use crate::engine::Engine;
 use crate::message::Message;
 use crate::moves::Moves;
@@ -16,6 +17,7 @@ use crate::opening_scale::OpeningScale;
 use crate::parking::Parking;
 use crate::place::Place;
 use crate::{Gate, Idle, ServeNames, ServeOptions, Session};
+use closing_word::{Closer, ClosingWord};
 use commit_log::{Log, LogBook, LogLimit, Pass, SessionSeat, UnnamedLog};
 use executor::{CompletionOwner, CountedShard, PhaseOwner};
 use partitions::Catalog;
@@ -33,12 +35,15 @@ use std::vec::IntoIter;
 use tickets::{GroupSeats, named_all};
 use transactions::home_of_request;
 
-/// The agreements of an engine before the type parameter identifies their tables.
+/// The opening tables, and the agreements of an engine before the type parameter identifies their tables.
 #[derive(Drop)]
 pub struct Opening {
+    pub(crate) tables: Tables,
     /// The seats of all groups, by their places.
     pub(crate) groups: Vec<GroupSeats>,
     pub(crate) log: UnnamedLog,
+    pub(crate) closing: ClosingWord,
+    pub(crate) closer: Closer,
     /// The number of sessions.
     pub(crate) sessions: usize,
 }
@@ -48,19 +53,25 @@ impl Opening {
     /// sessions. Returns NoMemory if an allocation fails; nothing is left then.
     pub fn open(
         alloc: Global,
-        tables: &Tables,
+        tables: Tables,
         sessions: usize,
         log_limit: LogLimit,
     ) -> Result<Opening, NoMemory>
-        ensures groups { IfOk result (λ opening. AreOpenedFor tables.now opening.groups.items) }
+        ensures tables { IfOk result (λ opening. opening.tables ≡ tables) }
+        ensures groups { IfOk result (λ opening. AreOpenedFor tables opening.groups.items) }
+        ensures closer { IfOk result (λ opening. opening.closer ≡ opening.closing) }
         ensures sessions { IfOk result (λ opening. opening.sessions ≡ sessions) }
         ensures limit { IfOk result (λ opening. opening.log.most ≡ log_limit) }
     {
-        let groups = open_groups(alloc, tables)?;
+        let groups = open_groups(alloc, &tables)?;
         let log = UnnamedLog::with_limit(alloc, log_limit)?;
+        let (closing, closer) = ClosingWord::open(alloc)?;
         Ok(Opening {
+            tables,
             groups,
             log,
+            closing,
+            closer,
             sessions,
         })
     }
@@ -82,30 +93,34 @@ pub struct Opened<'a, J: ServeNames, G: Gate> {
     pub idle: Idle<J>,
 }
 
-/// Opens an engine over these tables, for these scripts. Session s asks script s; the sessions after these, as many as the opening
-/// has, ask interactively. If there can't be one of the moves (`MoveOrder::is_within`), the executors may never end.
+/// Opens an engine over the opening's tables, for the scripts of the options. Session s asks script s; the sessions after these, up
+/// to the number of the opening, ask interactively. If there can't be one of the moves (`MoveOrder::is_within`), the executors may
+/// never end.
 /// Returns NoMemory if an allocation fails; nothing is left then.
 pub fn open<'a, J: ServeNames, G: Gate + Drop>(
     alloc: Global,
     opening: Opening,
-    tables: Tables,
-    scripts: &'a [Script],
     options: &ServeOptions<'a>,
     gate: G,
 ) -> Result<Opened<'a, J, G>, NoMemory>
     requires limits { AreLimits options.now.limits }
-    requires named { IsNamedFor J.LogNames J.GroupNames J.scripts tables scripts.now opening }
+    requires named { IsNamedFor J.LogNames J.GroupNames J.scripts J.closing
+        options.now.scripts.now opening }
     requires some { 1 ≤ options.now.executors }
     requires most { opening.sessions ≤ SESSIONS }
-    ensures catalog { IfOk result (λ opened. opened.catalog ≡ shared_of tables) }
+    ensures catalog { IfOk result (λ opened. opened.catalog ≡ shared_of opening.tables) }
     ensures idle { IfOk result (λ opened. opened.idle.first ≡ opening.sessions) }
     ensures sessions { IfOk result (λ opened. All HasAskedNothing opened.sessions.items) }
 {
     let Opening {
+        tables,
         groups,
         log,
+        closing,
+        closer,
         sessions: count,
     } = opening;
+    let scripts = options.scripts;
     let scale = tables.scale();
     let routing = Routing::opening(&scale, options.executors);
     let (boxes, seats) = named_all::<J>(alloc, scale.warehouses, groups)?;
@@ -147,7 +162,7 @@ pub fn open<'a, J: ServeNames, G: Gate + Drop>(
         waiters: parkings_for(alloc, sessions.len())?,
         ages: AtomicU64::new(0),
         is_stopped: AtomicBool::new(false),
-        is_closed: AtomicBool::new(false),
+        closing: Closing::new(closing, closer),
     };
     Ok(Opened {
         engine,
@@ -162,7 +177,7 @@ pub fn open<'a, J: ServeNames, G: Gate + Drop>(
 fn requests_in(scripts: &[Script]) -> usize {
     let mut count: usize = 0;
     for script in scripts {
-        count = count.saturating_add(script.requests().len());
+        count = count.saturating_add(script.parts().len());
     }
     count
 }
@@ -202,8 +217,8 @@ fn begin_sessions<J: ServeNames>(
     scripts: &[Script],
 ) -> Result<(), NoMemory> {
     for (slot, script) in scripts.iter().enumerate() {
-        let to = match script.requests().first() {
-            Some(request) => routing.route(home_of_request(request)),
+        let to = match script.parts().first() {
+            Some(part) => routing.route(home_of_request(&part.request)),
             None => 0,
         };
         if let Some(executor) = executors.get_mut(to as usize) {

@@ -18,7 +18,8 @@ pub struct Outcome {
     pub tables: Tables,
     /// The answers to each script, and then to what each session asked interactively.
     pub answers: Vec<Answers>,
-    /// The requests that each session asked interactively, in the order of the sessions' numbers.
+    /// The requests that each session asked interactively, in the order of the sessions' numbers. The number of a request is its
+    /// place.
     pub asked: Vec<Script>,
 }
 

@@ -54,8 +54,8 @@ pub(crate) struct Unexpected;
 /// The result of `Place::end`.
 #[derive(Drop)]
 pub(crate) struct Ended {
-    /// Whether the request has its answer and is not asked again.
-    pub(crate) is_answered: bool,
+    /// The place in the session's script of the part that has its answer and is not asked again, if there is a script.
+    pub(crate) answered: Option<usize>,
     /// The executor that began the transaction.
     pub(crate) begun_by: u32,
     /// The owner of the completion meeting, if claims are to go back by messages.
@@ -67,8 +67,8 @@ pub(crate) struct Ended {
 pub(crate) enum Advanced<J: ServeNames> {
     /// A request was answered at once, and the next one may follow.
     Answered,
-    /// A request begins. If it was not asked before, these are its session and its number.
-    Begins(Option<(u32, u32)>, Paused<J>),
+    /// A request begins. If it is of a script and was not asked before, these are its session and the place of its part.
+    Begins(Option<(u32, usize)>, Paused<J>),
     /// The session waits: a transaction of it is unfinished, or it asks nothing.
     Waits,
     /// The session has ended. This is returned once.
@@ -209,7 +209,7 @@ impl<'a, J: ServeNames> Place<'a, J> {
     // Begins a transaction.
     fn begin(
         &mut self,
-        first: Option<(u32, u32)>,
+        first: Option<(u32, usize)>,
         flow: Flow<J>,
     ) -> Result<Advanced<J>, Unexpected> {
         let (Some(phase_owner), Some(completion)) = (self.phase_owner.take(), &self.completion)
@@ -231,18 +231,19 @@ impl<'a, J: ServeNames> Place<'a, J> {
         completes: bool,
         tries: u32,
     ) -> Result<Ended, Unexpected> {
-        let is_answered = match self.stage.take() {
+        let answered = match self.stage.take() {
             Some(Stage::Asked(asked)) => {
+                let place = asked.place();
                 let Some(ready) = asked.finish(recorded, tries) else {
                     return Err(Unexpected);
                 };
                 let is_answered = ready.deaths(tries) == 0;
                 self.stage = Some(Stage::Ready(ready));
-                is_answered
+                if is_answered { Some(place) } else { None }
             }
             Some(Stage::Away) => {
                 self.stage = Some(Stage::Answered(recorded));
-                true
+                None
             }
             _ => return Err(Unexpected),
         };
@@ -253,7 +254,7 @@ impl<'a, J: ServeNames> Place<'a, J> {
             None
         };
         Ok(Ended {
-            is_answered,
+            answered,
             begun_by: self.begun_by,
             completion,
         })

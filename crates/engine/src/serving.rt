@@ -1,9 +1,9 @@
 //! Serves scripts and clients by executors, each in a thread of its own.
-ghost use Rattle.std.specs.Prelude.{◌≡◌, ◌≤◌, ◌<◌, ◌+◌, [], ◌++◌, drop, length, vec_len, All, IfOk, OnOk, IfErr, IfSome, IfNone};
+ghost use Rattle.std.specs.Prelude.{◌≡◌, ◌≤◌, ◌+◌, ◌++◌, drop, length, All, IfOk, OnOk, IfErr, IfSome, IfNone};
 ghost use Rattle.schema.specs.Consistency.{Consistent};
-ghost use Rattle.rows.specs.declared.limits.TheConstants.{MOST_ENTRIES};
 ghost use Rattle.commit_log.specs.Limits.{AreLimits};
 ghost use Rattle.range_moves.specs.Orders.{IsWithin};
+ghost use Rattle.requests.specs.Script.{AreNumberedByPlace};
 ghost use Rattle.engine.specs.Interactive.{HasAskedNothing, asked_by, recorded_by};
 ghost use Rattle.engine.specs.Faults.{AreWithin, IsFaultOf, IsFirstBad, IsOfServing};
 ghost use Rattle.engine.specs.Opening.{IsNamedFor};
@@ -16,13 +16,11 @@ use crate::executing::AtWork;
 use crate::opening::{Opened, Opening, open};
 use crate::threads::{Meanwhile, Work, work_on_each};
 use crate::{
-    Client, CloseFault, Gate, Left, OpenGate, Outcome, ServeFault, ServeNames, ServeOptions,
-    Session,
+    Client, CloseFault, Gate, Left, Outcome, ServeFault, ServeNames, ServeOptions, Session,
 };
-use commit_log::{Limits, LogLimit};
+use commit_log::LogLimit;
 use consistency::first_broken;
 use range_moves::MoveOrder;
-use requests::Script;
 use rows::SESSIONS;
 use schema::Tables;
 use std::alloc::Global;
@@ -30,121 +28,41 @@ use std::marker::Brand;
 use std::sync::{Mutex, Wait};
 use std::thread::Threads;
 
-/// Serves the scripts from the opening tables. Script s is session s, which asks its requests one after the other. The executors
-/// share the tables' warehouses, each in a thread of its own: warehouse w is at executor `(w-1) * executors / warehouses`. A
-/// request that was refused with Died or NoMemory is asked again until it was asked `tries` times. The gate is called for each
-/// request that the check accepts and that begins. The moves are made meanwhile, one after the other, all of them: the warehouses
-/// of a move's range go to its executor, and requests go on.
+/// Serves scripts and a client, from the opening tables. Script s is session s, which asks its requests one after the other. The
+/// client asks interactively by the sessions after these (`ServeOptions::sessions`). The executors share the tables' warehouses, each
+/// in a thread of its own: warehouse w is at executor `(w-1) * executors / warehouses`. A request of a script that was refused with
+/// Died or NoMemory is asked again until it was asked `tries` times. The gate is called for each request that the check accepts and
+/// that begins. The moves are made meanwhile, one after the other, all of them: the warehouses of a move's range go to its
+/// executor, and requests go on.
+///
+/// The outcome has what each session of the client asked, as a script (`asked`), and its answers behind those of the scripts.
 ///
 /// Errors: `BadMove` is the place, from 0, of the first move that there can't be: its range ends before it begins, or one of its
 /// numbers is out of range. It is checked before anything else. `NotConsistent` is the least of the consistency conditions 1 to
 /// 10 and 12 that the opening tables break (TPC-C 5.11, clause 3.3.2); it is checked before a thread starts. `NoThread` if a
 /// thread could not be started; all that were started have ended then. `NoMemory` if an allocation failed: as the opening tables
 /// were checked, as the engine was opened or its threads were started, or for the outcome. `Unsettled` if something was not back
-/// once all executors had ended.
-pub fn serve<R: Threads + Wait + Sync, G: Gate + Send + Sync + Drop>(
+/// once all executors had ended, such as a session of the client, in its place.
+pub fn serve<R: Threads + Wait + Sync, G: Gate + Send + Sync + Drop, C: Client>(
     rt: &R,
     alloc: Global,
     opening: Tables,
-    scripts: &[Script],
-    options: &ServeOptions<'_>,
-    gate: G,
-) -> Result<Outcome, ServeFault>
-    requires some { 1 ≤ length scripts.now }
-    requires most { length scripts.now ≤ SESSIONS }
-    requires executors { 1 ≤ options.now.executors }
-    requires limits { AreLimits options.now.limits }
-    ensures outcome { IfOk result (IsOutcomeOf opening options.now.limits.log scripts.now) }
-    ensures interactive { IfOk result (λ outcome. outcome.asked.items ≡ []) }
-    ensures consistent { OnOk result (Consistent opening) }
-    ensures within { OnOk result (AreWithin opening options.now.executors options.now.moves.now) }
-    ensures fault { IfErr result (λ fault.
-        IsFaultOf opening options.now.executors options.now.moves.now fault) }
-{
-    serve_all(rt, alloc, opening, scripts, 0, options, gate, &Nobody)
-}
-
-/// Has a client ask interactively by `sessions` sessions, from the opening tables. `executors` executors share the tables'
-/// warehouses meanwhile, each in a thread of its own, as in `serve`. The outcome contains what each session asked as a script
-/// (`asked`), and the answers that it had.
-///
-/// Errors: `NotConsistent`, `NoThread` and `NoMemory` as in `serve`; `Unsettled` if a session was not given back in its place, or
-/// something else was not back once all executors had ended.
-pub fn serve_client<R: Threads + Wait + Sync, C: Client>(
-    rt: &R,
-    alloc: Global,
-    opening: Tables,
-    sessions: usize,
-    executors: u32,
-    client: &C,
-) -> Result<Outcome, ServeFault>
-    requires most { sessions ≤ SESSIONS }
-    requires executors { 1 ≤ executors }
-    ensures outcome { IfOk result (λ outcome.
-        IsOutcomeOf opening MOST_ENTRIES outcome.asked.items outcome) }
-    ensures sessions { IfOk result (λ outcome. length outcome.asked.items ≡ sessions) }
-    ensures promised { IfOk result (λ outcome.
-        C.promises client.now opening outcome.asked.items outcome.answers.items) }
-    ensures consistent { OnOk result (Consistent opening) }
-    ensures fault { IfErr result (λ fault. IsFaultOf opening executors [] fault) }
-{
-    let options = ServeOptions {
-        executors,
-        tries: 1,
-        limits: Limits::greatest(),
-        moves: &[],
-    };
-    serve_all(
-        rt,
-        alloc,
-        opening,
-        &[],
-        sessions,
-        &options,
-        OpenGate,
-        client,
-    )
-}
-
-/// A client that asks nothing.
-#[derive(Clone, Copy, Drop)]
-struct Nobody;
-
-impl Client for Nobody {
-    ghost use Rattle.std.specs.Prelude.{⊤};
-
-    ghost promises = { λ _ _ _ _. ⊤ };
-
-    fn ask_all<J: ServeNames + Send + Sync, G: Gate, R: Threads + Wait + Sync>(
-        &self,
-        _rt: &R,
-        alloc: Global,
-        _engine: &Engine<'_, J, G>,
-        _sessions: Vec<Session<J>>,
-    ) -> Vec<Left<J>> {
-        Vec::new(alloc)
-    }
-}
-
-// Serves scripts, and this many further sessions by which a client asks.
-fn serve_all<R: Threads + Wait + Sync, G: Gate + Send + Sync + Drop, C: Client>(
-    rt: &R,
-    alloc: Global,
-    opening: Tables,
-    scripts: &[Script],
-    sessions: usize,
     options: &ServeOptions<'_>,
     gate: G,
     client: &C,
 ) -> Result<Outcome, ServeFault>
-    requires most { length scripts.now + sessions ≤ SESSIONS }
+    requires most { length options.now.scripts.now + options.now.sessions ≤ SESSIONS }
     requires executors { 1 ≤ options.now.executors }
     requires limits { AreLimits options.now.limits }
-    ensures outcome { IfOk result (λ outcome.
-        IsOutcomeOf opening options.now.limits.log (scripts.now ++ outcome.asked.items) outcome) }
-    ensures asked { IfOk result (λ outcome. length outcome.asked.items ≡ sessions) }
+    ensures outcome { IfOk result (λ outcome. IsOutcomeOf opening options.now.limits.log
+        (options.now.scripts.now ++ outcome.asked.items) outcome) }
+    ensures sessions { IfOk result (λ outcome.
+        length outcome.asked.items ≡ options.now.sessions) }
+    ensures numbered { IfOk result (λ outcome. All AreNumberedByPlace outcome.asked.items) }
+    ensures scripts { options.now.sessions ≡ 0 → IfOk result
+        (IsOutcomeOf opening options.now.limits.log options.now.scripts.now) }
     ensures promised { IfOk result (λ outcome. C.promises client.now opening outcome.asked.items
-        (drop (length scripts.now) outcome.answers.items)) }
+        (drop (length options.now.scripts.now) outcome.answers.items)) }
     ensures consistent { OnOk result (Consistent opening) }
     ensures within { OnOk result (AreWithin opening options.now.executors options.now.moves.now) }
     ensures fault { IfErr result (λ fault.
@@ -157,8 +75,9 @@ fn serve_all<R: Threads + Wait + Sync, G: Gate + Send + Sync + Drop, C: Client>(
         return Err(ServeFault::NotConsistent(condition));
     }
     let log_limit = LogLimit::new(options.limits.log);
-    let opened = Opening::open(alloc, &opening, scripts.len() + sessions, log_limit)?;
-    serve_from::<Brand, R, G, C>(rt, alloc, opened, opening, scripts, options, gate, client)
+    let sessions = options.scripts.len() + options.sessions;
+    let opened = Opening::open(alloc, opening, sessions, log_limit)?;
+    serve_from::<Brand, R, G, C>(rt, alloc, opened, options, gate, client)
 }
 
 // The place of the first move that there can't be.
@@ -174,7 +93,7 @@ fn first_bad(moves: &[MoveOrder], warehouses: u32, executors: u32) -> Option<usi
     None
 }
 
-// Serves the scripts and the client's sessions by an engine whose type parameter is `J`.
+// Serves scripts and the client by an engine whose type parameter is `J`.
 fn serve_from<
     J: ServeNames + Send + Sync,
     R: Threads + Wait + Sync,
@@ -184,22 +103,23 @@ fn serve_from<
     rt: &R,
     alloc: Global,
     opening: Opening,
-    tables: Tables,
-    scripts: &[Script],
     options: &ServeOptions<'_>,
     gate: G,
     client: &C,
 ) -> Result<Outcome, ServeFault>
     requires limits { AreLimits options.now.limits }
-    requires named { IsNamedFor J.LogNames J.GroupNames J.scripts tables scripts.now opening }
+    requires named { IsNamedFor J.LogNames J.GroupNames J.scripts J.closing
+        options.now.scripts.now opening }
     requires some { 1 ≤ options.now.executors }
     requires most { opening.sessions ≤ SESSIONS }
-    ensures outcome { IfOk result (λ outcome.
-        IsOutcomeOf tables J.most (scripts.now ++ outcome.asked.items) outcome) }
+    ensures outcome { IfOk result (λ outcome. IsOutcomeOf opening.tables J.most
+        (options.now.scripts.now ++ outcome.asked.items) outcome) }
     ensures asked { IfOk result (λ outcome.
-        length scripts.now + length outcome.asked.items ≡ opening.sessions) }
-    ensures promised { IfOk result (λ outcome. C.promises client.now tables outcome.asked.items
-        (drop (length scripts.now) outcome.answers.items)) }
+        length options.now.scripts.now + length outcome.asked.items ≡ opening.sessions) }
+    ensures numbered { IfOk result (λ outcome. All AreNumberedByPlace outcome.asked.items) }
+    ensures promised { IfOk result (λ outcome.
+        C.promises client.now opening.tables outcome.asked.items
+        (drop (length options.now.scripts.now) outcome.answers.items)) }
     ensures fault { IfErr result (λ fault. IsOfServing fault) }
 {
     let Opened {
@@ -208,9 +128,17 @@ fn serve_from<
         catalog,
         sessions,
         idle,
-    } = open::<J, G>(alloc, opening, tables, scripts, options, gate)?;
+    } = open::<J, G>(alloc, opening, options, gate)?;
     let (executors, left) = work_all(rt, alloc, &engine, executors, client, sessions)?;
-    match close(alloc, engine, executors, catalog, left, idle, scripts) {
+    match close(
+        alloc,
+        engine,
+        executors,
+        catalog,
+        left,
+        idle,
+        options.scripts,
+    ) {
         Ok(outcome) => Ok(outcome),
         Err(CloseFault::NoMemory) => Err(ServeFault::NoMemory),
         Err(CloseFault::Unsettled) => Err(ServeFault::Unsettled),

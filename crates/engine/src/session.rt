@@ -1,6 +1,7 @@
 //! A session that asks interactively. Its caller owns it and waits for each answer.
-ghost use Rattle.std.specs.Prelude.{◌≡◌, ◌≤◌, [], ◌∷◌, ◌++◌, length, false, Ok, IfOk, IfErr, IfSome};
+ghost use Rattle.std.specs.Prelude.{◌≡◌, ◌≤◌, [], ◌∷◌, ◌++◌, length, true, false, Ok, IfOk, IfErr, IfSome};
 ghost use Rattle.requests.specs.Check.{check_of};
+ghost use Rattle.requests.specs.Script.{AreNumberedByPlace, part};
 ghost use Rattle.commit_log.specs.Items.{items_of};
 ghost use Rattle.executor.specs.Answers.{IsRecordedBy};
 ghost use Rattle.engine.specs.Asking.{known_of};
@@ -10,13 +11,14 @@ ghost use Rattle.engine.specs.Served.{ServedIn};
 ghost use Rattle.engine.specs.Interactive.{Asks, HasAsked, HasAskedNothing, HasMet, IsBackIn};
 
 use crate::asking::says_full;
+use crate::closed_engine::ClosedEngine;
 use crate::message::Message;
 use crate::{Answers, Engine, Gate, ServeNames};
 use commit_log::{Log, Pass, SessionSeat};
 use crossbeam_utils::Backoff;
 use executor::Flow;
 use queues::Sender;
-use requests::{Refusal, Request, Script, check};
+use requests::{Part, Refusal, Request, Script, check};
 use std::alloc::Global;
 use std::fmt;
 use std::marker::Model;
@@ -28,15 +30,18 @@ use transactions::home_of_request;
 /// A session that asks interactively, none of whose requests is in flight.
 ///
 /// Contracts see what it has asked so far (`script`), its pass, which records what it has seen of the log and logged (`pass`),
-/// and its answers (`answers`). Invariant: each answer is the result of its request.
+/// its answers (`answers`), and whether it has found the engine closed (`is_closed`). Invariant: each answer is the result of its
+/// request, and the number of a request is its place.
 #[derive(Drop)]
 pub struct Session<J: ServeNames> {
     seat: SessionSeat<J>,
     pass: Pass<J>,
-    requests: Vec<Request>,
+    parts: Vec<Part>,
     answers: Vec<Result<u32, Refusal>>,
     // Whether it has had the answer LogFull. It asks no more then.
     is_full: bool,
+    // Some once it has found the engine closed.
+    closed: Option<ClosedEngine<J>>,
     // Senders into the inboxes of all executors, by their numbers.
     outlets: Vec<Sender<Message<J>>>,
 }
@@ -46,25 +51,27 @@ impl<J: ServeNames> Model for Session<J> {
 
     ghost Value = { ReadyView };
 
-    ghost use Rattle.engine.specs.Asking.{IsResting, ready_view};
+    ghost use Rattle.std.specs.Prelude.{is_some};
+    ghost use Rattle.engine.specs.Asking.{ready_view};
+    ghost use Rattle.engine.specs.Interactive.{IsAtRest};
     ghost use Rattle.engine.specs.Rules.{rules_of};
 
-    ghost view = { λ s. ready_view s.requests.items s.seat s.pass s.answers.items s.is_full };
+    ghost view = { λ s. record (ready_view s.parts.items s.seat s.pass s.answers.items s.is_full) { is_closed = is_some s.closed } };
 
-    ghost invariant = { λ s. IsResting (rules_of J.opening J.most) (ready_view s.requests.items s.seat s.pass s.answers.items s.is_full) };
+    ghost invariant = { λ s. IsAtRest (rules_of J.opening J.most) (ready_view s.parts.items s.seat s.pass s.answers.items s.is_full) };
 }
 
-/// A session with its next request, and with capacity to keep the request and its answer.
+/// A session that has not found the engine closed, with its next request, which has its number, and with capacity to keep the request
+/// and its answer.
 #[derive(Drop)]
 struct Asker<J: ServeNames> {
     seat: SessionSeat<J>,
     pass: Pass<J>,
-    requests: Vec<Request>,
+    parts: Vec<Part>,
     answers: Vec<Result<u32, Refusal>>,
     is_full: bool,
     outlets: Vec<Sender<Message<J>>>,
-    request: Request,
-    number: u32,
+    part: Part,
 }
 
 impl<J: ServeNames> Model for Asker<J> {
@@ -77,19 +84,19 @@ impl<J: ServeNames> Model for Asker<J> {
     ghost use Rattle.engine.specs.Interactive.{IsCalling, asker_view};
     ghost use Rattle.engine.specs.Rules.{rules_of};
 
-    ghost view = { λ s. asker_view (ready_view s.requests.items s.seat s.pass s.answers.items s.is_full) s.request };
+    ghost view = { λ s. asker_view (ready_view s.parts.items s.seat s.pass s.answers.items s.is_full) s.part.request };
 
-    ghost invariant = { λ s. IsCalling (rules_of J.opening J.most) (ready_view s.requests.items s.seat s.pass s.answers.items s.is_full) s.number (vec_capacity s.requests) (vec_capacity s.answers) };
+    ghost invariant = { λ s. IsCalling (rules_of J.opening J.most) (ready_view s.parts.items s.seat s.pass s.answers.items s.is_full) s.part.number (vec_capacity s.parts) (vec_capacity s.answers) };
 }
 
 /// A session whose request is in flight; its pass goes with the request.
 #[derive(Drop)]
 struct Away<J: ServeNames> {
     seat: SessionSeat<J>,
-    requests: Vec<Request>,
+    parts: Vec<Part>,
     answers: Vec<Result<u32, Refusal>>,
     outlets: Vec<Sender<Message<J>>>,
-    request: Request,
+    part: Part,
 }
 
 impl<J: ServeNames> Model for Away<J> {
@@ -102,9 +109,9 @@ impl<J: ServeNames> Model for Away<J> {
     ghost use Rattle.engine.specs.Interactive.{IsCalled};
     ghost use Rattle.engine.specs.Rules.{rules_of};
 
-    ghost view = { λ s. asked_view s.requests.items s.seat s.answers.items };
+    ghost view = { λ s. asked_view s.parts.items s.seat s.answers.items };
 
-    ghost invariant = { λ s. IsCalled (rules_of J.opening J.most) (asked_view s.requests.items s.seat s.answers.items) s.request (vec_capacity s.requests) (vec_capacity s.answers) };
+    ghost invariant = { λ s. IsCalled (rules_of J.opening J.most) (asked_view s.parts.items s.seat s.answers.items) s.part (vec_capacity s.parts) (vec_capacity s.answers) };
 }
 
 /// Why a session has no answer to a request.
@@ -154,9 +161,10 @@ impl<J: ServeNames> Session<J> {
         Session {
             seat,
             pass,
-            requests: Vec::new(alloc),
+            parts: Vec::new(alloc),
             answers: Vec::new(alloc),
             is_full: false,
+            closed: None,
             outlets,
         }
     }
@@ -175,11 +183,11 @@ impl<J: ServeNames> Session<J> {
         self.pass.seen()
     }
 
-    /// The requests it has asked, in order.
-    pub fn requests(&self) -> &[Request]
+    /// The requests it has asked, in order, each with its number: its place, from 0.
+    pub fn parts(&self) -> &[Part]
         ensures { result.now ≡ self.now.script }
     {
-        self.requests.as_slice()
+        self.parts.as_slice()
     }
 
     /// The answers to its requests: the place of a request's entry in the log, or why the request was refused.
@@ -192,7 +200,8 @@ impl<J: ServeNames> Session<J> {
     /// Asks a request and waits for its answer: the place of its entry in the log (`Engine::log`), or why it was refused. The
     /// entry is behind all that the session and those that it met have seen. After a refusal the session has seen and logged what
     /// it had before. The request is asked once; the caller may ask one again that was refused with Died or NoMemory. If the engine
-    /// is closed (`Engine::close`), the request is not asked: it is refused with Closed, and the session is unchanged.
+    /// is closed (`Engine::close`), the request is not asked: it is refused with Closed, and so are all that the session asks from
+    /// then on; nothing else of the session is changed.
     pub fn ask<G: Gate>(
         self,
         rt: &impl Wait,
@@ -203,50 +212,63 @@ impl<J: ServeNames> Session<J> {
         ensures asks { IfOk result (λ r. Asks (rules_of J.opening J.most) self request r.0 r.1) }
         ensures back { IfErr result (IsBackIn self) }
     {
-        if engine.is_closed() {
-            return Ok((self, Err(Refusal::Closed)));
+        let mut session = self;
+        session.look_for_close(engine);
+        if session.closed.is_some() {
+            return Ok((session, Err(Refusal::Closed)));
         }
         if engine.is_stopped() {
-            return Err(AskFault::Stopped(self));
+            return Err(AskFault::Stopped(session));
         }
-        let Ok(number) = u32::try_from(self.answers.len()) else {
-            return Err(AskFault::NoMemory(self));
+        let Ok(number) = u32::try_from(session.answers.len()) else {
+            return Err(AskFault::NoMemory(session));
         };
         let Session {
             seat,
             pass,
-            mut requests,
+            mut parts,
             mut answers,
             is_full,
+            closed: _,
             outlets,
-        } = self;
-        if requests.reserve(1).is_err() || answers.reserve(1).is_err() {
+        } = session;
+        if parts.reserve(1).is_err() || answers.reserve(1).is_err() {
             return Err(AskFault::NoMemory(Session {
                 seat,
                 pass,
-                requests,
+                parts,
                 answers,
                 is_full,
+                closed: None,
                 outlets,
             }));
         }
         let asker = Asker {
             seat,
             pass,
-            requests,
+            parts,
             answers,
             is_full,
             outlets,
-            request,
-            number,
+            part: Part { number, request },
         };
-        match check(engine.scale.get(), &asker.request) {
+        match check(engine.scale.get(), &asker.part.request) {
             Err(refusal) => Ok(asker.refused(refusal)),
             Ok(()) if is_full => Ok(asker.refused(Refusal::LogFull)),
             Ok(()) => match asker.call(rt, alloc, engine) {
                 Some(answered) => Ok(answered),
                 None => Err(AskFault::Lost),
             },
+        }
+    }
+
+    // Takes a token if the engine is closed, unless it has one.
+    fn look_for_close<G: Gate>(&mut self, engine: &Engine<'_, J, G>)
+        ensures same { self.new ≡ record self.old { is_closed = self.new.is_closed } }
+        ensures keeps { self.old.is_closed ≡ true → self.new.is_closed ≡ true }
+    {
+        if self.closed.is_none() {
+            self.closed = engine.closing.closed();
         }
     }
 
@@ -295,21 +317,21 @@ impl<J: ServeNames> Asker<J> {
         let Asker {
             seat,
             pass,
-            mut requests,
+            mut parts,
             mut answers,
             is_full,
             outlets,
-            request,
-            number: _,
+            part,
         } = self;
-        requests.push_reserved(request);
+        parts.push_reserved(part);
         answers.push_reserved(Err(refusal));
         let session = Session {
             seat,
             pass,
-            requests,
+            parts,
             answers,
             is_full,
+            closed: None,
             outlets,
         };
         (session, Err(refusal))
@@ -331,30 +353,29 @@ impl<J: ServeNames> Asker<J> {
         let Asker {
             mut seat,
             mut pass,
-            requests,
+            parts,
             answers,
             is_full: _,
             outlets,
-            request,
-            number,
+            part,
         } = self;
-        seat.ask(&mut pass, number, &request);
+        seat.ask(&mut pass, part.number, &part.request);
         let age = engine.ages.fetch_add(1, Ordering::SeqCst);
         let slot = pass.session() as usize;
-        let home = home_of_request(&request);
-        let begun = Flow::begin(alloc, age, slot, number, &request, pass);
+        let home = home_of_request(&part.request);
+        let begun = Flow::begin(alloc, age, slot, part.number, &part.request, pass);
         let mut away = Away {
             seat,
-            requests,
+            parts,
             answers,
             outlets,
-            request,
+            part,
         };
         match begun {
             Ok(flow) => {
                 engine
                     .gate
-                    .asked(away.seat.session(), number, &away.request);
+                    .asked(away.seat.session(), away.part.number, &away.part.request);
                 away.send(rt, engine, slot, home, flow);
                 let recorded = engine.wait_for_answer(rt, slot)?;
                 let (mut pass, answer) = recorded.into_parts();
@@ -364,7 +385,7 @@ impl<J: ServeNames> Asker<J> {
                 away.seat.look(&mut pass);
                 engine
                     .gate
-                    .answered(away.seat.session(), number, &away.request);
+                    .answered(away.seat.session(), away.part.number, &away.part.request);
                 Some(away.answered(pass, answer))
             }
             Err(pass) => Some(away.answered(pass, Err(Refusal::NoMemory))),
@@ -402,26 +423,29 @@ impl<J: ServeNames> Away<J> {
         requires session { pass.session ≡ self.seat.session }
         requires recorded { IsRecordedBy J.most self.seat.asking pass answer }
         ensures answer { result.1 ≡ answer }
-        ensures noted { result.0.script ≡ self.script ++ self.seat.asking.request ∷ [] }
+        ensures noted { result.0.script
+            ≡ self.script ++ part self.seat.asking.number self.seat.asking.request ∷ [] }
         ensures answered { result.0.answers ≡ self.answers ++ answer ∷ [] }
         ensures pass { result.0.pass ≡ pass }
+        ensures open { result.0.is_closed ≡ false }
     {
         let Away {
             seat,
-            mut requests,
+            mut parts,
             mut answers,
             outlets,
-            request,
+            part,
         } = self;
         let is_full = says_full(&answer);
-        requests.push_reserved(request);
+        parts.push_reserved(part);
         answers.push_reserved(answer);
         let session = Session {
             seat,
             pass,
-            requests,
+            parts,
             answers,
             is_full,
+            closed: None,
             outlets,
         };
         (session, answer)
@@ -429,10 +453,11 @@ impl<J: ServeNames> Away<J> {
 }
 
 impl<J: ServeNames> Left<J> {
-    /// The requests it has asked and their answers, after an audit of the session: it has logged exactly its entries in the log.
-    /// Returns `None` if it is another session, or if it has asked more than a script can have.
+    /// The requests it has asked, with their numbers, and their answers, after an audit of the session: it has logged exactly its
+    /// entries in the log. Returns `None` if it is another session, or if it has asked more than a script can have.
     pub(crate) fn audit(self, log: &mut Log<J>, number: usize) -> Option<(Script, Answers)>
         ensures asked { IfSome result (λ r. r.0 ≡ self.session.script) }
+        ensures numbered { IfSome result (λ r. AreNumberedByPlace r.0) }
         ensures recorded { IfSome result (λ r. r.1 ≡ self.session.answers) }
         ensures served { IfSome result (λ r.
             ServedIn (rules_of J.opening J.most) number log.old self.session.script r.1) }
@@ -441,7 +466,7 @@ impl<J: ServeNames> Left<J> {
         let Left { session } = self;
         let Session {
             mut pass,
-            requests,
+            parts,
             answers,
             ..
         } = session;
@@ -449,7 +474,7 @@ impl<J: ServeNames> Left<J> {
             return None;
         }
         log.audit(&mut pass);
-        let script = Script::checked_new(requests)?;
+        let script = Script::checked_new(parts)?;
         Some((script, Answers::of(answers)))
     }
 }

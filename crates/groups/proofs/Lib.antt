@@ -4,6 +4,5 @@ pub mod RowsInGroups
 pub mod RowsPut
 pub mod Counts
 pub mod StockGroups
-pub mod DeliveryGroups
 pub mod Firsts
 pub mod NewOrderGroups

@@ -53,7 +53,7 @@ pub fn footprint(alloc: Global, request: &Request) -> Result<Vec<GroupWant>, NoM
         Request::NewOrder(asked) => new_order::group_wants(alloc, asked),
         Request::Payment(asked) => Vec::from_slice(alloc, &payment::group_wants(asked)),
         Request::OrderStatus(asked) => Vec::from_slice(alloc, &order_status::group_wants(asked)),
-        Request::Delivery(asked) => delivery::group_wants(alloc, asked),
+        Request::Delivery(asked) => Vec::from_slice(alloc, &delivery::group_wants(asked)),
         Request::StockLevel(asked) => stock_level::group_wants(alloc, asked),
     }
 }

@@ -1,7 +1,6 @@
--- What the turn of each district keeps, a Delivery keeps.
-use Rattle.std.proofs.Common.{◌≡◌, ℕ, ◌+◌, true, false, cond, List, [], ◌∷◌, Option, Some, None, refl, subst}
+-- What the turn of its district keeps, a Delivery keeps.
+use Rattle.std.proofs.Common.{◌≡◌, ℕ, ◌+◌, true, false, cond, Option, Some, None, refl, subst}
 use Rattle.std.specs.Prelude.{ℤ, pos, ◌+ℤ◌}
-use Rattle.std.specs.List.{AllByRecursion, range_with_len}
 use Rattle.std.specs.Option.{option_map, option_and_then}
 use Rattle.std.specs.FinMap as table
 use Rattle.amounts.specs.Money.{money, is_money}
@@ -9,20 +8,18 @@ use Rattle.rows.specs.Ranged.{in_range}
 use Rattle.rows.specs.declared.keys.DistrictKey.{DistrictKey}
 use Rattle.rows.specs.declared.records.Customer.{Customer}
 use Rattle.rows.specs.declared.records.Order.{Order}
-use Rattle.schema.specs.Scale.{district_key}
 use Rattle.schema.specs.Database.{Database, customer_of_order}
 use Rattle.schema.specs.OrderRows.{oldest_new_order}
 use Rattle.requests.specs.declared.delivery.Delivery.{Delivery}
 use Rattle.machine.specs.NewOrder.{order_key}
-use Rattle.machine.specs.Delivery.{with_delivered, customer_delivered, amount_of, receiver, handed_over, delivered_order, Turn, turn_of, delivered_oldest, Round, no_turns, after_turn, delivered_in, recorded, delivery}
-use Rattle.machine.proofs.RowsChanged.{all_of}
+use Rattle.machine.specs.Delivery.{with_delivered, customer_delivered, amount_of, receiver, handed_over, delivered_order, Turn, turn_of, delivered_oldest, recorded, delivery}
 
 -- a value that is there after a step was there before it
-pub mapped_there : {X Y : Type 0} (f : X → Y) (r : Option X) (y : Y) → option_map f r ≡ Some y → (x : X) × (r ≡ Some x) × (f x ≡ y)
+mapped_there : {X Y : Type 0} (f : X → Y) (r : Option X) (y : Y) → option_map f r ≡ Some y → (x : X) × (r ≡ Some x) × (f x ≡ y)
 mapped_there f None y e = absurd cc
 mapped_there f (Some x) y e = (x, refl, cc)
 
-pub then_there : {X Y : Type 0} (f : X → Option Y) (r : Option X) (y : Y) → option_and_then f r ≡ Some y → (x : X) × (r ≡ Some x) × (f x ≡ Some y)
+then_there : {X Y : Type 0} (f : X → Option Y) (r : Option X) (y : Y) → option_and_then f r ≡ Some y → (x : X) × (r ≡ Some x) × (f x ≡ Some y)
 then_there f None y e = absurd cc
 then_there f (Some x) y e = (x, refl, e)
 
@@ -82,33 +79,12 @@ module _ (P : Database → Type 0) where
             subst (λ (x : Turn). P x.tables) there.2 (order-kept t there.0 home o_id carrier moment kept e there.1 h)
       ] refl made
 
-  -- ---- districts in turn
+  -- ---- the Delivery
 
-  pub round-kept : (t : Database) (d : Delivery) (districts : List ℕ) (round : Round) → AllByRecursion (λ district. TurnKeeps P d.carrier_id d.moment (district_key d.w_id district)) districts
-      → delivered_in t d districts ≡ Some round → P t → P round.tables
-  unfolding delivered_in
-  round-kept t d [] round kept made h =
-      let is : no_turns t ≡ round = cc in
-      subst (λ (x : Round). P x.tables) is h
-  round-kept t d (district ∷ districts) round kept made h =
-      let home = district_key d.w_id district in
-      let first = then_there (λ turn. option_map (after_turn turn) (delivered_in turn.tables d districts)) (delivered_oldest t home d.carrier_id d.moment) round made in
-      let others = mapped_there (after_turn first.0) (delivered_in first.0.tables d districts) round first.2 in
-      subst (λ (x : Round). P x.tables) others.2
-      (round-kept first.0.tables d districts others.0 kept.1 others.1 (turn-kept t home d.carrier_id d.moment first.0 kept.0 first.1 h))
-
-  -- ---- all ten
-
-  recorded-kept : (t : Database) (d : Delivery) (r : Option Round) → ((round : Round) → r ≡ Some round → P round.tables) → P t → P (recorded t d r).tables
+  recorded-kept : (t : Database) (d : Delivery) (r : Option Turn) → ((turn : Turn) → r ≡ Some turn → P turn.tables) → P t → P (recorded t d r).tables
   recorded-kept t d None kept h = h
-  recorded-kept t d (Some round) kept h = kept round refl
+  recorded-kept t d (Some turn) kept h = kept turn refl
 
-  pub delivery-kept : (t : Database) (d : Delivery) → AllByRecursion (λ district. TurnKeeps P d.carrier_id d.moment (district_key d.w_id district)) (range_with_len 1 10) → P t → P (delivery t d).tables
+  pub delivery-kept : (t : Database) (d : Delivery) → TurnKeeps P d.carrier_id d.moment d.home → P t → P (delivery t d).tables
   delivery-kept t d kept h =
-      recorded-kept t d (delivered_in t d (range_with_len 1 10)) (λ round made. round-kept t d (range_with_len 1 10) round kept made h) h
-
-  -- what the turn of any district keeps
-  pub delivery-kept_by_any : (t : Database) (d : Delivery) → ((home : DistrictKey) → TurnKeeps P d.carrier_id d.moment home) → P t → P (delivery t d).tables
-  delivery-kept_by_any t d kept =
-      delivery-kept t d
-      (all_of (λ district. TurnKeeps P d.carrier_id d.moment (district_key d.w_id district)) (λ district. kept (district_key d.w_id district)) (range_with_len 1 10))
+      recorded-kept t d (delivered_oldest t d.home d.carrier_id d.moment) (λ turn made. turn-kept t d.home d.carrier_id d.moment turn kept made h) h

@@ -1,9 +1,8 @@
--- A Delivery reads and changes what its own groups have, and nothing else: so does each of its turns.
-use Rattle.std.proofs.Common.{◌≡◌, ◌≢◌, ℕ, true, false, cond, ◌&&◌, ◌==◌, List, [], ◌∷◌, ◌++◌, map, Option, Some, None, Result, Ok, Err, refl, sym, ap, subst, ◌∙◌, arith}
-use Rattle.std.specs.List.{AllByRecursion, All, Contains, range_with_len}
-use Rattle.std.specs.Option.{option_map, option_and_then}
+-- A Delivery reads and changes what its own two groups have, and nothing else.
+use Rattle.std.proofs.Common.{◌≡◌, ◌≢◌, ℕ, true, false, cond, ◌&&◌, ◌==◌, List, [], Option, Some, None, refl, sym, ap, subst, ◌∙◌, arith}
+use Rattle.std.specs.Option.{option_map}
 use Rattle.std.proofs.lemmas.Bool.Decides.{nat_tests}
-use Rattle.std.proofs.lemmas.List.Elements.{All-contains, All-contains_itself, All-weaker, recursion_from_All}
+use Rattle.std.proofs.lemmas.List.Elements.{All-from_recursion, recursion_from_All}
 use Rattle.std.specs.FinMap as table
 use Rattle.rows.specs.Keys.{order_of_line}
 use Rattle.rows.specs.declared.keys.DistrictKey.{DistrictKey}
@@ -11,17 +10,14 @@ use Rattle.rows.specs.declared.keys.OrderKey.{OrderKey}
 use Rattle.rows.specs.declared.keys.OrderLineKey.{OrderLineKey}
 use Rattle.rows.specs.declared.records.OrderLine.{OrderLine}
 use Rattle.schema.specs.MapRows.{map_rows}
-use Rattle.schema.specs.Scale.{district_key, customer_key}
+use Rattle.schema.specs.Scale.{customer_key}
 use Rattle.schema.specs.Database.{Database, customer_of_order, rows_where, is_of_district, is_of_order}
 use Rattle.schema.specs.Consistency.{lines_of, numbers}
-use Rattle.schema.specs.OrderRows.{smallest, is_order, carried_by, delivered_at, with_carrier, with_moment, with_delivery}
+use Rattle.schema.specs.OrderRows.{smallest, oldest_new_order, is_order, carried_by, delivered_at, with_carrier, with_moment, with_delivery}
 use Rattle.schema.proofs.KeyOrders.{orders_total, orders_exact, lines_total, lines_exact}
 use Rattle.requests.specs.declared.group.Group.{Group}
 use Rattle.requests.specs.declared.group.Group.TheVariants as g
 use Rattle.requests.specs.declared.delivery.Delivery.{Delivery}
-use Rattle.requests.specs.declared.reply.Reply.TheVariants.{Done}
-use Rattle.requests.specs.declared.reply.Shown.TheVariants.{Delivery as DeliveryShown}
-use Rattle.requests.specs.declared.reply.Fault.{Fault}
 use Rattle.groups.specs.Groups.{group_of_customer, group_of_order, group_of_line, is_same}
 use Rattle.groups.specs.Content.{Content, content}
 use Rattle.groups.specs.Content.Content.{OfOrders}
@@ -31,14 +27,15 @@ use Rattle.groups.proofs.Parts.{rows_of-remove_own, rows_of-remove_other}
 use Rattle.groups.proofs.RowsInGroups.{each_row_stands_in_one_group, same_row}
 use Rattle.groups.proofs.RowsPut.{each_put_changes_one_group}
 use Rattle.machine.specs.declared.delivery.Handover.{Handover}
+use Rattle.machine.specs.Outcome.{Outcome}
 use Rattle.machine.specs.NewOrder.{order_key}
-use Rattle.machine.specs.Delivery.{Turn, delivered_oldest, Round, after_turn, delivered_in, delivery_reply, recorded}
-use Rattle.machine.specs.DeliverySteps.{due, turn_with}
+use Rattle.machine.specs.Delivery.{turn_of, recorded, delivery}
+use Rattle.machine.specs.DeliverySteps.{handover_of}
 use Rattle.machine.specs.DeliveryLaws.{DeliveryReadsItsGroups, DeliveryKeepsOtherGroups}
 use Rattle.machine.proofs.GroupChanges.{changed_alike}
 use Rattle.machine.proofs.RowsOfGroups.{rows_where-rows_of, rows_of-map_rows, rows_of-map_rows_other}
 use Rattle.machine.proofs.DeliveryCases.{TurnKeeps, delivery-kept}
-use Rattle.machine.proofs.DeliveryTurns.{IsSameFor, same_due, turn_due, turn_by_due}
+use Rattle.machine.proofs.DeliveryTurns.{turn_with, turn_by_handover, IsSameFor, same_handover}
 
 -- ---- an order that is delivered changes the orders of its district alone
 
@@ -92,36 +89,12 @@ turn_keeps_group t group carrier moment home no_order no_customer s o_id row c n
     let customer_put = (each_put_changes_one_group (with_delivery s key carrier moment)).customers (customer_of_order key row) new in
     customer_put.elsewhere group no_customer ∙ (order_changes key carrier moment s).elsewhere group no_order ∙ same
 
-turns_keep_group : (t : Database) (group : Group) (d : Delivery) (districts : List ℕ) → AllByRecursion (λ k. (group ≢ g.Orders d.w_id k) × (group ≢ g.Customers d.w_id k)) districts
-    → AllByRecursion (λ k. TurnKeeps (λ s. content s group ≡ content t group) d.carrier_id d.moment (district_key d.w_id k)) districts
-turns_keep_group t group d [] none = tt
-turns_keep_group t group d (k ∷ ks) none = (
-  turn_keeps_group t group d.carrier_id d.moment (district_key d.w_id k) none.0.0 none.0.1,
-  turns_keep_group t group d ks none.1,
-)
-
--- what holds of each group of a Delivery holds of the two of each district
-module _ (P : Group → Type 0) where
-  parts : (xs ys : List Group) → AllByRecursion P (xs ++ ys) → AllByRecursion P xs × AllByRecursion P ys
-  parts [] ys all = (tt, all)
-  parts (x ∷ xs) ys all = let rest = parts xs ys all.1 in ((all.0, rest.0), rest.1)
-
-  pairs : (f h : ℕ → Group) (ks : List ℕ) → AllByRecursion P (map f ks) → AllByRecursion P (map h ks) → AllByRecursion (λ k. P (f k) × P (h k)) ks
-  pairs f h [] all others = tt
-  pairs f h (k ∷ ks) all others = ((all.0, others.0), pairs f h ks all.1 others.1)
-
-  of_districts : (d : Delivery) → All P (groups_of (delivery_footprint d)) → AllByRecursion (λ k. P (g.Orders d.w_id k) × P (g.Customers d.w_id k)) (range_with_len 1 10)
-  of_districts d all =
-      let ks = range_with_len 1 10 in
-      let both = parts (map (g.Orders d.w_id) ks) (map (g.Customers d.w_id) ks) (recursion_from_All P (groups_of (delivery_footprint d)) all) in
-      pairs (g.Orders d.w_id) (g.Customers d.w_id) ks both.0 both.1
-
 pub delivery_keeps_other_groups : DeliveryKeepsOtherGroups
 delivery_keeps_other_groups t d group none =
-    delivery-kept (λ s. content s group ≡ content t group) t d
-    (turns_keep_group t group d (range_with_len 1 10) (of_districts (λ own. group ≢ own) d none)) refl
+    let each = recursion_from_All (λ own. group ≢ own) (groups_of (delivery_footprint d)) none in
+    delivery-kept (λ s. content s group ≡ content t group) t d (turn_keeps_group t group d.carrier_id d.moment d.home each.0 each.1.0) refl
 
--- ---- what is due in a district follows from its two groups
+-- ---- the rows of a district follow from its two groups
 
 -- the number of the oldest new order, and the lines of an order, that a group has
 abbrev oldest_in : DistrictKey → Content → Option ℕ
@@ -164,85 +137,63 @@ module _ (home : DistrictKey) where
 
 -- ---- where two tables have the same in a group, they have the same after the same delivery
 
-handed_alike : (s t : Database) (carrier moment : ℕ) (handover : Handover) (group : Group) → content s group ≡ content t group
-    → content (turn_with s carrier moment (Some handover)).tables group ≡ content (turn_with t carrier moment (Some handover)).tables group
-handed_alike s t carrier moment handover group alike =
-    let new_s = with_delivery s handover.order carrier moment in
-    let new_t = with_delivery t handover.order carrier moment in
+handed_alike : (s t : Database) (order : OrderKey) (carrier moment : ℕ) (handover : Handover) (group : Group) → content s group ≡ content t group
+    → content (turn_with s order carrier moment handover).tables group ≡ content (turn_with t order carrier moment handover).tables group
+handed_alike s t order carrier moment handover group alike =
+    let new_s = with_delivery s order carrier moment in
+    let new_t = with_delivery t order carrier moment in
     changed_alike (group_of_customer handover.customer) (with_customer handover.customer handover.row) new_s new_t
-    (turn_with s carrier moment (Some handover)).tables (turn_with t carrier moment (Some handover)).tables
+    (turn_with s order carrier moment handover).tables (turn_with t order carrier moment handover).tables
     ((each_put_changes_one_group new_s).customers handover.customer handover.row) ((each_put_changes_one_group new_t).customers handover.customer handover.row) group
-    (changed_alike (group_of_order handover.order) (delivered_content handover.order carrier moment) s t new_s new_t
-    (order_changes handover.order carrier moment s) (order_changes handover.order carrier moment t) group alike)
+    (changed_alike (group_of_order order) (delivered_content order carrier moment) s t new_s new_t
+    (order_changes order carrier moment s) (order_changes order carrier moment t) group alike)
 
--- ---- some groups, with the two of each district of a Delivery
+-- ---- a Delivery in two tables that have the same in its groups
 
-module _ (IsIn : Group → Type 0) where
-  abbrev Alike : Database → Database → Type 0
-  Alike s t = (group : Group) → IsIn group → content s group ≡ content t group
+module _ (d : Delivery) where
+  Alike : Database → Database → Type 0
+  Alike s t = (content s (own_orders d.home) ≡ content t (own_orders d.home)) × (content s (own_customers d.home) ≡ content t (own_customers d.home))
 
-  -- both turns are taken or neither is, and they deliver orders of one number
-  abbrev SameTurns : Option Turn → Option Turn → Type 0
-  SameTurns (Some a) (Some b) = (a.o_id ≡ b.o_id) × Alike a.tables b.tables
-  SameTurns None None = Unit {0}
-  SameTurns _ _ = ⊥
-
-  abbrev SameRounds : Option Round → Option Round → Type 0
-  SameRounds (Some a) (Some b) = (a.orders ≡ b.orders) × Alike a.tables b.tables
-  SameRounds None None = Unit {0}
-  SameRounds _ _ = ⊥
+  EndAlike : Outcome → Outcome → Type 0
+  EndAlike a b = (a.reply ≡ b.reply) × Alike a.tables b.tables
 
   module _ (s t : Database) (alike : Alike s t) where
-    turns_by_due : (carrier moment : ℕ) (r : Result (Option Handover) Fault) → SameTurns (turn_due s carrier moment r) (turn_due t carrier moment r)
-    turns_by_due carrier moment (Err fault) = tt
-    turns_by_due carrier moment (Ok None) = (refl, alike)
-    turns_by_due carrier moment (Ok (Some handover)) = (refl, λ group inside. handed_alike s t carrier moment handover group (alike group inside))
+    alike_handed : (order : OrderKey) (r : Option Handover)
+        → EndAlike (recorded s d (option_map (turn_with s order d.carrier_id d.moment) r)) (recorded t d (option_map (turn_with t order d.carrier_id d.moment) r))
+    unfolding Alike EndAlike
+    alike_handed order None = (refl, alike)
+    alike_handed order (Some handover) = (
+      refl,
+      (
+        handed_alike s t order d.carrier_id d.moment handover (own_orders d.home) alike.0,
+        handed_alike s t order d.carrier_id d.moment handover (own_customers d.home) alike.1,
+      ),
+    )
 
-    same_turns : (home : DistrictKey) (carrier moment : ℕ) → IsIn (g.Orders home.w_id home.d_id) → IsIn (g.Customers home.w_id home.d_id)
-        → SameTurns (delivered_oldest s home carrier moment) (delivered_oldest t home carrier moment)
-    same_turns home carrier moment orders customers =
-        let s_turn = turn_by_due s home carrier moment in
-        let t_turn = turn_by_due t home carrier moment in
-        let same = same_due s t home (same_for home s t (alike (own_orders home) orders) (alike (own_customers home) customers)) in
-        subst (λ x. SameTurns x (delivered_oldest t home carrier moment)) (sym (s_turn ∙ ap (turn_due s carrier moment) same))
-        (subst (SameTurns (turn_due s carrier moment (due t home))) (sym t_turn) (turns_by_due carrier moment (due t home)))
+    alike_turns : (r : Option ℕ) → IsSameFor d.home s t → EndAlike (recorded s d (turn_of s d.home d.carrier_id d.moment r)) (recorded t d (turn_of t d.home d.carrier_id d.moment r))
+    unfolding Alike EndAlike
+    alike_turns None same = (refl, alike)
+    alike_turns (Some o_id) same =
+        let order = order_key d.home o_id in
+        let s_turn = turn_by_handover s d.home d.carrier_id d.moment o_id in
+        let t_turn = turn_by_handover t d.home d.carrier_id d.moment o_id in
+        let s_same = s_turn ∙ ap (option_map (turn_with s order d.carrier_id d.moment)) (same_handover s t d.home o_id same) in
+        subst (λ x. EndAlike (recorded s d x) (recorded t d (turn_of t d.home d.carrier_id d.moment (Some o_id)))) (sym s_same)
+        (subst (λ x. EndAlike (recorded s d (option_map (turn_with s order d.carrier_id d.moment) (handover_of t order))) (recorded t d x)) (sym t_turn)
+        (alike_handed order (handover_of t order)))
 
-    same_ends : (d : Delivery) (x y : Option Round) → SameRounds x y → ((recorded s d x).reply ≡ (recorded t d y).reply) × Alike (recorded s d x).tables (recorded t d y).tables
-    same_ends d None None same = (refl, alike)
-    same_ends d (Some a) (Some b) same = (ap (λ orders. Done (DeliveryShown (delivery_reply d orders))) same.0, same.1)
-    same_ends d None (Some b) same = absurd same
-    same_ends d (Some a) None same = absurd same
-
-  -- a turn, and then the others
-  then_others : (a b : Turn) → a.o_id ≡ b.o_id → (x y : Option Round) → SameRounds x y → SameRounds (option_map (after_turn a) x) (option_map (after_turn b) y)
-  then_others a b first None None same = tt
-  then_others a b first (Some p) (Some q) same = (λ i. first i ∷ same.0 i, same.1)
-  then_others a b first None (Some q) same = absurd same
-  then_others a b first (Some p) None same = absurd same
-
-  one_more : (d : Delivery) (ks : List ℕ) → ((s t : Database) → Alike s t → SameRounds (delivered_in s d ks) (delivered_in t d ks)) → (x y : Option Turn) → SameTurns x y
-      → SameRounds (option_and_then (λ turn. option_map (after_turn turn) (delivered_in turn.tables d ks)) x) (option_and_then (λ turn. option_map (after_turn turn) (delivered_in turn.tables d ks)) y)
-  one_more d ks others None None same = tt
-  one_more d ks others (Some a) (Some b) same = then_others a b same.0 (delivered_in a.tables d ks) (delivered_in b.tables d ks) (others a.tables b.tables same.1)
-  one_more d ks others None (Some b) same = absurd same
-  one_more d ks others (Some a) None same = absurd same
-
-  same_rounds : (d : Delivery) (ks : List ℕ) → AllByRecursion (λ k. IsIn (g.Orders d.w_id k) × IsIn (g.Customers d.w_id k)) ks → (s t : Database) → Alike s t
-      → SameRounds (delivered_in s d ks) (delivered_in t d ks)
-  unfolding delivered_in
-  same_rounds d [] inside s t alike = (refl, alike)
-  same_rounds d (k ∷ ks) inside s t alike =
-      let home = district_key d.w_id k in
-      one_more d ks (same_rounds d ks inside.1) (delivered_oldest s home d.carrier_id d.moment) (delivered_oldest t home d.carrier_id d.moment)
-      (same_turns s t alike home d.carrier_id d.moment inside.0.0 inside.0.1)
+    alike_deliveries : EndAlike (delivery s d) (delivery t d)
+    unfolding Alike EndAlike
+    alike_deliveries =
+        let same = same_for d.home s t alike.0 alike.1 in
+        subst (λ r. EndAlike (recorded s d (turn_of s d.home d.carrier_id d.moment r)) (delivery t d)) (sym same.oldest) (alike_turns (oldest_new_order t d.home) same)
 
 pub delivery_reads_its_groups : DeliveryReadsItsGroups
+unfolding Alike EndAlike
 delivery_reads_its_groups s t d alike =
     let groups = groups_of (delivery_footprint d) in
-    let ks = range_with_len 1 10 in
-    let start : Alike (Contains groups) s t = λ group inside. All-contains (λ x. content s x ≡ content t x) groups group alike inside in
-    let rounds = same_rounds (Contains groups) d ks (of_districts (Contains groups) d (All-contains_itself groups)) s t start in
-    let ends = same_ends (Contains groups) s t start d (delivered_in s d ks) (delivered_in t d ks) rounds in (
+    let each = recursion_from_All (λ group. content s group ≡ content t group) groups alike in
+    let ends = alike_deliveries d s t (each.0, each.1.0) in (
       ends.0,
-      All-weaker (Contains groups) (λ x. content (recorded s d (delivered_in s d ks)).tables x ≡ content (recorded t d (delivered_in t d ks)).tables x) ends.1 groups (All-contains_itself groups),
+      All-from_recursion (λ group. content (delivery s d).tables group ≡ content (delivery t d).tables group) groups (ends.1.0, (ends.1.1, tt)),
     )

@@ -17,7 +17,7 @@ use Rattle.indexes.specs.NameOrder.{FitsNames}
 use Rattle.indexes.proofs.Names.{same_names_fit, put_keeps_names}
 use Rattle.machine.specs.NewOrder.{order_key}
 use Rattle.machine.specs.Delivery.{delivery, handed_over}
-use Rattle.machine.proofs.DeliveryCases.{TurnKeeps, delivery-kept_by_any}
+use Rattle.machine.proofs.DeliveryCases.{TurnKeeps, delivery-kept}
 use Rattle.machine.proofs.OrderDelivered.{same_buyer}
 use Rattle.machine.proofs.RowsChanged.{entries-map_rows}
 
@@ -52,6 +52,6 @@ turn_keeps_latest latest carrier moment home t o_id row c new oldest row_is c_is
 pub delivery_keeps_indexes : (names : List (List ℕ)) (latest : List ℕ) (t : Database) (d : Delivery) → FitsNames names t → FitsLatest latest t
     → FitsNames names (delivery t d).tables × FitsLatest latest (delivery t d).tables
 delivery_keeps_indexes names latest t d fits_names fits_latest = (
-  delivery-kept_by_any (FitsNames names) t d (turn_keeps_names names d.carrier_id d.moment) fits_names,
-  delivery-kept_by_any (FitsLatest latest) t d (turn_keeps_latest latest d.carrier_id d.moment) fits_latest,
+  delivery-kept (FitsNames names) t d (turn_keeps_names names d.carrier_id d.moment d.home) fits_names,
+  delivery-kept (FitsLatest latest) t d (turn_keeps_latest latest d.carrier_id d.moment d.home) fits_latest,
 )

@@ -30,7 +30,6 @@ pub mod DeliveryConsistency
 pub mod DeliveryIndexes
 pub mod BalanceDelivered
 pub mod DeliveryTurns
-pub mod DeliverySteps
 pub mod RowsOfGroups
 pub mod DeliveryGroups
 pub mod OrderTakenBack

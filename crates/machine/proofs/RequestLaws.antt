@@ -1,7 +1,5 @@
 -- The laws of all requests, by the laws of each kind, and of lists of requests.
 use Rattle.std.proofs.Common.{◌≡◌, List, [], ◌∷◌, refl, sym, ap, subst, ◌∙◌}
-use Rattle.std.specs.List.{range_with_len}
-use Rattle.schema.specs.Scale.{district_key}
 use Rattle.schema.specs.Database.{Database}
 use Rattle.schema.specs.Consistency.{Consistent}
 use Rattle.groups.specs.Content.{content, AreAlikeIn}
@@ -24,10 +22,9 @@ use Rattle.machine.proofs.PaymentCases.{payment_local}
 use Rattle.machine.proofs.PaymentGroups.{payment_reads_its_groups, payment_keeps_other_groups}
 use Rattle.machine.proofs.StatusGroups.{status_keeps_tables, status_reads_its_groups}
 use Rattle.machine.proofs.ConsistencyKept.{payment_keeps_consistency}
-use Rattle.machine.proofs.DeliveryCases.{TurnKeeps, delivery-kept}
+use Rattle.machine.proofs.DeliveryCases.{delivery-kept}
 use Rattle.machine.proofs.DeliveryConsistency.{delivery_keeps_consistency}
 use Rattle.machine.proofs.DeliveryGroups.{delivery_reads_its_groups, delivery_keeps_other_groups}
-use Rattle.machine.proofs.RowsChanged.{all_of}
 use Rattle.machine.proofs.StockLevelGroups.{stock_level_reads_its_groups}
 
 -- ---- the scale and the items
@@ -42,9 +39,7 @@ new_order_leaves_both t n =
 
 delivery_leaves_both : (t : Database) (d : Delivered) → AreOfScale (delivery t d).tables t
 delivery_leaves_both t d =
-    delivery-kept (λ s. AreOfScale s t) t d
-    (all_of (λ district. TurnKeeps (λ s. AreOfScale s t) d.carrier_id d.moment (district_key d.w_id district)) (λ district s o_id row c new oldest row_is c_is receives h. h) (range_with_len 1 10))
-    (refl, refl)
+    delivery-kept (λ s. AreOfScale s t) t d (λ s o_id row c new oldest row_is c_is receives h. h) (refl, refl)
 
 -- a request leaves the scale, and so do all requests of a list
 transaction-scale : (t : Database) (request : Request) → (transaction t request).tables.scale ≡ t.scale

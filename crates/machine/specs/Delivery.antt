@@ -1,6 +1,6 @@
 -- Delivery (clause 2.7).
-use Rattle.std.specs.Prelude.{ℕ, ◌+◌, pos, ℤ, ◌+ℤ◌, List, [], ◌∷◌, Option, Some, None, IsTrue}
-use Rattle.std.specs.List.{sum_by, range_with_len}
+use Rattle.std.specs.Prelude.{ℕ, ◌+◌, pos, ℤ, ◌+ℤ◌, Option, Some, None, IsTrue}
+use Rattle.std.specs.List.{sum_by}
 use Rattle.std.specs.Option.{option_map, option_and_then}
 use Rattle.std.specs.FinMap as table
 use Rattle.amounts.specs.Money.{money}
@@ -9,7 +9,6 @@ use Rattle.rows.specs.declared.keys.DistrictKey.{DistrictKey}
 use Rattle.rows.specs.declared.keys.OrderKey.{OrderKey}
 use Rattle.rows.specs.declared.records.Customer.{Customer}
 use Rattle.rows.specs.declared.records.Order.{Order}
-use Rattle.schema.specs.Scale.{district_key}
 use Rattle.schema.specs.Database.{Database, customer_of_order}
 use Rattle.schema.specs.Consistency.{lines_of}
 use Rattle.schema.specs.OrderRows.{with_delivery, oldest_new_order}
@@ -69,42 +68,20 @@ turn_of t home carrier moment (Some o_id) =
 abbrev pub delivered_oldest : Database → DistrictKey → ℕ → ℕ → Option Turn
 delivered_oldest t home carrier moment = turn_of t home carrier moment (oldest_new_order t home)
 
--- ---- the districts in turn
-
--- the tables after all turns, and the number that each delivered
-pub record Round : Type 0 where
-  pub tables : Database
-  pub orders : List (Option ℕ)
-
--- no turn
-abbrev pub no_turns : Database → Round
-no_turns t = record { tables = t; orders = [] }
-
--- one turn, followed by the others
-abbrev pub after_turn : Turn → Round → Round
-after_turn turn others = record { tables = others.tables; orders = turn.o_id ∷ others.orders }
-
--- the turns of these districts of the warehouse, one after another; None if one of them can't be delivered
-unfoldable pub delivered_in : Database → Delivery → List ℕ → Option Round
-delivered_in t d [] = Some (no_turns t)
-delivered_in t d (district ∷ districts) =
-    option_and_then (λ turn. option_map (after_turn turn) (delivered_in turn.tables d districts))
-    (delivered_oldest t (district_key d.w_id district) d.carrier_id d.moment)
-
 -- ---- the outcome of a Delivery
 
 -- the reply (clause 2.7.3.2)
-abbrev pub delivery_reply : Delivery → List (Option ℕ) → DeliveryReply
-delivery_reply d orders = record { carrier_id = d.carrier_id; orders = orders }
+abbrev pub delivery_reply : Delivery → Option ℕ → DeliveryReply
+delivery_reply d order = record { d_id = d.home.d_id; carrier_id = d.carrier_id; order = order }
 
--- The outcome of the ten turns, which are one transaction: if one district can't be delivered, nothing changes.
-abbrev pub recorded : Database → Delivery → Option Round → Outcome
-recorded t d (Some round) = done round.tables (DeliveryShown (delivery_reply d round.orders))
+-- the outcome, given the district's turn; if the order can't be delivered, nothing changes
+abbrev pub recorded : Database → Delivery → Option Turn → Outcome
+recorded t d (Some turn) = done turn.tables (DeliveryShown (delivery_reply d turn.o_id))
 recorded t d None = rolled_back t Range
 
--- the outcome of a Delivery
+-- The outcome of a Delivery: the turn of its district. A skipped district is done, and shows no order.
 abbrev pub delivery : Database → Delivery → Outcome
-delivery t d = recorded t d (delivered_in t d (range_with_len 1 10))
+delivery t d = recorded t d (delivered_oldest t d.home d.carrier_id d.moment)
 
 -- ---- the precondition of a Delivery
 

@@ -13,6 +13,7 @@ mod plain;
 mod stock_level;
 
 pub use choosing::chosen;
+pub use delivery::delivery_reply;
 pub use laws::{
     delivery_keeps_consistency, delivery_keeps_other_groups, delivery_reads_its_groups,
     new_order_keeps_consistency, new_order_keeps_other_groups, new_order_reads_its_groups,

@@ -11,7 +11,7 @@ pub enum Claimed {
     One(GroupWant),
     /// The home warehouse's row and the home district's.
     Two(GroupWant, GroupWant),
-    /// All groups of a warehouse's orders, customers or stock, from the first to the last.
+    /// All groups of a warehouse's stock, from the first to the last.
     All(GroupWant, GroupWant),
 }
 
@@ -24,8 +24,7 @@ pub struct Action {
 }
 
 /// The actions of a request, by place. Most actions claim one group, in the order of the groups. The exceptions: one action
-/// claims the home warehouse's row and the home district's; one claims all orders of a Delivery, one all its customers; one
-/// claims all stock of a Stock-Level.
+/// claims the home warehouse's row and the home district's; one claims all stock of a Stock-Level.
 pub fn actions_of(alloc: Global, request: &Request) -> Result<Vec<Action>, NoMemory> {
     let mut actions: Vec<Action> = Vec::new(alloc);
     for &group_want in footprint(alloc, request)?.iter() {
@@ -56,12 +55,10 @@ fn phase_of(request: &Request, group: Group) -> u32 {
     }
 }
 
-// Whether two groups are both of one warehouse's orders, of its customers, or of its stock.
+// Whether two groups are both of one warehouse's stock.
 fn is_beside(one: Group, other: Group) -> bool {
     match (one, other) {
-        (Group::Orders { w_id: a, .. }, Group::Orders { w_id: b, .. })
-        | (Group::Customers { w_id: a, .. }, Group::Customers { w_id: b, .. })
-        | (Group::Stock { w_id: a, .. }, Group::Stock { w_id: b, .. }) => a == b,
+        (Group::Stock { w_id: a, .. }, Group::Stock { w_id: b, .. }) => a == b,
         _ => false,
     }
 }
@@ -74,7 +71,7 @@ impl Claimed {
         }
     }
 
-    // With the next claim: the home district's after the warehouse's, or another one of the same sort.
+    // With the next claim: the home district's after the warehouse's, or another one of its stock.
     fn with(self, group_want: GroupWant) -> Claimed {
         match group_want.group {
             Group::District { .. } => Claimed::Two(self.first(), group_want),
@@ -100,7 +97,7 @@ impl Action {
     // Whether the action claims this group too, which comes after those that it claims.
     fn claims_too(self, request: &Request, group_want: GroupWant) -> bool {
         match (request, group_want.group) {
-            (Request::Delivery(_), _) | (Request::StockLevel(_), Group::Stock { .. }) => {
+            (Request::StockLevel(_), Group::Stock { .. }) => {
                 is_beside(self.claimed.first().group, group_want.group)
             }
             (Request::StockLevel(_), _) => false,

@@ -21,7 +21,7 @@ pub enum Phrase {
     /// The groups of a claim.
     One(Group),
     Two(Group, Group),
-    /// All groups of a warehouse's orders, customers or stock, from the first to the last.
+    /// All groups of a warehouse's stock, from the first to the last.
     All(Group, Group),
     /// What was taken or sent for the transaction of this age.
     Start { age: u64 },

@@ -1,4 +1,5 @@
 pub mod Found
+pub mod ScriptParts
 pub mod Checked
 pub mod NewOrderReplies
 pub mod PaymentReplies

@@ -27,6 +27,7 @@ use Rattle.requests.specs.contracts.reply.Shown as Shown
 use Rattle.requests.specs.contracts.reply.Reply as Reply
 use Rattle.requests.specs.contracts.request.Choice as Choice
 use Rattle.requests.specs.contracts.request.Request as Request
+use Rattle.requests.specs.contracts.script.Part as Part
 use Rattle.requests.specs.contracts.script.Script as Script
 use Rattle.requests.specs.contracts.shown_data.ShownData as ShownData
 use Rattle.requests.specs.contracts.stock_level.StockLevel as StockLevel
@@ -196,8 +197,14 @@ Request-sync = variants_sync Request.enum (
   ),
 )
 
+pub Part-send : IsSend Part.the_row
+Part-send = declared_send Part.the_type (search sendable depth 20, (Request-send, tt))
+
+Part-sync : IsSync Part.the_row
+Part-sync = declared_sync Part.the_type (search sendable depth 20, (Request-sync, tt))
+
 pub Script-sync : IsSync Script.the_row
-Script-sync = view_sync _ _ _ _ _ (declared_sync Script.TheInside.the_type (search (Request-sync, Vec-sync) depth 20, tt))
+Script-sync = view_sync _ _ _ _ _ (declared_sync Script.TheInside.the_type (search (Part-sync, Vec-sync) depth 20, tt))
 
 -- ---- answers
 pub NewOrderLine-send : IsSend NewOrderLine.the_row

@@ -7,5 +7,7 @@ pub mod Delivery
 pub mod StockLevel
 pub mod Check
 pub mod Requests
+pub mod TerminalRequest
 pub mod LastName
 pub mod ShownData
+pub mod Script

@@ -16,6 +16,7 @@ mod request;
 mod script;
 mod shown_data;
 mod stock_level;
+mod terminal_request;
 
 pub use answer::Answer;
 pub use checks::check;
@@ -29,6 +30,7 @@ pub use payment::{Payment, PaymentReply};
 pub use refusal::Refusal;
 pub use reply::{Fault, Reply, Shown};
 pub use request::{Choice, Request};
-pub use script::{MOST_REQUESTS, Script};
+pub use script::{MOST_REQUESTS, Part, Script};
 pub use shown_data::ShownData;
 pub use stock_level::{StockLevel, StockLevelReply};
+pub use terminal_request::{TerminalRequest, WarehouseDelivery};

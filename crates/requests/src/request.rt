@@ -14,7 +14,7 @@ pub enum Choice {
     LastName(LastName),
 }
 
-/// A terminal's request.
+/// A request: what one transaction carries out.
 #[derive(Clone, Debug, PartialEq, Eq, Drop)]
 pub enum Request {
     NewOrder(NewOrder),

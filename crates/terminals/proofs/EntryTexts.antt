@@ -1,6 +1,7 @@
 -- The records of a log's entry, of a move and of a schedule's item determine it.
 use Rattle.std.proofs.Common.{◌≡◌, ℕ, List, ◌++◌, length, refl, sym, ap, subst, ◌∙◌, arith}
 use Rattle.std.specs.Fmt.{decimal}
+use Rattle.std.specs.List.{AllByRecursion}
 use Rattle.std.proofs.lemmas.Fmt.{decimal_injective}
 use Rattle.commit_log.specs.declared.entry.Entry.{Entry}
 use Rattle.history.specs.declared.event.Event.{Event}
@@ -10,12 +11,15 @@ use Rattle.history.specs.declared.schedule.Scheduled.TheVariants as scheduled
 use Rattle.range_moves.specs.declared.order.MoveOrder.{MoveOrder}
 use Rattle.terminals.specs.LogRecord.{IsLogRecord}
 use Rattle.terminals.specs.Moves.{IsMoveRecord}
-use Rattle.terminals.specs.RequestFields.{IsRequest}
+use Rattle.requests.specs.Script.{parts_from}
+use Rattle.requests.specs.declared.script.Part.{Part}
+use Rattle.terminals.specs.RequestFields.{IsRequest, IsTerminalRequest}
 use Rattle.terminals.specs.ReplyFields.{IsReply}
 use Rattle.terminals.specs.Schedule.{IsEventRecord, IsScheduleRecord}
-use Rattle.terminals.specs.RecordLaws.{CanBeAsked, CanBeEvent, CanBeLogged, CanBeOrdered, CanBeScheduled, LogsDiffer, MovesDiffer, SchedulesDiffer, ScriptsDiffer}
+use Rattle.terminals.specs.RecordLaws.{CanBeAsked, CanBeEvent, CanBeLogged, CanBeOrdered, CanBePart, CanBeScheduled, LogsDiffer, MovesDiffer, SchedulesDiffer, ScriptsDiffer}
 use Rattle.terminals.proofs.ListedTexts.{listing-reports, same_parts}
-use Rattle.terminals.proofs.RequestTexts.{few_fields, letter, same_request, same_word}
+use Rattle.terminals.proofs.RequestTexts.{CanBeAskedAt, few_fields, letter, same_request, same_terminal, same_word}
+use Rattle.terminals.proofs.ScriptParts.{each_of_records}
 use Rattle.terminals.proofs.ReplyTexts.{same_reply}
 
 same_entry : (place : ℕ) (a b : Entry) → CanBeLogged a → CanBeLogged b → (fields : List (List ℕ)) → IsLogRecord place a fields → IsLogRecord place b fields → a ≡ b
@@ -53,7 +57,12 @@ pub logs_differ : LogsDiffer
 logs_differ = listing-reports IsLogRecord CanBeLogged same_entry
 
 pub scripts_differ : ScriptsDiffer
-scripts_differ = listing-reports (λ place. IsRequest) CanBeAsked (λ place. same_request)
+scripts_differ one other can could rows s r =
+    let Can : List Part → Type 0 = AllByRecursion CanBePart in
+    let records = each_of_records CanBeAsked 0 s.0 (subst Can s.1 can) in
+    let others = each_of_records CanBeAsked 0 r.0 (subst Can r.1 could) in
+    let same = listing-reports (λ place. IsTerminalRequest) CanBeAskedAt (λ place. same_terminal) s.0 r.0 records others rows s.2 r.2 in
+    s.1 ∙ ap (parts_from 0) same ∙ sym r.1
 
 -- the letter of an item
 abbrev event_letter : Event → ℕ

@@ -1,7 +1,7 @@
 -- The fields of several things, one after the other, with one thing more.
-use Rattle.std.proofs.Common.{◌≡◌, ℕ, ◌+◌, ◌<◌, List, [], ◌∷◌, ◌++◌, length, take, get_or, map, flat_map, sym, ap, ◌∙◌}
+use Rattle.std.proofs.Common.{◌≡◌, ℕ, ◌+◌, ◌<◌, List, [], ◌∷◌, ◌++◌, length, take, get_or, flat_map, sym, ap, ◌∙◌}
 use Rattle.std.proofs.lemmas.Grind.{flat_map-append}
-use Rattle.std.proofs.lemmas.List.{append-nil, map-append, take_more}
+use Rattle.std.proofs.lemmas.List.{append-nil, take_more}
 
 -- the elements before the next one, and that one
 pub next_taken : {X : Type 0} (i : ℕ) (xs : List X) (x : X) → i < length xs → x ≡ get_or xs i x → take (i + 1) xs ≡ take i xs ++ (x ∷ [])
@@ -18,7 +18,3 @@ pub fields-more : {X : Type 0} (f : X → List (List ℕ)) (i : ℕ) (xs : List 
 fields-more f i xs x there is =
     let end : flat_map f (x ∷ []) ≡ f x = append-nil (f x) in
     ap (flat_map f) (next_taken i xs x there is) ∙ flat_map-append f (take i xs) (x ∷ []) ∙ ap (λ l. flat_map f (take i xs) ++ l) end
-
-pub each-more : {X : Type 0} (f : X → List ℕ) (i : ℕ) (xs : List X) (x : X) → i < length xs → x ≡ get_or xs i x
-    → map f (take (i + 1) xs) ≡ map f (take i xs) ++ (f x ∷ [])
-each-more f i xs x there is = ap (map f) (next_taken i xs x there is) ∙ map-append f (take i xs) (x ∷ [])

@@ -1,6 +1,7 @@
 pub mod Choices
 pub mod EntryTexts
 pub mod FieldsOfEach
+pub mod ScriptParts
 pub mod ListedTexts
 pub mod Listings
 pub mod Nullables

@@ -15,7 +15,11 @@ use Rattle.rows.proofs.Ascii.{utf8_words}
 use Rattle.files.proofs.KindsRead.{count_complete, whole_complete}
 use Rattle.files.proofs.Numerals.{is_number-decimal}
 use Rattle.commit_log.specs.declared.entry.Entry.{Entry}
+use Rattle.requests.specs.TerminalRequest.{requests_of}
 use Rattle.requests.specs.declared.request.Request.{Request}
+use Rattle.requests.specs.declared.request.Request.TheVariants.{NewOrder, Payment, OrderStatus, StockLevel}
+use Rattle.requests.specs.declared.terminal_request.TerminalRequest.{TerminalRequest}
+use Rattle.requests.specs.declared.terminal_request.TerminalRequest.TheVariants as asked
 use Rattle.history.specs.declared.event.Event.TheVariants.{Submit, Order, Take, Send}
 use Rattle.history.specs.declared.schedule.Scheduled.{Scheduled}
 use Rattle.history.specs.declared.schedule.Scheduled.TheVariants as scheduled
@@ -26,18 +30,19 @@ use Rattle.terminals.specs.LogRecord.{IsLogRecord}
 use Rattle.terminals.specs.MoveOrders.{order_fields}
 use Rattle.terminals.specs.Moves.{IsMoveRecord}
 use Rattle.terminals.specs.Numbered.{AreNumbered}
-use Rattle.terminals.specs.ReadLaws.{CanBeRead, CanBeReadEntry, CanBeReadItem, LogsAreRead, MovesAreRead, SchedulesAreRead, ScriptsAreRead}
+use Rattle.terminals.specs.ReadLaws.{CanBeRead, CanBeReadEntry, CanBeReadItem, CanBeReadPart, LogsAreRead, MovesAreRead, SchedulesAreRead, ScriptsAreRead}
 use Rattle.terminals.specs.RecordLaws.{CanBeOrdered, IsWord}
 use Rattle.terminals.specs.ReplyColumns.{after_reply}
-use Rattle.terminals.specs.RequestColumns.{after_request, fault_in, number, request_columns}
-use Rattle.terminals.specs.RequestFields.{IsRequest}
+use Rattle.terminals.specs.RequestColumns.{after_known, after_request, fault_in, number, request_columns, warehouse_delivery_columns}
+use Rattle.terminals.specs.RequestFields.{IsRequest, IsTerminalRequest}
 use Rattle.terminals.specs.Schedule.{IsScheduleRecord}
-use Rattle.terminals.proofs.ColumnsReadBack.{and_read, clean, none_read, number_read, word_is_taken}
+use Rattle.terminals.proofs.ColumnsReadBack.{and_read, clean, moment_is_read, none_read, number_read, word_is_taken}
 use Rattle.files.proofs.Unlike.{other}
 use Rattle.terminals.proofs.FirstFaults.{end_passes, item_passes}
 use Rattle.terminals.proofs.RepliesReadBack.{IsReadReply, reply_is_read}
 use Rattle.terminals.proofs.RequestTexts.{few_fields}
-use Rattle.terminals.proofs.RequestsReadBack.{IsReadRequest, alone_is_read, request_is_read}
+use Rattle.terminals.proofs.RequestsReadBack.{IsReadRequest, alone_is_read, is_delivery, letter_is_read, request_is_read}
+use Rattle.terminals.proofs.ScriptParts.{each_of_records, fewer_records}
 
 -- ---- records
 
@@ -90,13 +95,38 @@ module _ {T : Type 0} (take : ℕ → List ℕ → FieldsView → FieldsView) (I
 
 -- ---- scripts
 
-asked_is_read : (place : ℕ) → IsWord place → (r : Request) → CanBeRead r → (fields : List (List ℕ)) → IsRequest r fields → (fields_fault (λ place. after_asked) place fields ≡ None) × (is_end fields ≡ false)
-asked_is_read place small r can fields is =
-    let request = request_is_read r can fields is in
-    record_is_read (λ place. after_asked) place request.letter request.said fields request.are request.utf8 request.apart (alone_is_read request)
+-- a terminal's request can be read if each request can that it is carried out as
+abbrev CanBeReadAt : TerminalRequest → Type 0
+CanBeReadAt one = AllByRecursion CanBeRead (requests_of one)
+
+-- without the letter of a Delivery, the columns are those of a request
+plain_is_read : (place : ℕ) (fields : List (List ℕ)) (request : IsReadRequest fields) → bytes_eq request.letter (codes "D") ≡ false → (fields_fault (λ place. after_asked) place fields ≡ None) × (is_end fields ≡ false)
+plain_is_read place fields request apart =
+    let t : FieldsView = clean request.said in
+    let count = length request.said + 1 in
+    record_is_read (λ place. after_asked) place request.letter request.said fields request.are request.utf8 request.apart
+    (ap (λ b. after_known (cond b (Some warehouse_delivery_columns) (request_columns count request.letter (length request.said))) t) apart ∙ alone_is_read request)
+
+-- a request that is no Delivery
+request_alone : (place : ℕ) (r : Request) → is_delivery r ≡ false → CanBeRead r → (fields : List (List ℕ)) → IsRequest r fields → (fields_fault (λ place. after_asked) place fields ≡ None) × (is_end fields ≡ false)
+request_alone place r other can fields is = plain_is_read place fields (request_is_read r can fields is) (letter_is_read r can fields is ∙ other)
+
+asked_is_read : (place : ℕ) → IsWord place → (r : TerminalRequest) → CanBeReadAt r → (fields : List (List ℕ)) → IsTerminalRequest r fields → (fields_fault (λ place. after_asked) place fields ≡ None) × (is_end fields ≡ false)
+asked_is_read place small (asked.NewOrder n) can fields is = request_alone place (NewOrder n) refl can.0 fields is
+asked_is_read place small (asked.Payment p) can fields is = request_alone place (Payment p) refl can.0 fields is
+asked_is_read place small (asked.OrderStatus o) can fields is = request_alone place (OrderStatus o) refl can.0 fields is
+asked_is_read place small (asked.Delivery d) can fields is =
+    record_is_read (λ place. after_asked) place (codes "D") (decimal d.w_id ∷ decimal d.carrier_id ∷ is.0 ∷ []) fields is.2 (utf8_words (codes "D") refl) refl
+    ((and_read (number_read d.w_id can.0.0.0.0) (and_read (number_read d.carrier_id can.0.0.1) (and_read (moment_is_read is.0 d.moment is.1 can.0.1) none_read))).are [])
+asked_is_read place small (asked.StockLevel s) can fields is = request_alone place (StockLevel s) refl can.0 fields is
 
 pub scripts_are_read : ScriptsAreRead
-scripts_are_read script small can rows kept is = listing_is_read (λ place. after_asked) (λ place. IsRequest) CanBeRead asked_is_read script small can rows is.0 kept is.1 is.2
+scripts_are_read script small can rows kept is =
+    let records = each_of_records CanBeRead 0 is.0 (subst (AllByRecursion CanBeReadPart) is.1 can) in
+    let long = ap length is.1 in
+    let fewer = fewer_records 0 is.0 in
+    let few : length is.0 < 2 ^ 32 = omega (arith, small, long, fewer) in
+    listing_is_read (λ place. after_asked) (λ place. IsTerminalRequest) CanBeReadAt asked_is_read is.0 few records rows is.2.0 kept is.2.1 is.2.2
 
 -- ---- moves
 

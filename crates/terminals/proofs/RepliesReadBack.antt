@@ -1,7 +1,7 @@
 -- The records of replies are read.
-use Rattle.std.proofs.Common.{◌≡◌, ◌-◌, ◌*◌, ◌/◌, ℕ, List, [], ◌∷◌, ◌++◌, length, flat_map, map, Option, Some, None, IfSome, IsUtf8, codes, refl, sym, ap, subst, ◌∙◌, arith}
+use Rattle.std.proofs.Common.{◌≡◌, ◌-◌, ◌*◌, ◌/◌, ℕ, List, [], ◌∷◌, ◌++◌, length, flat_map, Option, Some, None, IfSome, IsUtf8, codes, refl, sym, ap, subst, ◌∙◌, arith}
 use Rattle.std.specs.Fmt.{decimal, signed_decimal}
-use Rattle.std.specs.List.{AllByRecursion, AllZip}
+use Rattle.std.specs.List.{AllZip}
 use Rattle.std.proofs.lemmas.List.{append-nil, length-append}
 use Rattle.rows.specs.declared.stock_rules.BrandGeneric.{BrandGeneric}
 use Rattle.rows.specs.declared.stock_rules.BrandGeneric.TheVariants.{Brand, Generic}
@@ -105,19 +105,6 @@ status_order_is_read (Some order) fits fields is =
     let all : status_order said ≡ columns ++ repeated (length order.lines) status_columns = there_is_one said some ∙ ap (λ times. columns ++ repeated times status_columns) many in
     subst (λ l. AreRead (status_order l) l) (sym is.4) (subst (λ c. AreRead c said) (sym all) read)
 
--- ---- Deliveries
-
--- several orders of districts
-orders_are_read : (orders : List (Option ℕ)) → AllByRecursion (λ order. IfSome order (IsBetween 1 9999999)) orders → AreRead (repeated (length orders) (MaybeWhole 1 9999999 ∷ [])) (map nullable_text orders)
-orders_are_read orders fits =
-    let one : (order : Option ℕ) → IfSome order (IsBetween 1 9999999) → AreRead (MaybeWhole 1 9999999 ∷ []) (nullable_text order ∷ []) = λ order is. and_read (maybe_whole_is_read 1 9999999 order (omega arith) is) none_read in
-    subst (AreRead (repeated (length orders) (MaybeWhole 1 9999999 ∷ []))) (as_map orders)
-    (each_is_read (MaybeWhole 1 9999999 ∷ []) (λ order. nullable_text order ∷ []) (λ order. IfSome order (IsBetween 1 9999999)) one orders fits)
-  where
-    as_map : (orders : List (Option ℕ)) → flat_map (λ order. nullable_text order ∷ []) orders ≡ map nullable_text orders
-    as_map [] = refl
-    as_map (order ∷ orders) = ap (λ l. nullable_text order ∷ l) (as_map orders)
-
 -- ---- what is shown
 
 shown_is_read : (s : Shown) → FitsShown s → (fields : List (List ℕ)) → IsShown s fields → IsReadReply fields
@@ -163,15 +150,13 @@ shown_is_read (shown.OrderStatus o) fits fields is =
       read = alone (number ∷ Words 16 ∷ Words 2 ∷ Words 16 ∷ Cents ∷ status_order order) said all;
     }
 shown_is_read (shown.Delivery d) fits fields is =
-    let orders : AreRead (repeated 10 (MaybeWhole 1 9999999 ∷ [])) (map nullable_text d.orders) =
-    subst (λ times. AreRead (repeated times (MaybeWhole 1 9999999 ∷ [])) (map nullable_text d.orders)) fits.1 (orders_are_read d.orders fits.2) in
-    let said : List (List ℕ) = decimal d.carrier_id ∷ map nullable_text d.orders in
     record {
       letter = codes "D";
-      said = said;
+      said = decimal d.d_id ∷ decimal d.carrier_id ∷ nullable_text d.order ∷ [];
       are = is;
       utf8 = utf8_words (codes "D") refl;
-      read = alone (Whole 1 10 ∷ repeated 10 (MaybeWhole 1 9999999 ∷ [])) said (and_read (whole_is_read 1 10 d.carrier_id (omega arith) fits.0.0 fits.0.1) orders);
+      read = (and_read (whole_is_read 1 10 d.d_id (omega arith) fits.0.0 fits.0.1) (and_read (whole_is_read 1 10 d.carrier_id (omega arith) fits.1.0 fits.1.1)
+          (and_read (maybe_whole_is_read 1 9999999 d.order (omega arith) fits.2) none_read))).are [];
     }
 shown_is_read (shown.StockLevel s) fits fields is =
     record {

@@ -1,5 +1,5 @@
 -- The fields of a reply determine it.
-use Rattle.std.proofs.Common.{◌≡◌, ◌<◌, ◌^◌, ℕ, List, [], ◌∷◌, ◌++◌, length, get_or, flat_map, map, Option, Some, None, IfSome, refl, sym, ap, subst, ◌∙◌, arith}
+use Rattle.std.proofs.Common.{◌≡◌, ◌<◌, ◌^◌, ℕ, List, [], ◌∷◌, ◌++◌, length, get_or, flat_map, Option, Some, None, IfSome, refl, sym, ap, subst, ◌∙◌, arith}
 use Rattle.std.specs.Prelude.{ℤ}
 use Rattle.std.specs.Fmt.{decimal, signed_decimal}
 use Rattle.std.specs.List.{AllByRecursion, AllZip}
@@ -69,17 +69,6 @@ same_nullable None None x y e = refl
 same_nullable None (Some n) x y e = absurd (no_digits n y (sym e))
 same_nullable (Some m) None x y e = absurd (no_digits m x e)
 same_nullable (Some m) (Some n) x y e = ap Some (same_word m n x y e)
-
-same_nullables : (xs ys : List (Option ℕ)) → AllByRecursion (λ order. IfSome order IsWord) xs → AllByRecursion (λ order. IfSome order IsWord) ys → map nullable_text xs ≡ map nullable_text ys → xs ≡ ys
-same_nullables [] [] p q e = refl
-same_nullables [] (y ∷ ys) p q e = absurd cc
-same_nullables (x ∷ xs) [] p q e = absurd cc
-same_nullables (x ∷ xs) (y ∷ ys) p q e =
-    let one : nullable_text x ≡ nullable_text y = cc in
-    let more : map nullable_text xs ≡ map nullable_text ys = cc in
-    let first = same_nullable x y p.0 q.0 one in
-    let rest = same_nullables xs ys p.1 q.1 more in
-    λ i. first i ∷ rest i
 
 same_nullable_date : (one other : List ℕ) (a b : Option ℕ) → one ≡ other → IsNullableMoment one a → IsNullableMoment other b → a ≡ b
 same_nullable_date one other None None e x y = refl
@@ -285,11 +274,13 @@ same_status_shown a b x y fields s r =
 
 same_delivery_shown : (a b : DeliveryReply) → CanBeShown (Delivery a) → CanBeShown (Delivery b) → delivery_reply_fields a ≡ delivery_reply_fields b → a ≡ b
 same_delivery_shown a b x y e =
+    let d : decimal a.d_id ≡ decimal b.d_id = cc in
     let c : decimal a.carrier_id ≡ decimal b.carrier_id = cc in
-    let o : map nullable_text a.orders ≡ map nullable_text b.orders = cc in
-    let carrier_id = same_word a.carrier_id b.carrier_id x.0 y.0 c in
-    let orders = same_nullables a.orders b.orders x.1 y.1 o in
-    λ i. record { carrier_id = carrier_id i; orders = orders i }
+    let o : nullable_text a.order ≡ nullable_text b.order = cc in
+    let d_id = same_word a.d_id b.d_id x.0 y.0 d in
+    let carrier_id = same_word a.carrier_id b.carrier_id x.1 y.1 c in
+    let order = same_nullable a.order b.order x.2 y.2 o in
+    λ i. record { d_id = d_id i; carrier_id = carrier_id i; order = order i }
 
 same_level_shown : (a b : StockLevelReply) → CanBeShown (StockLevel a) → CanBeShown (StockLevel b) → stock_level_reply_fields a ≡ stock_level_reply_fields b → a ≡ b
 same_level_shown a b x y e =

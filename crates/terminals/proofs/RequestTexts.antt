@@ -14,13 +14,17 @@ use Rattle.requests.specs.declared.payment.Payment.{Payment as APayment}
 use Rattle.requests.specs.declared.order_status.OrderStatus.{OrderStatus as AStatus}
 use Rattle.requests.specs.declared.delivery.Delivery.{Delivery as ADelivery}
 use Rattle.requests.specs.declared.stock_level.StockLevel.{StockLevel as ALevel}
+use Rattle.requests.specs.declared.terminal_request.TerminalRequest.{TerminalRequest}
+use Rattle.requests.specs.declared.terminal_request.TerminalRequest.TheVariants as asked
+use Rattle.requests.specs.declared.terminal_request.WarehouseDelivery.{WarehouseDelivery}
+use Rattle.requests.specs.TerminalRequest.{requests_of}
 use Rattle.terminals.specs.ChoiceText.{choice_text}
 use Rattle.terminals.specs.NewOrder.{IsNewOrder, ordered_line_fields, new_order_fields}
 use Rattle.terminals.specs.Payment.{IsPayment, payment_fields}
 use Rattle.terminals.specs.OrderStatus.{IsOrderStatus}
-use Rattle.terminals.specs.Delivery.{IsDelivery, delivery_fields}
+use Rattle.terminals.specs.Delivery.{IsDelivery, IsWarehouseDelivery, delivery_fields, warehouse_delivery_fields}
 use Rattle.terminals.specs.StockLevel.{stock_level_fields}
-use Rattle.terminals.specs.RequestFields.{IsRequest}
+use Rattle.terminals.specs.RequestFields.{IsRequest, IsTerminalRequest}
 use Rattle.terminals.specs.RecordLaws.{CanBeAsked, IsDistrictKey, IsOrderedLine, IsWord}
 use Rattle.terminals.proofs.Choices.{choice_texts_differ}
 use Rattle.terminals.proofs.OrderedLines.{lines-count}
@@ -131,13 +135,14 @@ same_status a b x y fields s r =
 same_delivery : (a b : ADelivery) → CanBeAsked (Delivery a) → CanBeAsked (Delivery b) → (fields : List (List ℕ)) → IsDelivery a fields → IsDelivery b fields → a ≡ b
 same_delivery a b x y fields s r =
     let e : delivery_fields a s.0 ≡ delivery_fields b r.0 = sym s.2 ∙ r.2 in
-    let w : decimal a.w_id ≡ decimal b.w_id = cc in
+    let w : decimal a.home.w_id ≡ decimal b.home.w_id = cc in
+    let d : decimal a.home.d_id ≡ decimal b.home.d_id = cc in
     let c : decimal a.carrier_id ≡ decimal b.carrier_id = cc in
     let m : s.0 ≡ r.0 = cc in
-    let w_id = same_word a.w_id b.w_id x.0 y.0 w in
+    let home = same_key a.home b.home x.0 y.0 w d in
     let carrier_id = same_word a.carrier_id b.carrier_id x.1 y.1 c in
     let moment = same_date s.0 r.0 a.moment b.moment m s.1 r.1 in
-    λ i. record { w_id = w_id i; carrier_id = carrier_id i; moment = moment i }
+    λ i. record { home = home i; carrier_id = carrier_id i; moment = moment i }
 
 same_level : (a b : ALevel) → CanBeAsked (StockLevel a) → CanBeAsked (StockLevel b) → stock_level_fields a ≡ stock_level_fields b → a ≡ b
 same_level a b x y e =
@@ -160,6 +165,50 @@ same_request a b x y fields s r =
     let clash : letter_of a ≡ letter_of b = sym (letter_is a fields s) ∙ letter_is b fields r in
     absurd (omega arith)
 
+-- ---- what a terminal asks for
+
+-- it can be asked for: each request that it is carried out as can be
+abbrev pub CanBeAskedAt : TerminalRequest → Type 0
+CanBeAskedAt one = AllByRecursion CanBeAsked (requests_of one)
+
+same_warehouse_delivery : (a b : WarehouseDelivery) → CanBeAskedAt (asked.Delivery a) → CanBeAskedAt (asked.Delivery b) → (fields : List (List ℕ)) → IsWarehouseDelivery a fields → IsWarehouseDelivery b fields → a ≡ b
+same_warehouse_delivery a b x y fields s r =
+    let e : warehouse_delivery_fields a s.0 ≡ warehouse_delivery_fields b r.0 = sym s.2 ∙ r.2 in
+    let w : decimal a.w_id ≡ decimal b.w_id = cc in
+    let c : decimal a.carrier_id ≡ decimal b.carrier_id = cc in
+    let m : s.0 ≡ r.0 = cc in
+    let w_id = same_word a.w_id b.w_id x.0.0.0 y.0.0.0 w in
+    let carrier_id = same_word a.carrier_id b.carrier_id x.0.1 y.0.1 c in
+    let moment = same_date s.0 r.0 a.moment b.moment m s.1 r.1 in
+    λ i. record { w_id = w_id i; carrier_id = carrier_id i; moment = moment i }
+
+-- the letter of its kind
+abbrev asked_letter : TerminalRequest → ℕ
+asked_letter (asked.NewOrder n) = 78
+asked_letter (asked.Payment p) = 80
+asked_letter (asked.OrderStatus o) = 79
+asked_letter (asked.Delivery d) = 68
+asked_letter (asked.StockLevel s) = 76
+
+asked_letter_is : (r : TerminalRequest) (fields : List (List ℕ)) → IsTerminalRequest r fields → letter fields ≡ asked_letter r
+asked_letter_is (asked.NewOrder n) fields is = ap letter is.2
+asked_letter_is (asked.Payment p) fields is = ap letter is.2
+asked_letter_is (asked.OrderStatus o) fields is = ap letter is
+asked_letter_is (asked.Delivery d) fields is = ap letter is.2
+asked_letter_is (asked.StockLevel s) fields is = ap letter is
+
+pub same_terminal : (a b : TerminalRequest) → CanBeAskedAt a → CanBeAskedAt b → (fields : List (List ℕ)) → IsTerminalRequest a fields → IsTerminalRequest b fields → a ≡ b
+same_terminal (asked.NewOrder a) (asked.NewOrder b) x y fields s r = ap asked.NewOrder (same_order a b x.0 y.0 fields s r)
+same_terminal (asked.Payment a) (asked.Payment b) x y fields s r = ap asked.Payment (same_payment a b x.0 y.0 fields s r)
+same_terminal (asked.OrderStatus a) (asked.OrderStatus b) x y fields s r = ap asked.OrderStatus (same_status a b x.0 y.0 fields s r)
+same_terminal (asked.Delivery a) (asked.Delivery b) x y fields s r = ap asked.Delivery (same_warehouse_delivery a b x y fields s r)
+same_terminal (asked.StockLevel a) (asked.StockLevel b) x y fields s r = ap asked.StockLevel (same_level a b x.0 y.0 (sym s ∙ r))
+same_terminal a b x y fields s r =
+    let clash : asked_letter a ≡ asked_letter b = sym (asked_letter_is a fields s) ∙ asked_letter_is b fields r in
+    absurd (omega arith)
+
+-- ---- lengths
+
 -- a request has few fields
 pub few_fields : (r : Request) → CanBeAsked r → (fields : List (List ℕ)) → IsRequest r fields → length fields < 2 ^ 64
 few_fields (NewOrder n) can fields is =
@@ -167,5 +216,5 @@ few_fields (NewOrder n) can fields is =
     omega (arith, lines-count n.lines, can.2)
 few_fields (Payment p) can fields is = let count : length fields ≡ 8 = ap length is.2 in omega arith
 few_fields (OrderStatus o) can fields is = let count : length fields ≡ 4 = ap length is in omega arith
-few_fields (Delivery d) can fields is = let count : length fields ≡ 4 = ap length is.2 in omega arith
+few_fields (Delivery d) can fields is = let count : length fields ≡ 5 = ap length is.2 in omega arith
 few_fields (StockLevel s) can fields is = let count : length fields ≡ 4 = ap length is in omega arith

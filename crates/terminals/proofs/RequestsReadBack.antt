@@ -1,5 +1,5 @@
 -- The records of requests are read.
-use Rattle.std.proofs.Common.{◌≡◌, ◌+◌, ◌-◌, ℕ, List, [], ◌∷◌, ◌++◌, length, flat_map, false, Some, IsUtf8, codes, refl, sym, ap, ◌∙◌, arith}
+use Rattle.std.proofs.Common.{◌≡◌, ◌+◌, ◌-◌, ℕ, List, [], ◌∷◌, ◌++◌, length, flat_map, Bool, true, false, Some, IsUtf8, codes, refl, sym, ap, ◌∙◌, arith}
 use Rattle.std.specs.Fmt.{decimal}
 use Rattle.std.specs.Str.{bytes_eq}
 use Rattle.std.proofs.lemmas.List.{append-nil, length-append}
@@ -86,14 +86,14 @@ request_is_read (OrderStatus o) can fields is =
 request_is_read (Delivery d) can fields is =
     record {
       letter = codes "D";
-      said = decimal d.w_id ∷ decimal d.carrier_id ∷ is.0 ∷ [];
+      said = decimal d.home.w_id ∷ decimal d.home.d_id ∷ decimal d.carrier_id ∷ is.0 ∷ [];
       are = is.2;
       utf8 = utf8_words (codes "D") refl;
       apart = refl;
       columns = delivery_columns;
       known = λ rest. refl;
       long = refl;
-      read = and_read (number_read d.w_id can.0.0) (and_read (number_read d.carrier_id can.0.1) (and_read (moment_is_read is.0 d.moment is.1 can.1) none_read));
+      read = and_read (number_read d.home.w_id can.0.0.0) (and_read (number_read d.home.d_id can.0.0.1) (and_read (number_read d.carrier_id can.0.1) (and_read (moment_is_read is.0 d.moment is.1 can.1) none_read)));
     }
 request_is_read (StockLevel s) can fields is =
     record {
@@ -107,6 +107,23 @@ request_is_read (StockLevel s) can fields is =
       long = refl;
       read = and_read (number_read s.home.w_id can.0.0.0) (and_read (number_read s.home.d_id can.0.0.1) (and_read (number_read s.threshold can.0.1) none_read));
     }
+
+-- whether it is a Delivery
+abbrev pub is_delivery : Request → Bool
+is_delivery (NewOrder n) = false
+is_delivery (Payment p) = false
+is_delivery (OrderStatus o) = false
+is_delivery (Delivery d) = true
+is_delivery (StockLevel s) = false
+
+-- no other letter is that of a Delivery
+pub letter_is_read : (r : Request) (can : CanBeRead r) (fields : List (List ℕ)) (is : IsRequest r fields) → bytes_eq (request_is_read r can fields is).letter (codes "D") ≡ is_delivery r
+unfolding request_is_read
+letter_is_read (NewOrder n) can fields is = refl
+letter_is_read (Payment p) can fields is = refl
+letter_is_read (OrderStatus o) can fields is = refl
+letter_is_read (Delivery d) can fields is = refl
+letter_is_read (StockLevel s) can fields is = refl
 
 -- a request with nothing behind it
 pub alone_is_read : {fields : List (List ℕ)} (r : IsReadRequest fields) → after_request (length r.said + 1) r.letter (clean r.said) ≡ clean []

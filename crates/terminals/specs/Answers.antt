@@ -8,6 +8,7 @@ use Rattle.requests.specs.declared.answer.Answer.{Answer}
 use Rattle.requests.specs.declared.answer.Answer.TheVariants.{Done, Refused}
 use Rattle.requests.specs.declared.refusal.Refusal.{Refusal}
 use Rattle.requests.specs.declared.refusal.Refusal.TheVariants.{Died}
+use Rattle.requests.specs.declared.script.Part.{Part}
 use Rattle.terminals.specs.Numbered.{AreNumbered}
 use Rattle.terminals.specs.ReplyFields.{IsReply}
 
@@ -34,9 +35,14 @@ IsAnswerIn log session number (Ok place) fields =
     (entry : Entry) × (slice_get log place ≡ Some entry) × IsAnswer session number (Done place entry.reply) fields
 IsAnswerIn log session number (Err refusal) fields = IsAnswer session number (Refused refusal) fields
 
--- The records of a session's answers in this log. The first answers request number 0.
-abbrev pub AreAnswers : List Entry → ℕ → List (Result ℕ Refusal) → List (List (List ℕ)) → Type 0
-AreAnswers log session answers rows = AreNumbered (IsAnswerIn log session) 0 answers rows
+-- These are the fields of the answer to the part at this place of a session's script. They have the part's number.
+abbrev pub IsAnswerAt : List Entry → ℕ → List Part → ℕ → Result ℕ Refusal → List (List ℕ) → Type 0
+IsAnswerAt log session script place answer fields =
+    (part : Part) × (slice_get script place ≡ Some part) × IsAnswerIn log session part.number answer fields
+
+-- The records of the answers to a session's script in this log, in the order of its parts.
+abbrev pub AreAnswers : List Entry → ℕ → List Part → List (Result ℕ Refusal) → List (List (List ℕ)) → Type 0
+AreAnswers log session script answers rows = AreNumbered (IsAnswerAt log session script) 0 answers rows
 
 -- The log has an entry at each place that is an answer.
 abbrev pub AreInLog : List Entry → List (Result ℕ Refusal) → Type 0

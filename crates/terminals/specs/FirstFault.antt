@@ -12,7 +12,7 @@ use Rattle.files.specs.declared.fault.FileError.{FileError}
 use Rattle.files.specs.declared.records.Records.{Records}
 use Rattle.requests.specs.declared.request.Request.{Request}
 use Rattle.terminals.specs.ReplyColumns.{after_reply}
-use Rattle.terminals.specs.RequestColumns.{fault_in, number, repeated, request_columns, after_request}
+use Rattle.terminals.specs.RequestColumns.{fault_in, number, repeated, request_columns, terminal_columns, after_known, after_request}
 
 -- ---- what has been read of a record once the fields after its first one are taken
 
@@ -20,9 +20,9 @@ use Rattle.terminals.specs.RequestColumns.{fault_in, number, repeated, request_c
 abbrev pub after_move : List ℕ → FieldsView → FieldsView
 after_move lo t = take_columns (number ∷ number ∷ []) (found (fault_in (whole_read 0 4294967295 lo)) t)
 
--- A record of a script: the first field is a request's letter.
+-- A record of a script: the first field is the letter of what a terminal asks for.
 abbrev pub after_asked : List ℕ → FieldsView → FieldsView
-after_asked letter t = after_request (length t.left + 1) letter t
+after_asked letter t = after_known (terminal_columns (length t.left + 1) letter (length t.left)) t
 
 -- A record of a schedule: a session, a number and a request; or a move; or an executor that takes or sends; or rounds.
 abbrev pub after_submit : FieldsView → FieldsView

@@ -10,6 +10,7 @@ use Rattle.requests.specs.declared.request.Choice.{Choice}
 use Rattle.requests.specs.declared.request.Choice.TheVariants.{Number, LastName}
 use Rattle.requests.specs.declared.request.Request.{Request}
 use Rattle.requests.specs.declared.request.Request.TheVariants as request
+use Rattle.requests.specs.declared.script.Part.{Part}
 use Rattle.requests.specs.declared.new_order.NewOrderLine.{NewOrderLine}
 use Rattle.requests.specs.declared.order_status.StatusLine.{StatusLine}
 use Rattle.requests.specs.declared.order_status.StatusOrder.{StatusOrder}
@@ -53,6 +54,10 @@ Fits (request.StockLevel s) = Unit {0}
 abbrev pub CanBeRead : Request → Type 0
 CanBeRead r = CanBeAsked r × Fits r
 
+-- A part of a script that can be read.
+abbrev pub CanBeReadPart : Part → Type 0
+CanBeReadPart part = CanBeRead part.request
+
 -- An item of a schedule that can be read.
 abbrev pub CanBeReadEvent : Event → Type 0
 CanBeReadEvent (Submit session number request) = IsWord session × IsWord number × CanBeRead request
@@ -80,7 +85,7 @@ abbrev pub FitsStatusOrder : StatusOrder → Type 0
 FitsStatusOrder order =
     IsBetween 1 9999999 order.o_id × IsMoment order.entry_d × IfSome order.carrier_id (IsBetween 1 10) × AllByRecursion FitsStatusLine order.lines
 
--- The ranges of everything that is shown, and the numbers of lines and orders.
+-- The ranges of everything that is shown, and the number of lines.
 abbrev pub FitsShown : Shown → Type 0
 FitsShown (shown.NewOrder n) =
     IsText 16 n.last × IsBetween 0 9999 n.discount × IsBetween 0 9999 n.warehouse_tax × IsBetween 0 9999 n.district_tax × IsBetween 1 9999999 n.o_id
@@ -89,8 +94,7 @@ FitsShown (shown.Payment p) =
     IsWord p.c_id × IsText 16 p.first × IsText 2 p.middle × IsText 16 p.last × IsBetween 0 9999 p.discount × IsMoney p.balance × IsText 200 p.data
 FitsShown (shown.OrderStatus o) =
     IsWord o.c_id × IsText 16 o.first × IsText 2 o.middle × IsText 16 o.last × IsMoney o.balance × IfSome o.order FitsStatusOrder
-FitsShown (shown.Delivery d) =
-    IsBetween 1 10 d.carrier_id × (length d.orders ≡ 10) × AllByRecursion (λ order. IfSome order (IsBetween 1 9999999)) d.orders
+FitsShown (shown.Delivery d) = IsBetween 1 10 d.d_id × IsBetween 1 10 d.carrier_id × IfSome d.order (IsBetween 1 9999999)
 FitsShown (shown.StockLevel s) = IsWord s.count
 
 -- The ranges of the reason of a rollback.
@@ -112,7 +116,7 @@ CanBeReadEntry entry = IsWord entry.session × IsWord entry.number × CanBeRead 
 
 abbrev pub ScriptsAreRead : Type 0
 ScriptsAreRead =
-    (script : List Request) → length script < 2 ^ 32 → AllByRecursion CanBeRead script
+    (script : List Part) → length script < 2 ^ 32 → AllByRecursion CanBeReadPart script
     → (rows : List (List (List ℕ))) → AllByRecursion IsKept rows → IsScript script rows → script_fault rows ≡ None
 
 abbrev pub MovesAreRead : Type 0

@@ -5,6 +5,7 @@ use Rattle.amounts.specs.Money.{IsMoney}
 use Rattle.rows.specs.declared.keys.DistrictKey.{DistrictKey}
 use Rattle.requests.specs.declared.request.Request.{Request}
 use Rattle.requests.specs.declared.request.Request.TheVariants as request
+use Rattle.requests.specs.declared.script.Part.{Part}
 use Rattle.requests.specs.declared.new_order.OrderedLine.{OrderedLine}
 use Rattle.requests.specs.declared.new_order.NewOrderLine.{NewOrderLine}
 use Rattle.requests.specs.declared.order_status.StatusLine.{StatusLine}
@@ -46,8 +47,12 @@ abbrev pub CanBeAsked : Request → Type 0
 CanBeAsked (request.NewOrder n) = IsDistrictKey n.home × IsWord n.c_id × IsWord (length n.lines) × AllByRecursion IsOrderedLine n.lines
 CanBeAsked (request.Payment p) = IsDistrictKey p.home × IsDistrictKey p.customer_home × IsChoice p.customer × IsWord p.amount
 CanBeAsked (request.OrderStatus o) = IsDistrictKey o.home × IsChoice o.customer
-CanBeAsked (request.Delivery d) = IsWord d.w_id × IsWord d.carrier_id
+CanBeAsked (request.Delivery d) = IsDistrictKey d.home × IsWord d.carrier_id
 CanBeAsked (request.StockLevel s) = IsDistrictKey s.home × IsWord s.threshold
+
+-- A possible part of a script.
+abbrev pub CanBePart : Part → Type 0
+CanBePart part = CanBeAsked part.request
 
 -- A line of an order, as a New-Order shows it.
 abbrev pub IsShownLine : NewOrderLine → Type 0
@@ -68,7 +73,7 @@ CanBeShown (shown.NewOrder n) =
     IsWord n.discount × IsWord n.warehouse_tax × IsWord n.district_tax × IsWord n.o_id × IsMoney n.total × AllByRecursion IsShownLine n.lines
 CanBeShown (shown.Payment p) = IsWord p.c_id × IsWord p.discount × IsMoney p.balance
 CanBeShown (shown.OrderStatus o) = IsWord o.c_id × IsMoney o.balance × IfSome o.order IsOrderOfStatus
-CanBeShown (shown.Delivery d) = IsWord d.carrier_id × AllByRecursion (λ order. IfSome order IsWord) d.orders
+CanBeShown (shown.Delivery d) = IsWord d.d_id × IsWord d.carrier_id × IfSome d.order IsWord
 CanBeShown (shown.StockLevel s) = IsWord s.count
 
 -- A possible reason of a rollback.
@@ -107,7 +112,7 @@ CanBeScheduled scheduled.Rounds = Unit {0}
 -- Different scripts have different records.
 abbrev pub ScriptsDiffer : Type 0
 ScriptsDiffer =
-    (one other : List Request) → AllByRecursion CanBeAsked one → AllByRecursion CanBeAsked other
+    (one other : List Part) → AllByRecursion CanBePart one → AllByRecursion CanBePart other
     → (rows : List (List (List ℕ))) → IsScript one rows → IsScript other rows → one ≡ other
 
 -- Different lists of moves have different records.

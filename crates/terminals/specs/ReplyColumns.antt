@@ -57,9 +57,9 @@ status_order fields = (Whole 1 9999999 ∷ Moment ∷ MaybeWhole 1 10 ∷ []) ++
 abbrev pub order_status_shown : List (List ℕ) → List Column
 order_status_shown fields = (number ∷ Words 16 ∷ Words 2 ∷ Words 16 ∷ Cents ∷ []) ++ status_order (drop 5 fields)
 
--- What a Delivery shows: O_CARRIER_ID, and for each district the order, if there was one.
+-- What a Delivery shows: D_ID, O_CARRIER_ID, and the order, if there was one.
 abbrev pub delivery_shown : List Column
-delivery_shown = Whole 1 10 ∷ repeated 10 (MaybeWhole 1 9999999 ∷ [])
+delivery_shown = Whole 1 10 ∷ Whole 1 10 ∷ MaybeWhole 1 9999999 ∷ []
 
 -- What a Stock-Level shows.
 abbrev pub stock_level_shown : List Column

@@ -53,7 +53,11 @@ abbrev pub order_status_columns : List Column
 order_status_columns = number ∷ number ∷ choice ∷ []
 
 abbrev pub delivery_columns : List Column
-delivery_columns = number ∷ number ∷ Moment ∷ []
+delivery_columns = number ∷ number ∷ number ∷ Moment ∷ []
+
+-- A Delivery of a warehouse names no district.
+abbrev pub warehouse_delivery_columns : List Column
+warehouse_delivery_columns = number ∷ number ∷ Moment ∷ []
 
 abbrev pub stock_level_columns : List Column
 stock_level_columns = number ∷ number ∷ number ∷ []
@@ -67,6 +71,11 @@ request_columns count letter left =
     else (if bytes_eq letter (codes "O") then Some order_status_columns
     else (if bytes_eq letter (codes "D") then Some delivery_columns
     else (if bytes_eq letter (codes "L") then Some stock_level_columns else None))))
+
+-- The same of what a terminal asks for, in a script. A Delivery is of a warehouse.
+abbrev pub terminal_columns : ℕ → List ℕ → ℕ → Option (List Column)
+terminal_columns count letter left =
+    if bytes_eq letter (codes "D") then Some warehouse_delivery_columns else request_columns count letter left
 
 -- What has been read of a record once these columns are taken. An unknown letter has no columns and is a wrong shape.
 abbrev pub after_known : Option (List Column) → FieldsView → FieldsView
@@ -82,7 +91,7 @@ abbrev pub request_size : Request → ℕ
 request_size (NewOrder n) = 5 + 3 * length n.lines
 request_size (Payment p) = 8
 request_size (OrderStatus o) = 4
-request_size (Delivery d) = 4
+request_size (Delivery d) = 5
 request_size (StockLevel s) = 4
 
 -- A request has these columns after its letter. No request was taken if there are none.

@@ -10,7 +10,7 @@ use crate::reply;
 use commit_log::Entry;
 use csv::ByteRecord;
 use files::{FileError, NewRecord, RecordWriter};
-use requests::{Answer, Refusal, Reply};
+use requests::{Answer, Part, Refusal, Reply};
 use schema::NoMemory;
 use std::alloc::Global;
 use std::io::Write;
@@ -29,8 +29,8 @@ pub fn answer_record(
     Ok(row.into_byte_record())
 }
 
-/// Writes the records of a session's answers to the sink, in the order of the requests. `Ok` is the place of the entry in the
-/// log, whose reply is written; `Err` is why the request was refused.
+/// Writes the records of the answers to a session's script to the sink, in the order of its parts. `Ok` is the place of the entry
+/// in the log, whose reply is written; `Err` is why the request was refused.
 ///
 /// Returns NoMemory if there is no memory for a record. Returns Failed if the sink fails, with the number of the current
 /// record, 0 if there is none; because records are buffered, what was not written may be of an earlier record. After an error
@@ -39,21 +39,24 @@ pub fn write_answers<W: Write>(
     alloc: Global,
     sink: &mut W,
     session: u32,
+    script: &[Part],
     answers: &[Result<u32, Refusal>],
     log: &[Entry],
 ) -> Result<(), FileError>
-    requires { AreInLog log.now answers.now }
+    requires each { length answers.now ≡ length script.now }
+    requires placed { AreInLog log.now answers.now }
     ensures written { OnOk result (Writes (W.contents sink.old) (W.contents sink.new)
-        (AreAnswers log.now session answers.now)) }
+        (AreAnswers log.now session script.now answers.now)) }
     ensures begun { OnErr result (BeginsToWrite (W.contents sink.old) (W.contents sink.new)
-        (OfFirst (AreAnswers log.now session) answers.now)) }
+        (OfFirst (AreAnswers log.now session script.now) answers.now)) }
     ensures failed { IfErr result IsOfWriting }
 {
     let mut writer = RecordWriter::new(alloc);
     let mut row = NewRecord::new(alloc);
-    for (number, answer) in answers.iter().enumerate() {
+    for (place, answer) in answers.iter().enumerate() {
+        let number = script[place].number;
         row.clear();
-        put_answer_in(&mut row, session, number as u64, answer, log)?;
+        put_answer_in(&mut row, session, u64::from(number), answer, log)?;
         writer.write(sink, &row)?;
     }
     writer.finish(sink)

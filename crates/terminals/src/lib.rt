@@ -4,12 +4,13 @@
 //! All of them are CSV without a header row. Each record ends with one line feed. Numbers are decimal digits without leading
 //! zeros, with `-` before a negative one.
 //!
-//! A script has one record for each request, and then `END,n` with the number of requests. The number of a request is its place
-//! from 0. A New-Order is `N,w,d,c,moment`: the warehouse, the district and C_ID of the customer, and O_ENTRY_D; then
+//! A script has one record for each request of the terminal, and then `END,n` with the number of these records. The number of a
+//! record is its place from 0. A New-Order is `N,w,d,c,moment`: the warehouse, the district and C_ID of the customer, and O_ENTRY_D; then
 //! `item,supply,quantity` for each of 0 to 64 lines. A payment is `P,w,d,cw,cd,who,amount,moment`: the home warehouse and
 //! district, those of the customer, the customer (`#` and C_ID, or C_LAST), H_AMOUNT in cents, and H_DATE. An Order-Status is
 //! `O,w,d,who`: the customer's warehouse and district, and the customer. A Delivery is `D,w,carrier,moment`, with O_CARRIER_ID
-//! and OL_DELIVERY_D. A Stock-Level is `L,w,d,threshold`.
+//! and OL_DELIVERY_D; it stands for ten Deliveries, of districts 1 to 10, which have its number. A Stock-Level is
+//! `L,w,d,threshold`. In schedules and in logs requests have the same fields, but a Delivery is `D,w,d,carrier,moment`.
 //!
 //! An answer is `session,number,done,place` and the reply's fields, or `session,number,refused,code`, with the group and the
 //! holder's age after code 11. A log has the record `place,session,number,k` for each entry, followed by the `k` fields of the
@@ -23,9 +24,9 @@
 //! OL_NUMBER, `item,supply,quantity,amount,delivery`. Null is the empty field. If the customer has no order, the three fields
 //! of the order are empty and no line follows.
 //!
-//! The reply to a Delivery is `D,carrier` and, for each of the districts 1 to 10, the number of the delivered order or the
-//! empty field. The reply to a Stock-Level is `L,count`. A rollback is `X,nocustomer`, `X,range`, or
-//! `X,noitem,last,credit,o_id`, with the number that the order would have had, 1 to 10,000,000.
+//! The reply to a Delivery is `D,d,carrier,order`: the district, the carrier, and the number of the delivered order or the empty
+//! field. The reply to a Stock-Level is `L,count`. A rollback is `X,nocustomer`, `X,range`, or `X,noitem,last,credit,o_id`, with
+//! the number that the order would have had, 1 to 10,000,000.
 //!
 //! A file of moves has the record `lo,hi,to` for each move, and then `END,n` with the number of moves. The warehouses from
 //! number `lo` to number `hi` go to executor `to`.

@@ -4,39 +4,14 @@ ghost use Rattle.files.specs.FieldRead.{fields_view};
 ghost use Rattle.files.specs.Taken.{fault_of, fields_left, TakesAll, Takes};
 ghost use Rattle.files.specs.Written.{AddsFields};
 ghost use Rattle.files.specs.Columns.{TakesColumns};
-ghost use Rattle.terminals.specs.FirstFault.{after_asked};
 ghost use Rattle.terminals.specs.RequestColumns.{after_request, number, request_columns, request_size, HasColumns};
 ghost use Rattle.terminals.specs.RequestFields.{IsRequest};
 
-use crate::listing::{Listed, WrittenRecord};
 use crate::{delivery, new_order, order_status, payment, stock_level};
 use files::{FaultKind, Fields, NewRecord};
 use requests::Request;
 use schema::{DistrictKey, NoMemory};
 use std::alloc::Global;
-
-impl Listed for Request {
-    ghost is_record = { λ place. IsRequest };
-
-    ghost after = { λ place. after_asked };
-
-    fn take(
-        alloc: Global,
-        _place: u64,
-        letter: &str,
-        fields: &mut Fields,
-    ) -> Result<Option<Request>, NoMemory> {
-        take(alloc, fields.left() as u64 + 1, letter, fields)
-    }
-}
-
-impl WrittenRecord for Request {
-    ghost is_record = { λ place. IsRequest };
-
-    fn put(&self, _place: u64, row: &mut NewRecord) -> Result<(), NoMemory> {
-        put(row, self)
-    }
-}
 
 /// Takes the fields of a request after its letter. `count` is the number of fields it should have, including the letter; it
 /// determines the number of an order's lines. Returns `None` if the letter is unknown, with the fault `WrongShape`. Only the

@@ -10,7 +10,7 @@ use Rattle.dataset.specs.FirstFault.{IsFaultOf}
 use Rattle.dataset.specs.Records.{AreRecords}
 use Rattle.engine.specs.Faults.{AreWithin, IsFirstBad}
 use Rattle.range_moves.specs.declared.order.MoveOrder.{MoveOrder}
-use Rattle.requests.specs.declared.request.Request.{Request}
+use Rattle.requests.specs.declared.script.Part.{Part}
 use Rattle.terminals.specs.FirstFault.{log_fault, moves_fault, schedule_fault, script_fault}
 use Rattle.terminals.specs.Script.{IsScript}
 use Rattle.history.specs.declared.schedule.Scheduled.{Scheduled}
@@ -59,7 +59,7 @@ IsOfReplaying s «data» log of =
 module _ {S : Type 0} (remaining : S → Option (List ℕ)) (lasts : S → Type 0) where
   -- each of the sources gives a script
   abbrev pub GiveScripts : List S → Type 0
-  GiveScripts sources = (scripts : List (List Request)) × AllZip (λ source script. Gives source (IsScript script)) (map remaining sources) scripts
+  GiveScripts sources = (scripts : List (List Part)) × AllZip (λ source script. Gives source (IsScript script)) (map remaining sources) scripts
 
   -- a fault of one of the scripts of these paths, and the sources before it give scripts
   pub record IsOfScripts (paths : List (Bor (List ℕ))) (sources : List S) (of : CommandFault) : Type 0 where

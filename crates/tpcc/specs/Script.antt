@@ -6,10 +6,10 @@ use Rattle.schema.specs.Scale.{has_warehouse}
 use Rattle.dataset.specs.FirstFault.{first_fault}
 use Rattle.dataset.specs.FirstRecord.{BeginsWith}
 use Rattle.dataset.specs.Records.{AreSpelt, header_fields}
-use Rattle.requests.specs.Check.{IsAccepted}
 use Rattle.workload.specs.declared.sessions.Workload.{Workload}
 use Rattle.workload.specs.Sessions.{script_drawn}
-use Rattle.terminals.specs.Script.{IsScript}
+use Rattle.workload.specs.Within.{AreAccepted}
+use Rattle.terminals.specs.Script.{AreAsked}
 use Rattle.command_line.specs.declared.settings.script.ScriptSettings.{ScriptSettings}
 use Rattle.tpcc.specs.declared.command_fault.CommandFault.{CommandFault}
 use Rattle.tpcc.specs.declared.command_fault.CommandFault.TheVariants as fault
@@ -34,9 +34,9 @@ pub record IsWorkload (s : ScriptSettings) (at_scale : Scale) (w : Workload) : T
   pub seed : w.seed ≡ s.seed
   pub requests : w.requests ≡ s.requests
 
--- the records of the script that is drawn for the session; the check accepts each of its requests
+-- the records of the script that is drawn for the session; the check accepts each request that they are carried out as
 abbrev pub AreDrawn : Workload → ℕ → List (List (List ℕ)) → Type 0
-AreDrawn workload session rows = IsScript (script_drawn workload session) rows × All (IsAccepted workload.scale) (script_drawn workload session)
+AreDrawn workload session rows = AreAsked (script_drawn workload session) rows × All (AreAccepted workload.scale) (script_drawn workload session)
 
 -- the settings contain a home warehouse that is not in the scale
 abbrev pub IsNoWarehouse : Option ℕ → Scale → CommandFault → Type 0

@@ -3,17 +3,24 @@ use schema::NoMemory;
 use std::alloc::Global;
 use std::sync::atomic::{AtomicU64, Ordering};
 
-/// How long each request of a run took, in nanoseconds.
+/// How long each record of the scripts of a run took, in nanoseconds: from when its first request began to when the last one
+/// ended.
 #[derive(Drop)]
 pub struct Latencies {
-    // The index in `times` of each session's first request.
+    // The index in `times` of each session's first record.
     firsts: Vec<usize>,
-    // For each request 0 before it begins, then the moment when it began, and once it has ended how long it took.
-    times: Vec<AtomicU64>,
+    times: Vec<Times>,
+}
+
+// When a record began and when its last request so far ended; 0 before.
+#[derive(Drop)]
+struct Times {
+    began: AtomicU64,
+    ended: AtomicU64,
 }
 
 impl Latencies {
-    /// The latencies of no requests.
+    /// The latencies of no records.
     pub fn new(alloc: Global) -> Latencies {
         Latencies {
             firsts: Vec::new(alloc),
@@ -21,50 +28,63 @@ impl Latencies {
         }
     }
 
-    /// The latencies of the requests of these scripts, none of which has begun. Returns NoMemory if an allocation
-    /// fails.
+    /// The latencies of the records of these scripts, none of which has begun. Returns NoMemory if an allocation fails.
     pub fn of_scripts(alloc: Global, scripts: &[Script]) -> Result<Latencies, NoMemory> {
         let mut latencies = Latencies::new(alloc);
         for script in scripts {
             latencies.firsts.push(latencies.times.len())?;
-            for _ in script.requests() {
-                latencies.times.push(AtomicU64::new(0))?;
+            for _ in 0..record_count(script) {
+                latencies.times.push(Times {
+                    began: AtomicU64::new(0),
+                    ended: AtomicU64::new(0),
+                })?;
             }
         }
         Ok(latencies)
     }
 
-    /// Records the moment when a request began, in nanoseconds; it is not 0.
+    /// Records the moment when a request of the record with this number began, in nanoseconds; it is not 0. The record began
+    /// with its first request.
     pub fn begin(&self, session: u32, number: u32, moment: u64) {
-        if let Some(time) = self.time(session, number) {
-            time.store(moment, Ordering::SeqCst);
+        if let Some(times) = self.times(session, number) {
+            let _ = times
+                .began
+                .compare_exchange(0, moment, Ordering::SeqCst, Ordering::SeqCst);
         }
     }
 
-    /// Records the moment when a request ended, in nanoseconds. The recorded time is at least 1 nanosecond.
+    /// Records the moment when a request of the record with this number ended, in nanoseconds; it is not 0.
     pub fn end(&self, session: u32, number: u32, moment: u64) {
-        if let Some(time) = self.time(session, number) {
-            let began = time.load(Ordering::SeqCst);
-            time.store(moment.saturating_sub(began).max(1), Ordering::SeqCst);
+        if let Some(times) = self.times(session, number) {
+            times.ended.store(moment, Ordering::SeqCst);
         }
     }
 
-    /// The times of the requests that have ended, ascending.
+    /// How long the records took of which a request has ended, at least 1 nanosecond each, ascending.
     pub fn sorted(&self, alloc: Global) -> Result<Vec<u64>, NoMemory> {
         let mut sorted = Vec::with_capacity(alloc, self.times.len())?;
-        for time in &self.times {
-            let time = time.load(Ordering::SeqCst);
-            if time > 0 {
-                sorted.push(time)?;
+        for times in &self.times {
+            let ended = times.ended.load(Ordering::SeqCst);
+            if ended > 0 {
+                let began = times.began.load(Ordering::SeqCst);
+                sorted.push(ended.saturating_sub(began).max(1))?;
             }
         }
         sorted.as_mut_slice().sort_unstable();
         Ok(sorted)
     }
 
-    fn time(&self, session: u32, number: u32) -> Option<&AtomicU64> {
+    fn times(&self, session: u32, number: u32) -> Option<&Times> {
         let first = *self.firsts.get(session as usize)?;
         self.times.get(first.saturating_add(number as usize))
+    }
+}
+
+/// How many records a script has: its last part is of its last record.
+pub fn record_count(script: &Script) -> usize {
+    match script.parts().last() {
+        Some(last) => (last.number as usize).saturating_add(1),
+        None => 0,
     }
 }
 

@@ -185,6 +185,7 @@ fn sum_up<E: Report>(alloc: Global, entries: &[Entry], served_for: u64, errors: 
     if let Ok(tally) = Tally::of_entries(alloc, entries) {
         errors.sum_up(&Summary {
             tally: &tally,
+            records: None,
             served_for,
             times: &[],
         });

@@ -8,10 +8,11 @@ ghost use Rattle.files.specs.Place.{Gives};
 ghost use Rattle.tpcc.specs.Effects.{change, output_of, source_of};
 ghost use Rattle.tpcc.specs.EarlyEnds.{IsOfAnswering, IsOfMoves, IsOfRunning, IsOfScripts};
 ghost use Rattle.tpcc.specs.Faults.{IsOfWriting, standard_output, EndsEarly};
-ghost use Rattle.tpcc.specs.Run.{AreAllAnswers, AreAllInLog, BeginAllAnswers, GivesMoves, HandsOut, HandsOutSome, Serves, ServesSome, run_inputs, run_outputs, texts_of};
+ghost use Rattle.tpcc.specs.Run.{AreAllAnswered, AreAllAnswers, AreAllInLog, BeginAllAnswers, GivesMoves, HandsOut, HandsOutSome, Serves, ServesSome, run_inputs, run_outputs, texts_of};
 ghost use Rattle.command_line.specs.Settings.{IsRunnable};
 
 use crate::command_fault::CommandFault;
+use crate::latencies::record_count;
 use crate::output_files::OutputFiles;
 use crate::report::Report;
 use crate::streams::{STANDARD_OUTPUT, name_printed, read_tables, write_entries, write_tables};
@@ -20,10 +21,10 @@ use crate::tally::Tally;
 use crate::watch::Watch;
 use command_line::{RunSettings, Status};
 use commit_log::{Entry, Limits};
-use engine::{Answers, Outcome, ServeOptions, serve};
+use engine::{Answers, NoClient, Outcome, ServeOptions, serve};
 use files::Input;
 use range_moves::MoveOrder;
-use requests::Script;
+use requests::{Part, Script};
 use rows::SESSIONS;
 use schema::NoMemory;
 use std::alloc::Global;
@@ -151,6 +152,8 @@ fn run<
     let moves = read_orders(alloc, settings.moves, moves)?;
     let _ = watch.prepare(alloc, scripts.as_slice());
     let options = ServeOptions {
+        scripts: scripts.as_slice(),
+        sessions: 0,
         executors: settings.executors,
         tries: settings.tries,
         limits: Limits {
@@ -159,7 +162,7 @@ fn run<
         },
         moves: moves.as_slice(),
     };
-    let outcome = match serve(rt, alloc, opening, scripts.as_slice(), &options, &watch) {
+    let outcome = match serve(rt, alloc, opening, &options, &watch, &NoClient) {
         Ok(outcome) => outcome,
         Err(fault) => return Err(CommandFault::of_serving(fault)),
     };
@@ -167,6 +170,7 @@ fn run<
     hand_out(
         alloc,
         settings,
+        scripts.as_slice(),
         &outcome,
         answers,
         log,
@@ -183,6 +187,7 @@ fn run<
 fn hand_out<'a, A: Write, F: Write + Drop, N: OutputFiles<F>>(
     alloc: Global,
     settings: &RunSettings<'a>,
+    scripts: &[Script],
     outcome: &Outcome,
     answers: &mut A,
     log: Option<F>,
@@ -190,20 +195,21 @@ fn hand_out<'a, A: Write, F: Write + Drop, N: OutputFiles<F>>(
     output_files: &mut N,
 ) -> Result<(), CommandFault<'a>>
     requires few { length outcome.now.answers.items ≤ SESSIONS }
+    requires each { AreAllAnswered scripts.now outcome.now.answers.items }
     requires placed { AreAllInLog outcome.now.log.items outcome.now.answers.items }
     requires log { is_some log ≡ is_some settings.now.log }
     requires tables { is_some tables ≡ is_some settings.now.tables }
     ensures all { OnOk result (HandsOut F.contents (run_outputs log tables)
         (output_of A.contents answers.old answers.new N.named output_files.old output_files.new)
-        outcome.now.log.items outcome.now.tables outcome.now.answers.items) }
+        scripts.now outcome.now.log.items outcome.now.tables outcome.now.answers.items) }
     ensures some { OnErr result (HandsOutSome F.contents (run_outputs log tables)
         (output_of A.contents answers.old answers.new N.named output_files.old output_files.new)
-        outcome.now.log.items outcome.now.answers.items) }
+        scripts.now outcome.now.log.items outcome.now.answers.items) }
     ensures fault { IfErr result (IsOfAnswering settings.now) }
 {
     let entries = outcome.log.as_slice();
     let log = write_entries(alloc, settings.log, log, entries, output_files)?;
-    let printed = print_answers(alloc, answers, outcome.answers.as_slice(), entries);
+    let printed = print_answers(alloc, answers, scripts, outcome.answers.as_slice(), entries);
     name_printed(printed, log, output_files)?;
     write_tables(
         alloc,
@@ -262,39 +268,44 @@ fn read_orders<'a, S: Input + Drop>(
 fn print_answers<A: Write>(
     alloc: Global,
     sink: &mut A,
+    scripts: &[Script],
     answers: &[Answers],
     log: &[Entry],
 ) -> Result<(), CommandFault<'static>>
     requires few { length answers.now ≤ SESSIONS }
+    requires each { AreAllAnswered scripts.now answers.now }
     requires placed { AreAllInLog log.now answers.now }
     ensures printed { OnOk result (Writes (A.contents sink.old) (A.contents sink.new)
-        (AreAllAnswers log.now 0 answers.now)) }
+        (AreAllAnswers log.now scripts.now 0 answers.now)) }
     ensures begun { OnErr result (BeginsToWrite (A.contents sink.old) (A.contents sink.new)
-        (BeginAllAnswers log.now 0 answers.now)) }
+        (BeginAllAnswers log.now scripts.now 0 answers.now)) }
     ensures fault { IfErr result (IsOfWriting standard_output) }
 {
     for (session, reported) in answers.iter().enumerate() {
-        print_session(alloc, sink, session as u32, reported, log)?;
+        let script = scripts[session].parts();
+        print_session(alloc, sink, session as u32, script, reported, log)?;
     }
     Ok(())
 }
 
-// Prints the records of the answers to a session. After an error a beginning of them was printed.
+// Prints the records of the answers to a session's script. After an error a beginning of them was printed.
 fn print_session<A: Write>(
     alloc: Global,
     sink: &mut A,
     session: u32,
+    script: &[Part],
     reported: &Answers,
     log: &[Entry],
 ) -> Result<(), CommandFault<'static>>
-    requires { AreInLog log.now reported.now }
+    requires each { length reported.now ≡ length script.now }
+    requires placed { AreInLog log.now reported.now }
     ensures printed { OnOk result (Writes (A.contents sink.old) (A.contents sink.new)
-        (AreAnswers log.now session reported.now)) }
+        (AreAnswers log.now session script.now reported.now)) }
     ensures begun { OnErr result (BeginsToWrite (A.contents sink.old) (A.contents sink.new)
-        (OfFirst (AreAnswers log.now session) reported.now)) }
+        (OfFirst (AreAnswers log.now session script.now) reported.now)) }
     ensures fault { IfErr result (IsOfWriting standard_output) }
 {
-    match write_answers(alloc, sink, session, reported.as_slice(), log) {
+    match write_answers(alloc, sink, session, script, reported.as_slice(), log) {
         Ok(()) => Ok(()),
         Err(error) => Err(CommandFault::of_file(STANDARD_OUTPUT, error)),
     }
@@ -320,10 +331,20 @@ fn sum_up<R: Clock, E: Report>(
     if let Ok(times) = watch.sorted_times(alloc) {
         errors.sum_up(&Summary {
             tally: &tally,
+            records: Some(records_in(scripts)),
             served_for: watch.served_for(),
             times: times.as_slice(),
         });
     }
+}
+
+// How many records the scripts have.
+fn records_in(scripts: &[Script]) -> usize {
+    let mut records = 0usize;
+    for script in scripts {
+        records = records.saturating_add(record_count(script));
+    }
+    records
 }
 
 // How the requests of all scripts ended.
@@ -332,7 +353,7 @@ fn tally_of(alloc: Global, scripts: &[Script], outcome: &Outcome) -> Result<Tall
     for (script, reported) in scripts.iter().zip(outcome.answers.as_slice()) {
         tally.add(&Tally::of_answers(
             alloc,
-            script.requests(),
+            script.parts(),
             reported.as_slice(),
             outcome.log.as_slice(),
         )?)?;

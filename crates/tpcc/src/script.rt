@@ -123,8 +123,8 @@ fn write_scripts<'a, T: Write + Drop, N: OutputFiles<T>>(
 {
     for (session, path) in paths.iter().enumerate() {
         let file = files.remove(0);
-        let script = draw_script(alloc, workload, session as u32)?;
-        write_requests(alloc, path, file, &script, output_files)?;
+        let asked = draw_script(alloc, workload, session as u32)?;
+        write_requests(alloc, path, file, asked.as_slice(), output_files)?;
     }
     Ok(())
 }

@@ -5,7 +5,7 @@ ghost use Rattle.dataset.specs.FirstFault.{IsFaultOf};
 ghost use Rattle.dataset.specs.Records.{AreRecords};
 ghost use Rattle.files.specs.Sending.{Begins, Writes};
 ghost use Rattle.terminals.specs.LogRecord.{IsLog};
-ghost use Rattle.terminals.specs.Script.{IsScript};
+ghost use Rattle.terminals.specs.Script.{AreAsked};
 ghost use Rattle.tpcc.specs.OutputFiles.{Shelves};
 ghost use Rattle.files.specs.Place.{Gives};
 ghost use Rattle.tpcc.specs.Edges.{NamesFile, HasWritten, IsNamed, OfLines};
@@ -15,7 +15,7 @@ use crate::command_fault::CommandFault;
 use crate::output_files::OutputFiles;
 use commit_log::Entry;
 use files::{Input, send};
-use requests::Script;
+use requests::TerminalRequest;
 use schema::{NoMemory, Tables};
 use std::alloc::Global;
 use std::fmt::Display;
@@ -126,21 +126,21 @@ pub fn name_tables<'a, T: Write + Drop, N: OutputFiles<T>>(
     }
 }
 
-/// Writes the script, brings the file to the disk and gives it its name. After an error it has not got its name.
+/// Writes the script of these requests, brings the file to the disk and gives it its name. After an error it has not got its name.
 pub fn write_requests<'a, T: Write + Drop, N: OutputFiles<T>>(
     alloc: Global,
     path: &'a str,
     sink: T,
-    script: &Script,
+    asked: &[TerminalRequest],
     output_files: &mut N,
 ) -> Result<(), CommandFault<'a>>
     ensures ok { OnOk result (NamesFile T.contents (Some sink)
-        (N.named output_files.old) (N.named output_files.new) (IsScript script.now)) }
+        (N.named output_files.old) (N.named output_files.new) (AreAsked asked.now)) }
     ensures err { OnErr result (N.named output_files.new ≡ N.named output_files.old) }
     ensures fault { IfErr result (IsOfWriting path.now) }
 {
     let mut whole = sink;
-    match write_script(alloc, &mut whole, script) {
+    match write_script(alloc, &mut whole, asked) {
         Ok(()) => finished(path, whole, output_files),
         Err(error) => Err(CommandFault::of_file(path, error)),
     }

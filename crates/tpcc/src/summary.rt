@@ -9,9 +9,11 @@ use std::io::Write;
 #[derive(Clone, Copy, Debug)]
 pub struct Summary<'a> {
     pub tally: &'a Tally,
+    /// How many records the scripts have whose requests were counted; `None` if that is not known.
+    pub records: Option<usize>,
     /// How long the serving or the replay took, in nanoseconds.
     pub served_for: u64,
-    /// How long each request took, in nanoseconds, ascending; empty if that is not known.
+    /// How long each record took, in nanoseconds, ascending; empty if that is not known.
     pub times: &'a [u64],
 }
 
@@ -19,7 +21,13 @@ pub struct Summary<'a> {
 pub fn report_summary<W: Write>(sink: &mut W, summary: &Summary) {
     let tally = summary.tally;
     let count = tally.len();
-    let _ = writeln!(sink, "tpcc: summary: {count} requests");
+    let _ = match summary.records {
+        Some(records) => writeln!(
+            sink,
+            "tpcc: summary: {count} requests, of {records} records"
+        ),
+        None => writeln!(sink, "tpcc: summary: {count} requests"),
+    };
     for kind in 0..KINDS {
         let _ = writeln!(sink, "tpcc: summary: {}", OfKind { tally, kind });
     }
@@ -46,7 +54,7 @@ pub fn report_summary<W: Write>(sink: &mut W, summary: &Summary) {
         let longest = Microseconds(within(summary.times, 100));
         let _ = writeln!(
             sink,
-            "tpcc: time: answered within {half} us 50 in 100, {most} us 90 in 100, {nearly} us 99 in 100, {longest} us all"
+            "tpcc: time: records answered within {half} us 50 in 100, {most} us 90 in 100, {nearly} us 99 in 100, {longest} us all"
         );
     }
     let _ = writeln!(

@@ -4,7 +4,7 @@ ghost use Rattle.std.specs.Option.{option_map};
 ghost use Rattle.tpcc.specs.Tally.{kind_number, is_name, chooses_by_name, rollback_number, end_number, entry_number, answer_number};
 
 use commit_log::Entry;
-use requests::{Choice, Fault, Refusal, Reply, Request};
+use requests::{Choice, Fault, Part, Refusal, Reply, Request};
 use schema::NoMemory;
 use std::alloc::Global;
 
@@ -36,20 +36,21 @@ impl Tally {
         }
     }
 
-    /// A tally of requests and their answers, in the same order. An answer is the place of an entry in `log`, or a
+    /// A tally of the parts of a script and their answers, in the same order. An answer is the place of an entry in `log`, or a
     /// refusal. Returns NoMemory if an allocation fails.
     pub fn of_answers(
         alloc: Global,
-        requests: &[Request],
+        parts: &[Part],
         answers: &[Result<u32, Refusal>],
         log: &[Entry],
     ) -> Result<Tally, NoMemory>
-        ensures kinds { IfOk result (λ tally. tally.kinds.items ≡ map kind_number requests.now) }
+        ensures kinds { IfOk result
+            (λ tally. tally.kinds.items ≡ map (λ part. kind_number part.request) parts.now) }
         ensures ends { IfOk result
             (λ tally. tally.ends.items ≡ map (answer_number log.now) answers.now) }
     {
         Ok(Tally {
-            kinds: kinds_of(alloc, requests)?,
+            kinds: kinds_of(alloc, parts)?,
             ends: ends_of(alloc, answers, log)?,
         })
     }
@@ -97,10 +98,14 @@ impl Tally {
     }
 }
 
-fn kinds_of(alloc: Global, requests: &[Request]) -> Result<Vec<u8>, NoMemory>
-    ensures { IfOk result (λ kinds. kinds.items ≡ map kind_number requests.now) }
+fn kinds_of(alloc: Global, parts: &[Part]) -> Result<Vec<u8>, NoMemory>
+    ensures { IfOk result
+        (λ kinds. kinds.items ≡ map (λ part. kind_number part.request) parts.now) }
 {
-    requests.iter().map(|it| kind_number(it)).collect(alloc)
+    parts
+        .iter()
+        .map(|it| kind_number(&it.request))
+        .collect(alloc)
 }
 
 fn ends_of(

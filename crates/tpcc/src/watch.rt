@@ -11,13 +11,13 @@ use std::sync::atomic::{AtomicU64, Ordering};
 // The least time between two reports of the serving, in nanoseconds.
 const STRIDE: u64 = 1_000_000_000;
 
-/// Observes the serving of scripts: how many requests were answered, and how long each took from when it was asked for
-/// the first time. It never blocks an executor, and reads no clock if neither times nor reports are wanted.
+/// Observes the serving of scripts: how many requests were answered, and how long each record took from when its first request
+/// was asked for the first time. It never blocks an executor, and reads no clock if neither times nor reports are wanted.
 #[derive(Drop)]
 pub struct Watch<'a, R> {
     // Where the serving is reported, if anywhere.
     terminal: Option<Stderr>,
-    // Whether the time of each request is recorded.
+    // Whether the time of each record is recorded.
     is_timed: bool,
     // Measures all moments, in nanoseconds, if a clock is read.
     stopwatch: Option<Stopwatch<'a, R>>,
@@ -30,7 +30,7 @@ pub struct Watch<'a, R> {
 }
 
 impl<'a, R: Clock> Watch<'a, R> {
-    /// A watch that reports on `terminal`, if there is one, and records the time of each request if `is_timed`.
+    /// A watch that reports on `terminal`, if there is one, and records the time of each record if `is_timed`.
     pub fn new(rt: &'a R, alloc: Global, terminal: Option<Stderr>, is_timed: bool) -> Self {
         let stopwatch = if is_timed || terminal.is_some() {
             Some(Stopwatch::start(rt))
@@ -49,7 +49,7 @@ impl<'a, R: Clock> Watch<'a, R> {
         }
     }
 
-    /// Allocates room for the times of all requests, if times are recorded. Returns NoMemory if an allocation fails; no
+    /// Allocates room for the times of all records, if times are recorded. Returns NoMemory if an allocation fails; no
     /// times are recorded then.
     pub fn prepare(&mut self, alloc: Global, scripts: &[Script]) -> Result<(), NoMemory> {
         if self.is_timed {
@@ -64,7 +64,7 @@ impl<'a, R: Clock> Watch<'a, R> {
         last.saturating_sub(self.first.load(Ordering::SeqCst))
     }
 
-    /// The times of the requests that were answered, in nanoseconds, ascending. Returns NoMemory if an allocation fails.
+    /// The times of the records of which a request was answered, in nanoseconds, ascending. Returns NoMemory if an allocation fails.
     pub fn sorted_times(&self, alloc: Global) -> Result<Vec<u64>, NoMemory> {
         self.latencies.sorted(alloc)
     }

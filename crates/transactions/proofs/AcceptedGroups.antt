@@ -1,4 +1,4 @@
--- The groups that an accepted New-Order, Delivery or Stock-Level claims are there.
+-- The groups that an accepted New-Order or Stock-Level claims are there.
 use Rattle.std.proofs.Common.{◌≡◌, ◌≤◌, ◌<◌, ◌+◌, ◌%◌, ℕ, zero, suc, true, List, [], ◌∷◌, ◌++◌, map, arith}
 use Rattle.std.specs.Prelude.{All, not}
 use Rattle.std.specs.List.{filter, list_all, range_with_len}
@@ -12,12 +12,11 @@ use Rattle.requests.specs.declared.group.Group.TheVariants.{Warehouse, District,
 use Rattle.requests.specs.declared.request.Request.TheVariants as request
 use Rattle.requests.specs.declared.new_order.NewOrder.{NewOrder}
 use Rattle.requests.specs.declared.new_order.OrderedLine.{OrderedLine}
-use Rattle.requests.specs.declared.delivery.Delivery.{Delivery}
 use Rattle.requests.specs.declared.stock_level.StockLevel.{StockLevel}
 use Rattle.requests.specs.declared.refusal.Refusal.TheVariants.{BadWarehouse, BadDistrict, BadLines, BadQuantity, BadSupply, BadAmount, BadThreshold, BadCarrier}
 use Rattle.requests.specs.Check.{applies, IsAccepted}
 use Rattle.groups.specs.declared.group_wants.GroupWant.{GroupWant}
-use Rattle.groups.specs.Footprint.{exclusively, shared, groups_of, new_order_footprint, delivery_footprint, stock_level_footprint}
+use Rattle.groups.specs.Footprint.{exclusively, shared, groups_of, new_order_footprint, stock_level_footprint}
 use Rattle.groups.specs.Groups.{is_same}
 use Rattle.groups.specs.NewOrder.{group_of_supply, firsts, supplies_of}
 use Rattle.tickets.specs.Places.{IsGroupOf}
@@ -81,18 +80,6 @@ order_groups_there scale n accepted =
     let own_customers = Customers n.home.w_id n.home.d_id in
     All-cons P (Warehouse n.home.w_id) (own_district ∷ own_customers ∷ others) warehouse
     (All-cons P own_district (own_customers ∷ others) (warehouse, district) (All-cons P own_customers others (warehouse, district) rest))
-
--- ---- Delivery
-
-pub delivery_groups_there : (scale : Scale) (d : Delivery) → IsAccepted scale (request.Delivery d) → All (IsGroupOf scale.warehouses) (groups_of (delivery_footprint d))
-delivery_groups_there scale d accepted =
-    let P = IsGroupOf scale.warehouses in
-    let test = applies scale (request.Delivery d) in
-    let first = not_first test BadWarehouse (BadDistrict ∷ BadLines ∷ BadQuantity ∷ BadSupply ∷ BadAmount ∷ BadThreshold ∷ BadCarrier ∷ []) accepted in
-    let warehouse = between 1 scale.warehouses d.w_id (not-false _ first.0) in
-    all_after P (map (λ district. exclusively (Orders d.w_id district)) (range_with_len 1 10)) (map (λ district. exclusively (Customers d.w_id district)) (range_with_len 1 10))
-    (all_from P (λ district. exclusively (Orders d.w_id district)) 1 11 (λ number low high. (warehouse, (low, omega arith))) 1 10 (omega arith) (omega arith))
-    (all_from P (λ district. exclusively (Customers d.w_id district)) 1 11 (λ number low high. (warehouse, (low, omega arith))) 1 10 (omega arith) (omega arith))
 
 -- ---- Stock-Level
 

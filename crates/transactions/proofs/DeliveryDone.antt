@@ -28,12 +28,13 @@ use Rattle.machine.specs.Delivery.{amount_of, customer_delivered}
 use Rattle.machine.proofs.BalanceDelivered.{come_to}
 use Rattle.machine.proofs.RowsOfGroups.{rows_where-rows_of}
 use Rattle.transactions.specs.declared.delivery.OrderDelivered.{OrderDelivered}
+use Rattle.transactions.specs.declared.delivery.CustomerCredited.TheVariants.{Credited, OutOfRange}
 use Rattle.transactions.specs.Granted.{IsExclusiveOn, IsFresh}
-use Rattle.transactions.specs.Delivery.{IsCustomerCredited, IsCustomerOutOfRange, IsOldestOrder, IsOrderDelivered, row_credited}
+use Rattle.transactions.specs.Delivery.{IsCreditDone, IsOldestOrder, IsOrderDelivered, row_credited}
 use Rattle.transactions.proofs.DeliveryChanges.{order_changes}
 use Rattle.transactions.proofs.PaymentDone.{left_here, on_still, recorded_here}
 
--- ---- the customer of one district's order
+-- ---- the customer of the order
 
 module _
     (t : Database) (home : DistrictKey) (order : OrderDelivered) (was now : ClaimView)
@@ -50,24 +51,30 @@ module _
         (get-rows_of-own customers_total customers_exact group_of_customer t.customers (customer_key home order.c_id) ∙ sym is)
 
     pub customer_is_out : (row : Option Customer) → now ≡ was → row ≡ table.get t.customers (customer_key home order.c_id)
-        → option_and_then (λ (r : Customer). customer_delivered r order.amount) row ≡ None → IsCustomerOutOfRange home order now
+        → option_and_then (λ (r : Customer). customer_delivered r order.amount) row ≡ None → IsCreditDone home order OutOfRange now
     customer_is_out row same is out = record {
-      rows = rows;
-      recorded = ap (λ (k : ClaimView). k.recorded) same ∙ recorded_here t _ was on new left;
-      out = found row is ∙ out;
+      claim = on_still _ was now on was.left same;
+      rows = record {
+        rows = rows;
+        recorded = ap (λ (k : ClaimView). k.recorded) same ∙ recorded_here t _ was on new left;
+        out = found row is ∙ out;
+      };
     }
 
     pub customer_is_credited : (row new_row : Customer) → Some row ≡ table.get t.customers (customer_key home order.c_id) → customer_delivered row order.amount ≡ Some new_row
-        → now ≡ leaving was (with_customer (customer_key home order.c_id) new_row was.left) → IsCustomerCredited home order now
+        → now ≡ leaving was (with_customer (customer_key home order.c_id) new_row was.left) → IsCreditDone home order Credited now
     customer_is_credited row new_row is made after = record {
-      rows = rows;
-      recorded = ap (λ (k : ClaimView). k.recorded) after ∙ recorded_here t _ was on new left;
-      new_row = new_row;
-      made = found (Some row) is ∙ made;
-      left = ap (λ (k : ClaimView). k.left) after ∙ ap (with_customer (customer_key home order.c_id) new_row) (left_here t _ was on new left);
+      claim = on_still _ was now on _ after;
+      rows = record {
+        rows = rows;
+        recorded = ap (λ (k : ClaimView). k.recorded) after ∙ recorded_here t _ was on new left;
+        new_row = new_row;
+        made = found (Some row) is ∙ made;
+        left = ap (λ (k : ClaimView). k.left) after ∙ ap (with_customer (customer_key home order.c_id) new_row) (left_here t _ was on new left);
+      };
     }
 
--- ---- the orders of one district
+-- ---- the orders of a district
 
 -- what a group of orders has of its district: the number of the oldest new order, and the lines of an order
 abbrev oldest_in : DistrictKey → Content → Option ℕ

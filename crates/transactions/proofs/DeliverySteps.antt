@@ -1,7 +1,7 @@
 -- What follows of what the actions of a Delivery found.
-use Rattle.std.proofs.Common.{◌≡◌, ◌∙◌, false, List, [], ◌∷◌, ◌++◌, ap, sym, subst}
-use Rattle.std.proofs.lemmas.List.{append-nil}
+use Rattle.std.proofs.Common.{◌≡◌, ◌∙◌, List, [], ◌∷◌, ◌++◌, Option, Some, None, ap, sym, subst}
 use Rattle.partitions.specs.Parts.{SharedTables}
+use Rattle.schema.specs.Database.{Database}
 use Rattle.requests.specs.declared.request.Request.TheVariants as request
 use Rattle.requests.specs.declared.delivery.Delivery.{Delivery}
 use Rattle.requests.specs.declared.reply.Fault.TheVariants.{Range}
@@ -11,126 +11,124 @@ use Rattle.requests.specs.declared.reply.Shown.TheVariants as kind
 use Rattle.tickets.specs.Claims.{ClaimView, all_claims}
 use Rattle.commit_log.specs.Claimed.{IsCarriedOut}
 use Rattle.machine.specs.Delivery.{delivery_reply}
-use Rattle.transactions.specs.declared.delivery.CustomersCredited.{CustomersCredited}
-use Rattle.transactions.specs.declared.delivery.CustomersCredited.TheVariants.{Credited, OutOfRange}
-use Rattle.transactions.specs.declared.delivery.work.Work.{Work}
-use Rattle.transactions.specs.declared.delivery.work.Work.TheVariants.{DeliverOrders, CreditCustomers}
+use Rattle.transactions.specs.declared.delivery.OrderDelivered.{OrderDelivered}
+use Rattle.transactions.specs.declared.delivery.CustomerCredited.{CustomerCredited}
+use Rattle.transactions.specs.declared.delivery.CustomerCredited.TheVariants.{Credited, OutOfRange}
+use Rattle.transactions.specs.declared.delivery.work.Work.TheVariants.{DeliverOrder, CreditCustomer}
 use Rattle.transactions.specs.declared.delivery.work.Found.{Found as OwnFound}
-use Rattle.transactions.specs.declared.delivery.work.Found.TheVariants.{Orders, Customers}
+use Rattle.transactions.specs.declared.delivery.work.Found.TheVariants.{Order, Customer}
 use Rattle.transactions.specs.declared.delivery.phases.Progress.TheVariants as at
 use Rattle.transactions.specs.declared.work.Work.TheVariants as any_work
 use Rattle.transactions.specs.declared.work.Found.{Found}
 use Rattle.transactions.specs.declared.work.Found.TheVariants as any_found
 use Rattle.transactions.specs.declared.progress.Progress.TheVariants as any_progress
 use Rattle.transactions.specs.declared.progress.Gathered.TheVariants.{Next, Finish}
-use Rattle.transactions.specs.Delivery.{AreCustomersCredited, AreCustomersOf, AreOrdersDelivered, AreOrdersOf, Deliveries, HasDone, is_any, numbers_of, ten}
+use Rattle.transactions.specs.Delivery.{IsCreditDone, IsOrderDelivered, works_of}
 use Rattle.transactions.specs.Works.{HaveAllDone}
 use Rattle.transactions.specs.Progresses.{FollowsFrom}
 use Rattle.transactions.proofs.Done.{first_done, none_done}
 use Rattle.transactions.proofs.DeliveryCarriedOut.{deliveries_are_carried_out, skipped_deliveries_are_carried_out, rolled_back_deliveries_are_carried_out}
 
--- the one action of a phase found this, under these claims
-pub record HasOneDone (shared : SharedTables) (work : Work) (found : List Found) (claims : List (List ClaimView)) : Type 0 where
-  pub one : OwnFound
-  pub held : List ClaimView
-  pub found_is : found ≡ any_found.Delivery one ∷ []
-  pub claims_is : claims ≡ held ∷ []
-  pub done : HasDone shared work one held
+-- ---- the order
 
-pub one_done : (shared : SharedTables) (work : Work) (found : List Found) (claims : List (List ClaimView))
-    → HaveAllDone shared (any_work.Delivery work ∷ []) found claims → HasOneDone shared work found claims
-one_done shared work found claims done =
-    let first = first_done shared (any_work.Delivery work) [] found claims done in
-    let none = none_done shared first.others first.rest first.others_done in
+-- this was found of the order, and done under this claim
+pub record IsOrderDone (d : Delivery) (found : List Found) (claims : List (List ClaimView)) : Type 0 where
+  pub order : Option OrderDelivered
+  pub orders : ClaimView
+  pub found_is : found ≡ any_found.Delivery (Order order) ∷ []
+  pub claims_is : claims ≡ (orders ∷ []) ∷ []
+  pub done : IsOrderDelivered d.carrier_id d.moment d.home order orders
+
+pub order_done : (shared : SharedTables) (d : Delivery) (found : List Found) (claims : List (List ClaimView))
+    → HaveAllDone shared (works_of (at.DeliverOrder d)) found claims → IsOrderDone d found claims
+order_done shared d found claims done =
+    let one = first_done shared (any_work.Delivery (DeliverOrder d)) [] found claims done in
+    let none = none_done shared one.others one.rest one.others_done in
+    let own = one.done.2 in
     record {
-      one = first.done.0;
-      held = first.held;
-      found_is = first.found_is ∙ (λ i. first.done.1 i ∷ none.0 i);
-      claims_is = first.claims_is ∙ (λ i. first.held ∷ none.1 i);
-      done = first.done.2;
+      order = own.0;
+      orders = own.1;
+      found_is = one.found_is ∙ (λ i. (one.done.1 ∙ ap (λ (f : OwnFound). any_found.Delivery f) own.2) i ∷ none.0 i);
+      claims_is = one.claims_is ∙ (λ i. own.3 i ∷ none.1 i);
+      done = own.4;
     }
 
--- ---- the orders
+-- who found the same, found this
+same_order : (order other : Option OrderDelivered) → any_found.Delivery (Order order) ∷ [] ≡ any_found.Delivery (Order other) ∷ [] → order ≡ other
+same_order order other same = cc
 
-same_orders : (delivered other : Deliveries) → any_found.Delivery (Orders delivered) ∷ [] ≡ any_found.Delivery (Orders other) ∷ [] → delivered ≡ other
-same_orders delivered other same = cc
-
-pub orders_found : (shared : SharedTables) (d : Delivery) (found : List Found) (claims : List (List ClaimView))
-    → HaveAllDone shared (any_work.Delivery (DeliverOrders d) ∷ []) found claims → AreOrdersOf found
-orders_found shared d found claims done =
-    let one = one_done shared (DeliverOrders d) found claims done in
-    (one.done.0, one.found_is ∙ ap (λ (f : OwnFound). any_found.Delivery f ∷ []) one.done.1)
-
--- what was found of the orders is what the claims record
-orders_are : (shared : SharedTables) (d : Delivery) (found : List Found) (delivered : Deliveries) (claims : List (List ClaimView)) → found ≡ any_found.Delivery (Orders delivered) ∷ []
-    → HaveAllDone shared (any_work.Delivery (DeliverOrders d) ∷ []) found claims → (orders : List ClaimView) × (claims ≡ orders ∷ []) × AreOrdersDelivered d ten delivered orders
-orders_are shared d found delivered claims is done =
-    let one = one_done shared (DeliverOrders d) found claims done in
-    let found_here : found ≡ any_found.Delivery (Orders one.done.0) ∷ [] = one.found_is ∙ ap (λ (f : OwnFound). any_found.Delivery f ∷ []) one.done.1 in
-    (one.held, one.claims_is, subst (λ (found : Deliveries). AreOrdersDelivered d ten found one.held) (same_orders one.done.0 delivered (sym found_here ∙ is)) one.done.2)
-
-pub orders_follow : (d : Delivery) (found : List Found) (delivered : Deliveries) → found ≡ any_found.Delivery (Orders delivered) ∷ []
-    → FollowsFrom (any_progress.Delivery (at.DeliverOrders d)) found (Next (any_progress.Delivery (at.CreditCustomers d delivered)))
-orders_follow d found delivered is shared asked held claims known done =
-    let orders = orders_are shared d found delivered claims is done in
+pub order_follows : (d : Delivery) (found : List Found) (order : OrderDelivered) → found ≡ any_found.Delivery (Order (Some order)) ∷ []
+    → FollowsFrom (any_progress.Delivery (at.DeliverOrder d)) found (Next (any_progress.Delivery (at.CreditCustomer d order)))
+order_follows d found order is shared asked held claims known done =
+    let first = order_done shared d found claims done in
     record {
       is = known.is;
       accepted = known.accepted;
-      orders = orders.0;
-      claims = ap (λ (hs : List (List ClaimView)). hs ++ claims) known.none ∙ orders.1;
-      done = orders.2;
+      orders = first.orders;
+      claims = ap (λ (hs : List (List ClaimView)). hs ++ claims) known.none ∙ first.claims_is;
+      done = subst (λ (one : Option OrderDelivered). IsOrderDelivered d.carrier_id d.moment d.home one first.orders) (same_order first.order (Some order) (sym first.found_is ∙ is)) first.done;
     }
 
-pub skipped_follow : (d : Delivery) (found : List Found) (delivered : Deliveries) → found ≡ any_found.Delivery (Orders delivered) ∷ [] → is_any delivered ≡ false
-    → FollowsFrom (any_progress.Delivery (at.DeliverOrders d)) found (Finish (reply.Done (kind.Delivery (delivery_reply d (numbers_of delivered)))))
-skipped_follow d found delivered is none shared asked held claims known done opening same =
-    let orders = orders_are shared d found delivered claims is done in
-    let all : all_claims (held ++ claims) ≡ orders.0 =
-    ap (λ (hs : List (List ClaimView)). all_claims (hs ++ claims)) known.none ∙ ap all_claims orders.1 ∙ append-nil orders.0 in
-    let replied : Reply = reply.Done (kind.Delivery (delivery_reply d (numbers_of delivered))) in
+pub skipped_follow : (d : Delivery) (found : List Found) → found ≡ any_found.Delivery (Order None) ∷ []
+    → FollowsFrom (any_progress.Delivery (at.DeliverOrder d)) found (Finish (reply.Done (kind.Delivery (delivery_reply d None))))
+skipped_follow d found is shared asked held claims known done opening same =
+    let first = order_done shared d found claims done in
+    let skipped = subst (λ (one : Option OrderDelivered). IsOrderDelivered d.carrier_id d.moment d.home one first.orders) (same_order first.order None (sym first.found_is ∙ is)) first.done in
+    let all : held ++ claims ≡ (first.orders ∷ []) ∷ [] = ap (λ (hs : List (List ClaimView)). hs ++ claims) known.none ∙ first.claims_is in
+    let replied : Reply = reply.Done (kind.Delivery (delivery_reply d None)) in
     subst (λ r. IsCarriedOut opening r (all_claims (held ++ claims)) replied) (sym known.is)
-    (subst (λ cs. IsCarriedOut opening (request.Delivery d) cs replied) (sym all)
-    (skipped_deliveries_are_carried_out opening d delivered orders.0 orders.2 none))
+    (subst (λ cs. IsCarriedOut opening (request.Delivery d) (all_claims cs) replied) (sym all)
+    (skipped_deliveries_are_carried_out opening d first.orders skipped))
 
--- ---- the customers
+-- ---- the customer
 
-same_customers : (one other : CustomersCredited) → any_found.Delivery (Customers one) ∷ [] ≡ any_found.Delivery (Customers other) ∷ [] → one ≡ other
-same_customers one other same = cc
+-- this was found of the customer, and done under this claim
+pub record IsCustomerDone (d : Delivery) (order : OrderDelivered) (found : List Found) (claims : List (List ClaimView)) : Type 0 where
+  pub credited : CustomerCredited
+  pub customers : ClaimView
+  pub found_is : found ≡ any_found.Delivery (Customer credited) ∷ []
+  pub claims_is : claims ≡ (customers ∷ []) ∷ []
+  pub done : IsCreditDone d.home order credited customers
 
-pub customers_found : (shared : SharedTables) (d : Delivery) (delivered : Deliveries) (found : List Found) (claims : List (List ClaimView))
-    → HaveAllDone shared (any_work.Delivery (CreditCustomers d delivered) ∷ []) found claims → AreCustomersOf found
-customers_found shared d delivered found claims done =
-    let one = one_done shared (CreditCustomers d delivered) found claims done in
-    (one.done.0, one.found_is ∙ ap (λ (f : OwnFound). any_found.Delivery f ∷ []) one.done.1)
+pub customer_done : (shared : SharedTables) (d : Delivery) (order : OrderDelivered) (found : List Found) (claims : List (List ClaimView))
+    → HaveAllDone shared (works_of (at.CreditCustomer d order)) found claims → IsCustomerDone d order found claims
+customer_done shared d order found claims done =
+    let one = first_done shared (any_work.Delivery (CreditCustomer d order)) [] found claims done in
+    let none = none_done shared one.others one.rest one.others_done in
+    let own = one.done.2 in
+    record {
+      credited = own.0;
+      customers = own.1;
+      found_is = one.found_is ∙ (λ i. (one.done.1 ∙ ap (λ (f : OwnFound). any_found.Delivery f) own.2) i ∷ none.0 i);
+      claims_is = one.claims_is ∙ (λ i. own.3 i ∷ none.1 i);
+      done = own.4;
+    }
 
-customers_are : (shared : SharedTables) (d : Delivery) (delivered : Deliveries) (found : List Found) (credited : CustomersCredited) (claims : List (List ClaimView))
-    → found ≡ any_found.Delivery (Customers credited) ∷ [] → HaveAllDone shared (any_work.Delivery (CreditCustomers d delivered) ∷ []) found claims
-    → (customers : List ClaimView) × (claims ≡ customers ∷ []) × AreCustomersCredited d.w_id ten delivered credited customers
-customers_are shared d delivered found credited claims is done =
-    let one = one_done shared (CreditCustomers d delivered) found claims done in
-    let found_here : found ≡ any_found.Delivery (Customers one.done.0) ∷ [] = one.found_is ∙ ap (λ (f : OwnFound). any_found.Delivery f ∷ []) one.done.1 in
-    (one.held, one.claims_is, subst (λ (one_is : CustomersCredited). AreCustomersCredited d.w_id ten delivered one_is one.held) (same_customers one.done.0 credited (sym found_here ∙ is)) one.done.2)
+same_customer : (one other : CustomerCredited) → any_found.Delivery (Customer one) ∷ [] ≡ any_found.Delivery (Customer other) ∷ [] → one ≡ other
+same_customer one other same = cc
 
--- the claims of both phases
-both_claims : (held claims : List (List ClaimView)) (orders customers : List ClaimView) → held ≡ orders ∷ [] → claims ≡ customers ∷ [] → all_claims (held ++ claims) ≡ orders ++ customers
-both_claims held claims orders customers held_is claims_is =
-    (λ i. all_claims (held_is i ++ claims_is i)) ∙ ap (λ cs. orders ++ cs) (append-nil customers)
-
-pub credited_follow : (d : Delivery) (delivered : Deliveries) (found : List Found) → found ≡ any_found.Delivery (Customers Credited) ∷ []
-    → FollowsFrom (any_progress.Delivery (at.CreditCustomers d delivered)) found (Finish (reply.Done (kind.Delivery (delivery_reply d (numbers_of delivered)))))
-credited_follow d delivered found is shared asked held claims known done opening same =
-    let customers = customers_are shared d delivered found Credited claims is done in
-    let all = both_claims held claims known.orders customers.0 known.claims customers.1 in
-    let replied : Reply = reply.Done (kind.Delivery (delivery_reply d (numbers_of delivered))) in
+-- under the claims of both phases the Delivery was carried out with the reply that what was found of the customer gives
+both_phases : (d : Delivery) (order : OrderDelivered) (found : List Found) (credited : CustomerCredited) (replied : Reply) → found ≡ any_found.Delivery (Customer credited) ∷ []
+    → ((opening : Database) (orders customers : ClaimView) → IsOrderDelivered d.carrier_id d.moment d.home (Some order) orders → IsCreditDone d.home order credited customers
+    → IsCarriedOut opening (request.Delivery d) (orders ∷ customers ∷ []) replied)
+    → FollowsFrom (any_progress.Delivery (at.CreditCustomer d order)) found (Finish replied)
+both_phases d order found credited replied is law shared asked held claims known done opening same =
+    let second = customer_done shared d order found claims done in
+    let customer = subst (λ (one : CustomerCredited). IsCreditDone d.home order one second.customers) (same_customer second.credited credited (sym second.found_is ∙ is)) second.done in
+    let all : held ++ claims ≡ (known.orders ∷ []) ∷ (second.customers ∷ []) ∷ [] =
+    ap (λ (hs : List (List ClaimView)). hs ++ claims) known.claims ∙ ap (λ (hs : List (List ClaimView)). (known.orders ∷ []) ∷ hs) second.claims_is in
     subst (λ r. IsCarriedOut opening r (all_claims (held ++ claims)) replied) (sym known.is)
-    (subst (λ cs. IsCarriedOut opening (request.Delivery d) cs replied) (sym all)
-    (deliveries_are_carried_out opening d delivered known.orders customers.0 known.done customers.2))
+    (subst (λ cs. IsCarriedOut opening (request.Delivery d) (all_claims cs) replied) (sym all)
+    (law opening known.orders second.customers known.done customer))
 
-pub out_follows : (d : Delivery) (delivered : Deliveries) (found : List Found) → found ≡ any_found.Delivery (Customers OutOfRange) ∷ []
-    → FollowsFrom (any_progress.Delivery (at.CreditCustomers d delivered)) found (Finish (reply.RolledBack Range))
-out_follows d delivered found is shared asked held claims known done opening same =
-    let customers = customers_are shared d delivered found OutOfRange claims is done in
-    let all = both_claims held claims known.orders customers.0 known.claims customers.1 in
-    subst (λ r. IsCarriedOut opening r (all_claims (held ++ claims)) (reply.RolledBack Range)) (sym known.is)
-    (subst (λ cs. IsCarriedOut opening (request.Delivery d) cs (reply.RolledBack Range)) (sym all)
-    (rolled_back_deliveries_are_carried_out opening d delivered known.orders customers.0 known.done customers.2))
+pub credited_follow : (d : Delivery) (order : OrderDelivered) (found : List Found) → found ≡ any_found.Delivery (Customer Credited) ∷ []
+    → FollowsFrom (any_progress.Delivery (at.CreditCustomer d order)) found (Finish (reply.Done (kind.Delivery (delivery_reply d (Some order.o_id)))))
+credited_follow d order found is =
+    both_phases d order found Credited (reply.Done (kind.Delivery (delivery_reply d (Some order.o_id)))) is
+    (λ opening orders customers delivered credited. deliveries_are_carried_out opening d order orders customers delivered credited)
+
+pub out_follows : (d : Delivery) (order : OrderDelivered) (found : List Found) → found ≡ any_found.Delivery (Customer OutOfRange) ∷ []
+    → FollowsFrom (any_progress.Delivery (at.CreditCustomer d order)) found (Finish (reply.RolledBack Range))
+out_follows d order found is =
+    both_phases d order found OutOfRange (reply.RolledBack Range) is
+    (λ opening orders customers delivered out. rolled_back_deliveries_are_carried_out opening d order orders customers delivered out)

@@ -40,7 +40,6 @@ pub mod NewOrderDone
 pub mod NewOrderSale
 pub mod DeliveryChanges
 pub mod DeliveryCarriedOut
-pub mod DeliveryKept
 pub mod DeliveryAmount
 pub mod DeliveryDone
 pub mod DeliveryWorks

@@ -13,7 +13,7 @@ use Rattle.transactions.specs.Progresses.{works_of}
 use Rattle.transactions.specs.Works.{all_group_wants}
 use Rattle.transactions.specs.declared.progress.Progress.TheVariants.{NewOrder, Payment, OrderStatus, Delivery, StockLevel}
 use Rattle.transactions.specs.Laws.{AcceptedRequestsHaveTheirGroups, ActionsCanDoTheirWork, ClaimsAreOfTheFootprint, PhasesHaveActions, ReachedRequestsAreAccepted, TransactionsClaimEachGroupOnce, TransactionsHaveFewActions}
-use Rattle.transactions.proofs.AcceptedGroups.{delivery_groups_there, level_groups_there, order_groups_there}
+use Rattle.transactions.proofs.AcceptedGroups.{level_groups_there, order_groups_there}
 use Rattle.transactions.proofs.NewOrderWorks as new_order
 use Rattle.transactions.proofs.PaymentWorks as payment
 use Rattle.transactions.proofs.OrderStatusWorks as order_status
@@ -24,7 +24,7 @@ pub accepted_requests_have_their_groups : AcceptedRequestsHaveTheirGroups
 accepted_requests_have_their_groups scale (request.NewOrder n) accepted = order_groups_there scale n accepted
 accepted_requests_have_their_groups scale (request.Payment p) accepted = payment.groups_there scale p accepted
 accepted_requests_have_their_groups scale (request.OrderStatus o) accepted = order_status.groups_there scale o accepted
-accepted_requests_have_their_groups scale (request.Delivery d) accepted = delivery_groups_there scale d accepted
+accepted_requests_have_their_groups scale (request.Delivery d) accepted = delivery.groups_there scale d accepted
 accepted_requests_have_their_groups scale (request.StockLevel s) accepted = level_groups_there scale s accepted
 
 pub accepted : ReachedRequestsAreAccepted

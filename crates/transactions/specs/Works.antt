@@ -36,7 +36,7 @@ abbrev pub home_of_request : Request → ℕ
 home_of_request (request.NewOrder asked) = asked.home.w_id
 home_of_request (request.Payment asked) = asked.home.w_id
 home_of_request (request.OrderStatus asked) = asked.home.w_id
-home_of_request (request.Delivery asked) = asked.w_id
+home_of_request (request.Delivery asked) = asked.home.w_id
 home_of_request (request.StockLevel asked) = asked.home.w_id
 
 -- the warehouse of the claims of an action, which are all on groups of one warehouse

@@ -1,5 +1,5 @@
-//! A Delivery (clause 2.7): its actions and what they find, its phases, and its law. The first phase delivers the oldest new
-//! order of each of the warehouse's ten districts; the second credits the customers who ordered them, if there are any (clause
+//! A Delivery (clause 2.7): its actions and what they find, its phases, and its law. The first phase delivers the district's
+//! oldest new order; the second credits the customer who ordered it, and is left out if the district has no new order (clause
 //! 2.7.4.2).
 ghost use Rattle.transactions.specs.DeliveryLaws.{DeliveriesAreCarriedOut, RolledBackDeliveriesAreCarriedOut, SkippedDeliveriesAreCarriedOut};
 
@@ -8,8 +8,8 @@ mod orders;
 mod phases;
 mod work;
 
-pub use customers::credit_customers;
-pub use orders::deliver_orders;
+pub use customers::credit_customer;
+pub use orders::deliver_order;
 pub use phases::Progress;
 pub use work::{Found, Work};
 
@@ -24,30 +24,27 @@ pub struct OrderDelivered {
     pub amount: u32,
 }
 
-/// The order that was delivered in each of the districts 1 to 10; `None` if the district had no new order.
-pub type Delivered = [Option<OrderDelivered>; 10];
-
-/// What a Delivery finds of the customers whose orders are delivered.
+/// What a Delivery finds of the customer whose order is delivered.
 #[derive(Clone, Copy, Debug, PartialEq, Eq)]
-pub enum CustomersCredited {
-    /// There is no row of one of them, or a C_BALANCE or a C_DELIVERY_CNT would leave its range.
+pub enum CustomerCredited {
+    /// The customer has no row, or C_BALANCE or C_DELIVERY_CNT would leave its range.
     OutOfRange,
-    /// All of them are credited.
+    /// The customer is credited.
     Credited,
 }
 
-/// Law: if each action did its work, the Delivery is carried out as the machine does it: the reply is the machine's, and the
+/// Law: if both actions did their work, the Delivery is carried out as the machine does it: the reply is the machine's, and the
 /// claims leave what the machine leaves.
 pub fn deliveries_are_carried_out()
     ensures { DeliveriesAreCarriedOut }
 {}
 
-/// Law: if no district has a new order, the Delivery is carried out without the second phase.
+/// Law: if the district has no new order, the Delivery is carried out without the second phase.
 pub fn skipped_deliveries_are_carried_out()
     ensures { SkippedDeliveriesAreCarriedOut }
 {}
 
-/// Law: if a customer can't be credited, the machine rolls the Delivery back, with the same fault.
+/// Law: if the customer can't be credited, the machine rolls the Delivery back, with the same fault.
 pub fn rolled_back_deliveries_are_carried_out()
     ensures { RolledBackDeliveriesAreCarriedOut }
 {}

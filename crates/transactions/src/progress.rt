@@ -39,7 +39,7 @@ impl Progress {
                 Progress::OrderStatus(order_status::Progress::ReadCustomer(asked))
             }
             Request::Delivery(delivery) => {
-                Progress::Delivery(delivery::Progress::DeliverOrders(delivery))
+                Progress::Delivery(delivery::Progress::DeliverOrder(delivery))
             }
             Request::StockLevel(asked) => {
                 Progress::StockLevel(stock_level::Progress::ReadNext(asked))

@@ -124,7 +124,7 @@ pub fn home_of_request(request: &Request) -> u32
         Request::NewOrder(order) => order.home.w_id,
         Request::Payment(payment) => payment.home.w_id,
         Request::OrderStatus(asked) => asked.home.w_id,
-        Request::Delivery(delivery) => delivery.w_id,
+        Request::Delivery(delivery) => delivery.home.w_id,
         Request::StockLevel(asked) => asked.home.w_id,
     }
 }

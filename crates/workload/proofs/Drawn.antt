@@ -7,7 +7,6 @@ use Rattle.rows.specs.Ranged.{is_between}
 use Rattle.rows.specs.LastName.{last_name_of}
 use Rattle.schema.specs.declared.scale.Scale.{Scale}
 use Rattle.requests.specs.declared.request.Choice.TheVariants.{Number, LastName}
-use Rattle.requests.specs.Check.{IsAccepted}
 use Rattle.number_draws.specs.Words.{word, beyond}
 use Rattle.number_draws.specs.Draws.{random_of}
 use Rattle.workload.specs.declared.kind.Kind.{Kind}
@@ -18,9 +17,9 @@ use Rattle.workload.specs.Customers.{customer_id, name_number, choice_of}
 use Rattle.workload.specs.NewOrders.{rolls_back, lines_drawn, new_order_drawn}
 use Rattle.workload.specs.Payments.{payment_drawn}
 use Rattle.workload.specs.Requests.{moment_at, order_status_drawn, request_drawn, requests_drawn}
-use Rattle.workload.specs.Within.{IsCustomer, IsWithin, NameItems}
+use Rattle.workload.specs.Within.{AreAccepted, IsCustomer, IsWithin, NameItems}
 use Rattle.workload.proofs.Numbers.{rest_between, random-between, nu_rand-within, nu_rand-between}
-use Rattle.workload.proofs.Accepted.{accepted-new_order, accepted-payment, accepted-order_status, accepted-delivery, accepted-stock_level}
+use Rattle.workload.proofs.Accepted.{accepted-alone, accepted-new_order, accepted-payment, accepted-order_status, accepted-stock_level, accepted-warehouse_delivery}
 use Rattle.workload.proofs.OtherWarehouses.{IsDistrict, customer_home-there, customer_home-near}
 use Rattle.workload.proofs.Lines.{lines-count, lines-quantities, lines-suppliers, lines-near, lines-items}
 
@@ -40,15 +39,15 @@ choice-customer scale generator =
       | false ↦ (name, name_below scale next, refl)
     ]
 
-new_order-accepted : (terminal : Terminal) (moment : ℕ) (generator : Lcg) → IsDistrict terminal terminal.home → IsAccepted terminal.scale (request_drawn terminal moment NewOrder generator).0
+new_order-accepted : (terminal : Terminal) (moment : ℕ) (generator : Lcg) → IsDistrict terminal terminal.home → AreAccepted terminal.scale (request_drawn terminal moment NewOrder generator).0
 unfolding request_drawn new_order_drawn
 new_order-accepted terminal moment generator there =
     let back = rolls_back generator in
     let count = random_of 5 15 (beyond 3 generator) in
     let lines = (lines_drawn terminal back count (beyond 5 generator)).0 in
     let many : is_between 5 15 (length lines) ≡ true = ap (is_between 5 15) (lines-count terminal back count (beyond 5 generator)) ∙ random-between 5 15 (beyond 3 generator) (omega arith) in
-    accepted-new_order terminal.scale (new_order_drawn terminal moment generator).0 there.warehouse (random-between 1 10 generator (omega arith)) many
-    (lines-quantities terminal back count (beyond 5 generator)) (lines-suppliers terminal back count (beyond 5 generator) there)
+    accepted-alone terminal.scale _ (accepted-new_order terminal.scale (new_order_drawn terminal moment generator).0 there.warehouse (random-between 1 10 generator (omega arith)) many
+    (lines-quantities terminal back count (beyond 5 generator)) (lines-suppliers terminal back count (beyond 5 generator) there))
 
 -- of so many lines as are some
 some-items : (terminal : Terminal) (back : _) (count : ℕ) (generator : Lcg) → 1 ≤ count → NameItems terminal.scale (lines_drawn terminal back count generator).0
@@ -70,12 +69,12 @@ new_order-within terminal moment generator =
 home-there : (terminal : Terminal) (generator : Lcg) → IsDistrict terminal terminal.home → IsDistrict terminal (record { w_id = terminal.home.w_id; d_id = random_of 1 10 generator })
 home-there terminal generator there = record { warehouse = there.warehouse; district = random-between 1 10 generator (omega arith) }
 
-payment-accepted : (terminal : Terminal) (moment : ℕ) (generator : Lcg) → IsDistrict terminal terminal.home → IsAccepted terminal.scale (request_drawn terminal moment Payment generator).0
+payment-accepted : (terminal : Terminal) (moment : ℕ) (generator : Lcg) → IsDistrict terminal terminal.home → AreAccepted terminal.scale (request_drawn terminal moment Payment generator).0
 unfolding request_drawn payment_drawn
 payment-accepted terminal moment generator there =
     let own = home-there terminal generator there in
     let customers = customer_home-there terminal _ (beyond 1 generator) there own in
-    accepted-payment terminal.scale (payment_drawn terminal moment generator).0 own.warehouse customers.warehouse own.district customers.district (random-between 100 500000 _ (omega arith))
+    accepted-alone terminal.scale _ (accepted-payment terminal.scale (payment_drawn terminal moment generator).0 own.warehouse customers.warehouse own.district customers.district (random-between 100 500000 _ (omega arith)))
 
 payment-within : (terminal : Terminal) (moment : ℕ) (generator : Lcg) → IsWithin terminal (request_drawn terminal moment Payment generator).0
 unfolding request_drawn payment_drawn
@@ -83,13 +82,16 @@ payment-within terminal moment generator =
     (refl, choice-customer terminal.scale _, λ none. ap (λ key. key.w_id) (customer_home-near terminal _ (beyond 1 generator) none))
 
 -- whatever the kind
-pub request-accepted : (terminal : Terminal) (moment : ℕ) (kind : Kind) (generator : Lcg) → IsDistrict terminal terminal.home → IsAccepted terminal.scale (request_drawn terminal moment kind generator).0
+pub request-accepted : (terminal : Terminal) (moment : ℕ) (kind : Kind) (generator : Lcg) → IsDistrict terminal terminal.home → AreAccepted terminal.scale (request_drawn terminal moment kind generator).0
 unfolding request_drawn order_status_drawn
 request-accepted terminal moment NewOrder generator there = new_order-accepted terminal moment generator there
 request-accepted terminal moment Payment generator there = payment-accepted terminal moment generator there
-request-accepted terminal moment OrderStatus generator there = accepted-order_status terminal.scale (order_status_drawn terminal generator).0 there.warehouse (random-between 1 10 generator (omega arith))
-request-accepted terminal moment Delivery generator there = accepted-delivery terminal.scale (record { w_id = terminal.home.w_id; carrier_id = random_of 1 10 generator; moment = moment }) there.warehouse (random-between 1 10 generator (omega arith))
-request-accepted terminal moment StockLevel generator there = accepted-stock_level terminal.scale (record { home = terminal.home; threshold = random_of 10 20 generator }) there.warehouse there.district (random-between 10 20 generator (omega arith))
+request-accepted terminal moment OrderStatus generator there =
+    accepted-alone terminal.scale _ (accepted-order_status terminal.scale (order_status_drawn terminal generator).0 there.warehouse (random-between 1 10 generator (omega arith)))
+request-accepted terminal moment Delivery generator there =
+    accepted-warehouse_delivery terminal.scale (record { w_id = terminal.home.w_id; carrier_id = random_of 1 10 generator; moment = moment }) there.warehouse (random-between 1 10 generator (omega arith))
+request-accepted terminal moment StockLevel generator there =
+    accepted-alone terminal.scale _ (accepted-stock_level terminal.scale (record { home = terminal.home; threshold = random_of 10 20 generator }) there.warehouse there.district (random-between 10 20 generator (omega arith)))
 
 pub request-within : (terminal : Terminal) (moment : ℕ) (kind : Kind) (generator : Lcg) → IsWithin terminal (request_drawn terminal moment kind generator).0
 unfolding request_drawn order_status_drawn
@@ -109,11 +111,11 @@ request-kind terminal moment StockLevel generator = refl
 
 -- ---- and so all of a script
 
-pub requests-accepted : (terminal : Terminal) (now number : ℕ) (kinds : List Kind) (generator : Lcg) → IsDistrict terminal terminal.home → All (IsAccepted terminal.scale) (requests_drawn terminal now number kinds generator)
+pub requests-accepted : (terminal : Terminal) (now number : ℕ) (kinds : List Kind) (generator : Lcg) → IsDistrict terminal terminal.home → All (AreAccepted terminal.scale) (requests_drawn terminal now number kinds generator)
 unfolding requests_drawn
 requests-accepted terminal now number [] generator there = All-nil _
 requests-accepted terminal now number (kind ∷ kinds) generator there =
-    All-cons (IsAccepted terminal.scale) _ _ (request-accepted terminal (moment_at now number) kind generator there)
+    All-cons (AreAccepted terminal.scale) _ _ (request-accepted terminal (moment_at now number) kind generator there)
     (requests-accepted terminal now (number + 1) kinds (request_drawn terminal (moment_at now number) kind generator).1 there)
 
 pub requests-within : (terminal : Terminal) (now number : ℕ) (kinds : List Kind) (generator : Lcg) → All (IsWithin terminal) (requests_drawn terminal now number kinds generator)

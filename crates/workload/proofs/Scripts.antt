@@ -1,7 +1,7 @@
 -- Requests and decks, one after another.
 use Rattle.std.proofs.Common.{◌≡◌, ℕ, zero, suc, ◌+◌, ◌-◌, ◌≤◌, List, [], ◌∷◌, ◌++◌, length, refl, sym, ap, ◌∙◌, arith}
 use Rattle.rand_pcg.specs.Lcg.{Lcg}
-use Rattle.requests.specs.declared.request.Request.{Request}
+use Rattle.requests.specs.declared.terminal_request.TerminalRequest.{TerminalRequest}
 use Rattle.number_draws.specs.Words.{beyond}
 use Rattle.number_draws.specs.Draws.{shuffled}
 use Rattle.workload.specs.declared.kind.Kind.{Kind}
@@ -10,12 +10,12 @@ use Rattle.workload.specs.Decks.{decks_drawn}
 use Rattle.workload.specs.Requests.{moment_at, request_drawn, requests_drawn}
 
 -- the first request, and the others
-pub requests-first : (terminal : Terminal) (now number : ℕ) (kind : Kind) (kinds : List Kind) (generator : Lcg) (request : Request) (after : Lcg)
+pub requests-first : (terminal : Terminal) (now number : ℕ) (kind : Kind) (kinds : List Kind) (generator : Lcg) (request : TerminalRequest) (after : Lcg)
     → (request, after) ≡ request_drawn terminal (moment_at now number) kind generator
     → requests_drawn terminal now number (kind ∷ kinds) generator ≡ request ∷ requests_drawn terminal now (number + 1) kinds after
 unfolding requests_drawn
 requests-first terminal now number kind kinds generator request after drawn =
-    ap (λ (p : Request × Lcg). p.0 ∷ requests_drawn terminal now (number + 1) kinds p.1) (sym drawn)
+    ap (λ (p : TerminalRequest × Lcg). p.0 ∷ requests_drawn terminal now (number + 1) kinds p.1) (sym drawn)
 
 -- none
 pub requests-none : (terminal : Terminal) (now number : ℕ) (generator : Lcg) → requests_drawn terminal now number [] generator ≡ []

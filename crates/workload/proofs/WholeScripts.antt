@@ -6,7 +6,6 @@ use Rattle.rand_pcg.specs.Lcg.{Lcg}
 use Rattle.rows.specs.Ranged.{is_between}
 use Rattle.schema.specs.declared.scale.Scale.{Scale}
 use Rattle.schema.specs.Scale.{has_warehouse}
-use Rattle.requests.specs.Check.{IsAccepted}
 use Rattle.number_draws.specs.Words.{seeded}
 use Rattle.workload.specs.declared.kind.Kind.{Kind}
 use Rattle.workload.specs.declared.terminal.Terminal.{Terminal}
@@ -15,7 +14,7 @@ use Rattle.workload.specs.Kinds.{kind_of}
 use Rattle.workload.specs.Decks.{AreDealt, cards_of, kinds_drawn}
 use Rattle.workload.specs.Requests.{moment_at, request_drawn, requests_drawn}
 use Rattle.workload.specs.Sessions.{home_of, terminal_of, script_drawn}
-use Rattle.workload.specs.Within.{IsWithin}
+use Rattle.workload.specs.Within.{AreAccepted, IsWithin}
 use Rattle.workload.proofs.Numbers.{between}
 use Rattle.workload.proofs.OtherWarehouses.{IsDistrict}
 use Rattle.workload.proofs.Drawn.{requests-accepted, requests-within, requests-kinds}
@@ -51,7 +50,7 @@ unfolding script_drawn
 script-count workload session =
     requests-count (terminal_of workload session) workload.start 0 _ _ ∙ kinds-count workload.mix workload.requests (seeded (workload.seed + 2 ^ 32 * (2 * session + 1)))
 
-pub script-accepted : (workload : Workload) (session : ℕ) → All (IsAccepted workload.scale) (script_drawn workload session)
+pub script-accepted : (workload : Workload) (session : ℕ) → All (AreAccepted workload.scale) (script_drawn workload session)
 unfolding script_drawn
 script-accepted workload session = requests-accepted (terminal_of workload session) workload.start 0 _ _ (terminal-there workload session)
 

@@ -2,8 +2,8 @@
 -- generator after it.
 use Rattle.std.specs.Prelude.{ℕ, ◌+◌, min, List, [], ◌∷◌}
 use Rattle.rand_pcg.specs.Lcg.{Lcg}
-use Rattle.requests.specs.declared.request.Request.{Request}
-use Rattle.requests.specs.declared.request.Request.TheVariants.{NewOrder, Payment, OrderStatus, Delivery, StockLevel}
+use Rattle.requests.specs.declared.terminal_request.TerminalRequest.{TerminalRequest}
+use Rattle.requests.specs.declared.terminal_request.TerminalRequest.TheVariants.{NewOrder, Payment, OrderStatus, Delivery, StockLevel}
 use Rattle.requests.specs.declared.order_status.OrderStatus.{OrderStatus as StatusRequest}
 use Rattle.number_draws.specs.Words.{beyond}
 use Rattle.number_draws.specs.Draws.{random_of}
@@ -28,9 +28,9 @@ order_status_drawn terminal generator = (
   beyond 4 generator,
 )
 
--- A request of that kind. A Delivery draws the carrier, 1 to 10 (clause 2.7.1). A Stock-Level is for the terminal's own
+-- A request of that kind. A Delivery is of the terminal's warehouse and draws the carrier, 1 to 10 (clause 2.7.1). A Stock-Level is for the terminal's own
 -- district and draws the threshold, 10 to 20 (clause 2.8.1).
-unfoldable pub request_drawn : Terminal → ℕ → Kind → Lcg → Request × Lcg
+unfoldable pub request_drawn : Terminal → ℕ → Kind → Lcg → TerminalRequest × Lcg
 request_drawn terminal moment NewOrderKind generator =
     let order = new_order_drawn terminal moment generator in (NewOrder order.0, order.1)
 request_drawn terminal moment PaymentKind generator =
@@ -44,7 +44,7 @@ request_drawn terminal moment StockLevelKind generator =
 
 -- a request of each of these kinds, one after another; the first has this number, and each is as many seconds after
 -- `now` as its number
-unfoldable pub requests_drawn : Terminal → ℕ → ℕ → List Kind → Lcg → List Request
+unfoldable pub requests_drawn : Terminal → ℕ → ℕ → List Kind → Lcg → List TerminalRequest
 requests_drawn terminal now number [] generator = []
 requests_drawn terminal now number (kind ∷ kinds) generator =
     let request = request_drawn terminal (moment_at now number) kind generator in

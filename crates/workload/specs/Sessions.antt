@@ -1,7 +1,7 @@
 -- The terminal and the script of each session.
 use Rattle.std.specs.Prelude.{ℕ, ◌+◌, ◌*◌, ◌/◌, ◌%◌, ◌^◌, List, Option, Some, None}
 use Rattle.rows.specs.declared.keys.DistrictKey.{DistrictKey}
-use Rattle.requests.specs.declared.request.Request.{Request}
+use Rattle.requests.specs.declared.terminal_request.TerminalRequest.{TerminalRequest}
 use Rattle.number_draws.specs.Words.{seeded}
 use Rattle.workload.specs.declared.terminal.Terminal.{Terminal}
 use Rattle.workload.specs.declared.sessions.Workload.{Workload}
@@ -21,7 +21,7 @@ terminal_of workload session =
 
 -- The script of a session. One generator draws its kinds, from the seed plus 2 ^ 32 * (2 * session + 1); another draws
 -- its requests, from the seed plus 2 ^ 32 * (2 * session + 2).
-unfoldable pub script_drawn : Workload → ℕ → List Request
+unfoldable pub script_drawn : Workload → ℕ → List TerminalRequest
 script_drawn workload session =
     let kinds = kinds_drawn workload.mix workload.requests (seeded (workload.seed + 2 ^ 32 * (2 * session + 1))) in
     requests_drawn (terminal_of workload session) workload.start 0 kinds (seeded (workload.seed + 2 ^ 32 * (2 * session + 2)))

@@ -1,16 +1,22 @@
--- The rows that the requests of a terminal name.
+-- The rows that the requests of a terminal name, and that the check accepts them.
 use Rattle.std.specs.Prelude.{◌≡◌, ℕ, ◌+◌, ◌<◌, false, List, [], ◌∷◌, IsTrue, All, min}
 use Rattle.std.specs.Prelude.{◌⊎◌}
 use Rattle.rows.specs.LastName.{last_name_of}
 use Rattle.rows.specs.Ranged.{is_between}
 use Rattle.schema.specs.declared.scale.Scale.{Scale}
 use Rattle.schema.specs.Scale.{has_item}
-use Rattle.requests.specs.declared.request.Request.{Request}
-use Rattle.requests.specs.declared.request.Request.TheVariants.{NewOrder, Payment, OrderStatus, Delivery, StockLevel}
+use Rattle.requests.specs.Check.{IsAccepted}
+use Rattle.requests.specs.TerminalRequest.{requests_of}
+use Rattle.requests.specs.declared.terminal_request.TerminalRequest.{TerminalRequest}
+use Rattle.requests.specs.declared.terminal_request.TerminalRequest.TheVariants.{NewOrder, Payment, OrderStatus, Delivery, StockLevel}
 use Rattle.requests.specs.declared.request.Choice.{Choice}
 use Rattle.requests.specs.declared.request.Choice.TheVariants.{Number, LastName}
 use Rattle.requests.specs.declared.new_order.OrderedLine.{OrderedLine}
 use Rattle.workload.specs.declared.terminal.Terminal.{Terminal}
+
+-- the check accepts each request that a terminal's request is carried out as
+abbrev pub AreAccepted : Scale → TerminalRequest → Type 0
+AreAccepted scale asked = All (IsAccepted scale) (requests_of asked)
 
 -- a customer that every district has: by number, or by a last name of the populated customers
 abbrev pub IsCustomer : Scale → Choice → Type 0
@@ -29,7 +35,7 @@ IsNear terminal w_id = terminal.remote ≡ false → w_id ≡ terminal.home.w_id
 
 -- A request is made in the terminal's warehouse. Its customers exist, and its items exist, except that the last line
 -- may name a missing item. Other warehouses occur only if they take part.
-abbrev pub IsWithin : Terminal → Request → Type 0
+abbrev pub IsWithin : Terminal → TerminalRequest → Type 0
 IsWithin terminal (NewOrder order) =
     (order.home.w_id ≡ terminal.home.w_id) × IsTrue (is_between 1 terminal.scale.customers order.c_id)
     × NameItems terminal.scale order.lines × All (λ line. IsNear terminal line.supply_w_id) order.lines

@@ -6,7 +6,7 @@ use crate::new_order::new_order;
 use crate::payment::payment;
 use crate::{Kind, Terminal};
 use number_draws::NumberDraws;
-use requests::{Delivery, OrderStatus, Request, StockLevel};
+use requests::{OrderStatus, StockLevel, TerminalRequest, WarehouseDelivery};
 use schema::{DistrictKey, Moment, NoMemory};
 use std::alloc::Global;
 
@@ -20,7 +20,7 @@ pub(crate) fn draw_requests(
     terminal: &Terminal,
     now: Moment,
     kinds: &[Kind],
-) -> Result<Vec<Request>, NoMemory>
+) -> Result<Vec<TerminalRequest>, NoMemory>
     requires { length kinds.now ≤ 2 ^ 32 }
     ensures { IfOk result
         (λ requests. requests.items ≡ requests_drawn terminal.now now 0 kinds.now draws.old) }
@@ -49,20 +49,20 @@ fn request(
     terminal: &Terminal,
     moment: Moment,
     kind: Kind,
-) -> Result<Request, NoMemory>
+) -> Result<TerminalRequest, NoMemory>
     ensures { IfOk result
         (λ request. (request, draws.new) ≡ request_drawn terminal.now moment kind draws.old) }
 {
     match kind {
-        Kind::NewOrder => Ok(Request::NewOrder(new_order(alloc, draws, terminal, moment)?)),
-        Kind::Payment => Ok(Request::Payment(payment(draws, terminal, moment))),
-        Kind::OrderStatus => Ok(Request::OrderStatus(order_status(draws, terminal))),
-        Kind::Delivery => Ok(Request::Delivery(Delivery {
+        Kind::NewOrder => Ok(TerminalRequest::NewOrder(new_order(alloc, draws, terminal, moment)?)),
+        Kind::Payment => Ok(TerminalRequest::Payment(payment(draws, terminal, moment))),
+        Kind::OrderStatus => Ok(TerminalRequest::OrderStatus(order_status(draws, terminal))),
+        Kind::Delivery => Ok(TerminalRequest::Delivery(WarehouseDelivery {
             w_id: terminal.home.w_id,
             carrier_id: draws.random(1, 10),
             moment,
         })),
-        Kind::StockLevel => Ok(Request::StockLevel(StockLevel {
+        Kind::StockLevel => Ok(TerminalRequest::StockLevel(StockLevel {
             home: terminal.home,
             threshold: draws.random(10, 20),
         })),

@@ -141,10 +141,10 @@ pub fn command<'a>(alloc: Global) -> Result<Command<'a>, AllocError>
 // The text of `tpcc run --help` after the arguments.
 const HELP: &str = "\
 The first SCRIPT is session 0, the next session 1, and so on. They are served at the same time by executors,
-each in the order of its requests, numbered from 0. An executor has the warehouses between it and the next:
+each in the order of its records, numbered from 0. An executor has the warehouses between it and the next:
 warehouse w is at executor (w-1)*executors/warehouses, from 0. A move `lo,hi,to` takes the warehouses from
 number lo to number hi to executor to, while requests go on; moves are made one after the other, all of them.
-Prints a record for each request:
+Prints an answer for each record, and ten for a Delivery, one for each district in turn:
   session,number,done,place,..     it stands in the log at this place, from 0; then the reply
   session,number,refused,code,..   it is not in the log, and changed nothing: 1 to 8 what is wrong with it,
                                    11 it died each time it was tried, 12 no memory, 14 the log is full

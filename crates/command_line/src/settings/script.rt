@@ -17,7 +17,7 @@ use schema::Moment;
 use std::alloc::{AllocError, Global};
 use workload::Mix;
 
-// A script has no more requests than a log has entries.
+// A script has no more records than a log has entries.
 const MOST_REQUESTS: u32 = MOST_ENTRIES as u32;
 
 /// The settings of `tpcc script`: paths of files, and the parameters of the scripts.
@@ -26,7 +26,7 @@ pub struct ScriptSettings<'a> {
     pub data: &'a str,
     /// 1 to 64 paths, all different. File s, from 0, gets the script of session s.
     pub files: Vec<&'a str>,
-    /// How many requests each script has, 0 to 16,777,216.
+    /// How many records each script has, 0 to 16,777,216.
     pub requests: u32,
     pub seed: u32,
     pub mix: Mix,

@@ -1,5 +1,12 @@
+ghost use Rattle.std.specs.Prelude.{◌≡◌, []};
+ghost use Rattle.commit_log.specs.Limits.{AreLimits};
+
+use super::serving::{YieldsBySeed, crossing, done_in, order};
 use super::*;
-use engine::{Client, Engine, Gate, Left, ServeNames, Session, meet, serve_client};
+use commit_log::Limits;
+use engine::{
+    Client, Engine, Gate, Left, OpenGate, ServeNames, ServeOptions, Session, meet, serve,
+};
 use requests::{OrderStatus, Refusal, Reply, Shown};
 use std::alloc::Global;
 use std::sync::Wait;
@@ -56,7 +63,7 @@ impl ReadsBack {
     ) -> Option<Vec<Left<J>>> {
         let asks = sessions.pop()?;
         let pays = sessions.pop()?;
-        if (pays.number(), asks.number()) != (0, 1) || !asks.requests().is_empty() {
+        if (pays.number(), asks.number()) != (0, 1) || !asks.parts().is_empty() {
             return None;
         }
         let mut pays = ask_until_done(rt, alloc, engine, pays, &payment(123))?;
@@ -111,7 +118,7 @@ fn last_owed<J: ServeNames, G: Gate>(
     let Ok(place) = *session.answers().last()? else {
         return None;
     };
-    if session.requests().iter().any(|it| *it != status()) {
+    if session.parts().iter().any(|it| it.request != status()) {
         return None;
     }
     let mut log = engine.log(rt);
@@ -134,7 +141,7 @@ fn a_session_finds_what_another_paid_that_it_met(rt: HostRuntime) -> Result<(), 
         seen: AtomicU64::new(0),
         owed: AtomicU64::new(0),
     };
-    let outcome = serve_client(&rt, alloc, tables, 2, 2, &client)?;
+    let outcome = serve(&rt, alloc, tables, &interactively(2), OpenGate, &client)?;
     assert_eq!(rt; outcome.log.len(), 2);
     assert_eq!(rt; client.met.load(Ordering::SeqCst), 1);
     assert_eq!(rt; client.seen.load(Ordering::SeqCst), 2);
@@ -158,11 +165,11 @@ impl AsksTooLate {
         mut sessions: Vec<Session<J>>,
     ) -> Option<Vec<Left<J>>> {
         let session = ask_until_done(rt, alloc, engine, sessions.pop()?, &payment(123))?;
-        engine.close();
+        engine.close(rt);
         let (session, answer) = session.ask(rt, alloc, engine, payment(456)).ok()?;
         if answer == Err(Refusal::Closed) {
             self.asked
-                .store(session.requests().len() as u64, Ordering::SeqCst);
+                .store(session.parts().len() as u64, Ordering::SeqCst);
         }
         let mut left = Vec::new(alloc);
         left.push(session.leave(rt, engine)).ok()?;
@@ -197,8 +204,100 @@ fn a_closed_engine_refuses_what_is_asked(rt: HostRuntime) -> Result<(), Fail> {
     let client = AsksTooLate {
         asked: AtomicU64::new(0),
     };
-    let outcome = serve_client(&rt, alloc, tables, 1, 2, &client)?;
+    let outcome = serve(&rt, alloc, tables, &interactively(1), OpenGate, &client)?;
     assert_eq!(rt; client.asked.load(Ordering::SeqCst), 1);
     assert_eq!(rt; outcome.log.len(), 1);
     Ok(())
+}
+
+// How many payments a session makes beside the scripts.
+const PAYMENTS: u64 = 20;
+
+// A session that pays again and again.
+#[derive(Drop)]
+struct Pays {
+    // How many of its payments were carried out.
+    done: AtomicU64,
+}
+
+impl Pays {
+    fn pay<J: ServeNames, G: Gate>(
+        &self,
+        rt: &impl Wait,
+        alloc: Global,
+        engine: &Engine<'_, J, G>,
+        mut sessions: Vec<Session<J>>,
+    ) -> Option<Vec<Left<J>>> {
+        let mut session = sessions.pop()?;
+        for _ in 0..PAYMENTS {
+            session = ask_until_done(rt, alloc, engine, session, &payment(123))?;
+            self.done.fetch_add(1, Ordering::SeqCst);
+        }
+        let mut left = Vec::new(alloc);
+        left.push(session.leave(rt, engine)).ok()?;
+        Some(left)
+    }
+}
+
+impl Client for Pays {
+    ghost use Rattle.std.specs.Prelude.{⊤};
+
+    ghost promises = { λ _ _ _ _. ⊤ };
+
+    fn ask_all<J: ServeNames + Send + Sync, G: Gate, R: Threads + Wait + Sync>(
+        &self,
+        rt: &R,
+        alloc: Global,
+        engine: &Engine<'_, J, G>,
+        sessions: Vec<Session<J>>,
+    ) -> Vec<Left<J>> {
+        match self.pay(rt, alloc, engine, sessions) {
+            Some(left) => left,
+            None => Vec::new(alloc),
+        }
+    }
+}
+
+// A session asks beside scripts, while warehouses move and executors are held up: all is carried out.
+#[test]
+fn a_session_asks_beside_scripts(rt: HostRuntime) -> Result<(), Fail> {
+    let alloc = rt.alloc();
+    let scripts = [crossing(alloc, 1, 2)?, crossing(alloc, 2, 1)?];
+    let moves = [order(1, 1, 1), order(1, 2, 0), order(2, 2, 1)];
+    let options = ServeOptions {
+        scripts: &scripts,
+        sessions: 1,
+        executors: 2,
+        tries: 10_000,
+        limits: Limits::greatest(),
+        moves: &moves,
+    };
+    let gate = YieldsBySeed {
+        drawn: AtomicU64::new(7),
+    };
+    let client = Pays {
+        done: AtomicU64::new(0),
+    };
+    let outcome = serve(&rt, alloc, two_warehouses(alloc)?, &options, &gate, &client)?;
+    assert_eq!(rt; client.done.load(Ordering::SeqCst), PAYMENTS);
+    assert_eq!(rt; outcome.log.len(), 50 + PAYMENTS as usize);
+    assert_eq!(rt; done_in(&outcome), outcome.log.len());
+    Ok(())
+}
+
+// This many sessions ask interactively; two executors serve them.
+fn interactively(sessions: usize) -> ServeOptions<'static>
+    ensures scripts { result.scripts.now ≡ [] }
+    ensures sessions { result.sessions ≡ sessions }
+    ensures executors { result.executors ≡ 2 }
+    ensures limits { AreLimits result.limits }
+{
+    ServeOptions {
+        scripts: &[],
+        sessions,
+        executors: 2,
+        tries: 1,
+        limits: Limits::greatest(),
+        moves: &[],
+    }
 }

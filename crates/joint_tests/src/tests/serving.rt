@@ -3,8 +3,8 @@ ghost use Rattle.commit_log.specs.Limits.{AreLimits};
 
 use super::*;
 use commit_log::Limits;
-use engine::{Gate, MoveOrder, Outcome, ServeFault, ServeOptions, serve};
-use requests::Script;
+use engine::{Gate, MoveOrder, NoClient, OpenGate, Outcome, ServeFault, ServeOptions, serve};
+use requests::{Part, Script};
 use std::alloc::Global;
 use std::process::Abort;
 use std::sync::Wait;
@@ -20,21 +20,23 @@ fn script(alloc: Global, w_id: u32, amount: u32) -> Result<Script, Fail> {
 }
 
 // `count` payments of that amount at a warehouse.
-fn scripted(alloc: Global, w_id: u32, amount: u32, count: usize) -> Result<Script, Fail> {
-    let mut requests = Vec::new(alloc);
-    for _ in 0..count {
-        requests.push(payment_at(w_id, amount))?;
+fn scripted(alloc: Global, w_id: u32, amount: u32, count: u32) -> Result<Script, Fail> {
+    let mut parts = Vec::new(alloc);
+    for number in 0..count {
+        let request = payment_at(w_id, amount);
+        parts.push(Part { number, request })?;
     }
-    Ok(Script::checked_new(requests).ok_or("a script")?)
+    Ok(Script::checked_new(parts).ok_or("a script")?)
 }
 
 // 25 payments at a warehouse by a customer of another.
-fn crossing(alloc: Global, w_id: u32, customer_w_id: u32) -> Result<Script, Fail> {
-    let mut requests = Vec::new(alloc);
-    for _ in 0..25 {
-        requests.push(payment_by(w_id, customer_w_id, 100))?;
+pub(super) fn crossing(alloc: Global, w_id: u32, customer_w_id: u32) -> Result<Script, Fail> {
+    let mut parts = Vec::new(alloc);
+    for number in 0..25 {
+        let request = payment_by(w_id, customer_w_id, 100);
+        parts.push(Part { number, request })?;
     }
-    Ok(Script::checked_new(requests).ok_or("a script")?)
+    Ok(Script::checked_new(parts).ok_or("a script")?)
 }
 
 // Whether the count reaches this number before the thread has yielded MOST_TURNS times.
@@ -49,7 +51,7 @@ fn comes_to(count: &AtomicU64, least: u64) -> bool {
 }
 
 // The number of requests that were carried out.
-fn done_in(outcome: &Outcome) -> usize {
+pub(super) fn done_in(outcome: &Outcome) -> usize {
     let mut count: usize = 0;
     for answers in &outcome.answers {
         for answer in answers.as_slice() {
@@ -110,9 +112,9 @@ fn executors_serve_at_the_same_time(rt: HostRuntime) -> Result<(), Fail> {
         &rt,
         alloc,
         warehouses(alloc, 2)?,
-        &scripts,
-        &by(2, &[]),
+        &by(&scripts, 2, &[]),
         &gate,
+        &NoClient,
     )?;
     assert_eq!(rt; outcome.log.len(), 2);
     assert_eq!(rt; gate.entered.load(Ordering::SeqCst), 2);
@@ -161,9 +163,9 @@ fn one_waits<R: Threads + Wait + Abort + Sync>(
         rt,
         alloc,
         warehouses(alloc, 2)?,
-        &scripts,
-        &by(2, &[]),
+        &by(&scripts, 2, &[]),
         &gate,
+        &NoClient,
     )?;
     assert_eq!(rt; outcome.log.len(), 2);
     assert_eq!(rt; gate.met.load(Ordering::SeqCst), 1);
@@ -202,9 +204,9 @@ fn all_that_is_asked_is_carried_out(rt: HostRuntime) -> Result<(), Fail> {
             &rt,
             alloc,
             tables,
-            &scripts,
-            &by(executors, &[]),
-            engine::OpenGate,
+            &by(&scripts, executors, &[]),
+            OpenGate,
+            &NoClient,
         )?;
         assert_eq!(rt; done_in(&outcome), 200);
         assert_eq!(rt; outcome.log.len(), 200);
@@ -233,9 +235,9 @@ fn all_that_is_asked_is_carried_out_while_warehouses_move(rt: HostRuntime) -> Re
         &rt,
         alloc,
         tables,
-        &scripts,
-        &by(2, &moves),
-        engine::OpenGate,
+        &by(&scripts, 2, &moves),
+        OpenGate,
+        &NoClient,
     )?;
     assert_eq!(rt; done_in(&outcome), 100);
     assert_eq!(rt; outcome.log.len(), 100);
@@ -245,8 +247,8 @@ fn all_that_is_asked_is_carried_out_while_warehouses_move(rt: HostRuntime) -> Re
 // At this gate a thread yields 0 to 1,000 times before it logs a request, and once the request is answered. The numbers are drawn
 // from a seed.
 #[derive(Drop)]
-struct YieldsBySeed {
-    drawn: AtomicU64,
+pub(super) struct YieldsBySeed {
+    pub(super) drawn: AtomicU64,
 }
 
 impl YieldsBySeed {
@@ -292,6 +294,8 @@ fn all_is_carried_out_at_gates_that_yield(rt: HostRuntime) -> Result<(), Fail> {
             crossing(alloc, 2, 1)?,
         ];
         let options = ServeOptions {
+            scripts: &scripts,
+            sessions: 0,
             executors: 2,
             tries: 10_000,
             limits: Limits::greatest(),
@@ -300,7 +304,14 @@ fn all_is_carried_out_at_gates_that_yield(rt: HostRuntime) -> Result<(), Fail> {
         let gate = YieldsBySeed {
             drawn: AtomicU64::new(seed),
         };
-        let outcome = serve(&rt, alloc, warehouses(alloc, 2)?, &scripts, &options, &gate)?;
+        let outcome = serve(
+            &rt,
+            alloc,
+            warehouses(alloc, 2)?,
+            &options,
+            &gate,
+            &NoClient,
+        )?;
         assert_eq!(rt; done_in(&outcome), 100);
         assert_eq!(rt; outcome.log.len(), 100);
     }
@@ -322,6 +333,8 @@ fn inboxes_of_one_message_are_enough(rt: HostRuntime) -> Result<(), Fail> {
     ];
     let moves = [order(1, 1, 1), order(2, 2, 0), order(1, 2, 1)];
     let options = ServeOptions {
+        scripts: &scripts,
+        sessions: 0,
         executors: 2,
         tries: 10_000,
         limits: Limits { log: 150, inbox: 1 },
@@ -331,12 +344,70 @@ fn inboxes_of_one_message_are_enough(rt: HostRuntime) -> Result<(), Fail> {
         &rt,
         alloc,
         warehouses(alloc, 2)?,
-        &scripts,
         &options,
-        engine::OpenGate,
+        OpenGate,
+        &NoClient,
     )?;
     assert_eq!(rt; done_in(&outcome), 150);
     assert_eq!(rt; outcome.log.len(), 150);
+    Ok(())
+}
+
+// This gate adds up the numbers of the requests that are asked, that are about to be logged, and that are answered.
+#[derive(Drop)]
+struct AddsNumbers {
+    asked: AtomicU64,
+    logged: AtomicU64,
+    answered: AtomicU64,
+}
+
+impl Gate for AddsNumbers {
+    fn asked(&self, _session: u32, number: u32, _request: &Request) {
+        self.asked.fetch_add(u64::from(number), Ordering::SeqCst);
+    }
+
+    fn commit(&self, _session: u32, number: u32, _request: &Request) {
+        self.logged.fetch_add(u64::from(number), Ordering::SeqCst);
+    }
+
+    fn answered(&self, _session: u32, number: u32, _request: &Request) {
+        self.answered.fetch_add(u64::from(number), Ordering::SeqCst);
+    }
+}
+
+// Parts of a script that have one number, and others that have none of the places: the log's entries and the gate have the numbers of
+// the parts, in the order of the parts.
+#[test]
+fn parts_have_numbers_of_their_own(rt: HostRuntime) -> Result<(), Fail> {
+    let alloc = rt.alloc();
+    let numbers = [10, 10, 4_000_000_000, 10, 200];
+    let mut parts = Vec::new(alloc);
+    for number in numbers {
+        let request = payment_at(1, 100);
+        parts.push(Part { number, request })?;
+    }
+    let scripts = [Script::checked_new(parts).ok_or("a script")?];
+    let gate = AddsNumbers {
+        asked: AtomicU64::new(0),
+        logged: AtomicU64::new(0),
+        answered: AtomicU64::new(0),
+    };
+    let outcome = serve(
+        &rt,
+        alloc,
+        warehouses(alloc, 2)?,
+        &by(&scripts, 2, &[]),
+        &gate,
+        &NoClient,
+    )?;
+    let mut logged = Vec::new(alloc);
+    for entry in &outcome.log {
+        logged.push(entry.number)?;
+    }
+    assert_eq!(rt; logged.as_slice(), numbers.as_slice());
+    assert_eq!(rt; gate.asked.load(Ordering::SeqCst), 4_000_000_230);
+    assert_eq!(rt; gate.logged.load(Ordering::SeqCst), 4_000_000_230);
+    assert_eq!(rt; gate.answered.load(Ordering::SeqCst), 4_000_000_230);
     Ok(())
 }
 
@@ -350,19 +421,24 @@ fn a_bad_move_is_recorded(rt: HostRuntime) -> Result<(), Fail> {
         &rt,
         alloc,
         warehouses(alloc, 2)?,
-        &scripts,
-        &by(2, &moves),
-        engine::OpenGate,
+        &by(&scripts, 2, &moves),
+        OpenGate,
+        &NoClient,
     );
     assert!(rt; matches!(served, Err(ServeFault::BadMove(1))));
     Ok(())
 }
 
-// By this many executors, with these moves; a request is tried a hundred times.
-fn by(executors: u32, moves: &[MoveOrder]) -> ServeOptions<'_>
-    ensures { (result.executors ≡ executors) × AreLimits result.limits }
+// These scripts, by this many executors, with these moves; a request is tried a hundred times.
+fn by<'a>(scripts: &'a [Script], executors: u32, moves: &'a [MoveOrder]) -> ServeOptions<'a>
+    ensures scripts { result.scripts.now ≡ scripts.now }
+    ensures alone { result.sessions ≡ 0 }
+    ensures executors { result.executors ≡ executors }
+    ensures limits { AreLimits result.limits }
 {
     ServeOptions {
+        scripts,
+        sessions: 0,
         executors,
         tries: 100,
         limits: Limits::greatest(),
@@ -370,6 +446,6 @@ fn by(executors: u32, moves: &[MoveOrder]) -> ServeOptions<'_>
     }
 }
 
-fn order(lo: u32, hi: u32, to: u32) -> MoveOrder {
+pub(super) fn order(lo: u32, hi: u32, to: u32) -> MoveOrder {
     MoveOrder { lo, hi, to }
 }

@@ -1,6 +1,6 @@
 //! The formats of the files that a command reads.
 
-use crate::meaning::listings::{end, entry, move_order, request, scheduled};
+use crate::meaning::listings::{end, entry, move_order, scheduled, terminal_request};
 use crate::meaning::search::Search;
 use crate::meaning::tables::{Tables, header, key_names};
 use files::{FaultKind, Fields};
@@ -86,9 +86,7 @@ impl Before {
             Format::Dataset if self.count == 0 => header(search),
             Format::Dataset => self.tables.search(search, first),
             _ if first == "END" => end(search, self.count),
-            Format::Script => {
-                request(search);
-            }
+            Format::Script => terminal_request(search),
             Format::Moves => move_order(search),
             Format::Schedule => scheduled(search),
             Format::Log => entry(search, self.count),

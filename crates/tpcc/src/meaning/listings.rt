@@ -11,9 +11,9 @@ const EVENTS: Spelling = Spelling::Said("one of S, M, T, X and R, or END");
 // The first words of requests.
 const REQUESTS: Spelling = Spelling::Said("one of N, P, O, D and L");
 
-// How many fields a request has, including its letter.
+// How many fields a request has in a log, including its letter.
 const SIZES: Spelling = Spelling::Said(
-    "8 of P, 4 of O, D and L, and of N 5 and 3 for each line, 64 at most",
+    "8 of P, 5 of D, 4 of O and L, and of N 5 and 3 for each line, 64 at most",
 );
 
 /// Searches the fields of an end record, before which there are `count` records.
@@ -63,8 +63,23 @@ pub fn entry(search: &mut Search<'_>, place: u64) {
     }
 }
 
-/// Searches the fields of a request, which are all that are left.
-pub fn request(search: &mut Search<'_>) {
+/// Searches the fields of what a terminal asks for, which are all that are left. A Delivery is of a warehouse.
+pub fn terminal_request(search: &mut Search<'_>) {
+    let count = search.left() as u64;
+    match search.word("the letter of the request", REQUESTS) {
+        "D" => {
+            search.field("W_ID", Spelling::NUMBER);
+            search.field("O_CARRIER_ID", Spelling::NUMBER);
+            search.field("OL_DELIVERY_D", Spelling::Moment);
+        }
+        letter => {
+            fields_of(search, letter, count);
+        }
+    }
+}
+
+// Searches the fields of a request, which are all that are left.
+fn request(search: &mut Search<'_>) {
     let count = search.left() as u64;
     request_of(search, count);
 }
@@ -72,7 +87,13 @@ pub fn request(search: &mut Search<'_>) {
 // Searches the fields of a request that should have `count` fields, including its letter. Returns how many its kind
 // has; `None` if its letter is unknown.
 fn request_of(search: &mut Search<'_>, count: u64) -> Option<u64> {
-    match search.word("the letter of the request", REQUESTS) {
+    let letter = search.word("the letter of the request", REQUESTS);
+    fields_of(search, letter, count)
+}
+
+// Searches the fields of a request after its letter. The same is returned.
+fn fields_of(search: &mut Search<'_>, letter: &str, count: u64) -> Option<u64> {
+    match letter {
         "N" => Some(new_order(search, count)),
         "P" => {
             search.field("W_ID", Spelling::NUMBER);
@@ -92,9 +113,10 @@ fn request_of(search: &mut Search<'_>, count: u64) -> Option<u64> {
         }
         "D" => {
             search.field("W_ID", Spelling::NUMBER);
+            search.field("D_ID", Spelling::NUMBER);
             search.field("O_CARRIER_ID", Spelling::NUMBER);
             search.field("OL_DELIVERY_D", Spelling::Moment);
-            Some(4)
+            Some(5)
         }
         "L" => {
             search.field("W_ID", Spelling::NUMBER);

@@ -23,10 +23,9 @@ pub fn reply(search: &mut Search<'_>) {
         }
         "O" => order_status_reply(search),
         "D" => {
+            search.field("D_ID", Spelling::Whole(1, 10));
             search.field("O_CARRIER_ID", Spelling::Whole(1, 10));
-            for _ in 0..10 {
-                search.field("O_ID of a district", Spelling::MaybeWhole(1, 9_999_999));
-            }
+            search.field("O_ID", Spelling::MaybeWhole(1, 9_999_999));
         }
         "L" => search.field("the number of items", Spelling::NUMBER),
         "X" => fault(search),

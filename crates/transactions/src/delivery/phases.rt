@@ -1,26 +1,25 @@
 //! The phases of a Delivery.
-ghost use Rattle.std.specs.Prelude.{◌≡◌, ◌≤◌, [], ◌∷◌, length, IfOk};
-ghost use Rattle.machine.specs.Delivery.{delivery_reply};
-ghost use Rattle.transactions.specs.declared.delivery.CustomersCredited.{CustomersCredited as AnyCredited};
+ghost use Rattle.std.specs.Prelude.{◌≡◌, [], ◌∷◌, IfOk};
 ghost use Rattle.transactions.specs.declared.work.Found.TheVariants as any_found;
 ghost use Rattle.transactions.specs.declared.progress.Progress.TheVariants as any;
-ghost use Rattle.transactions.specs.Delivery.{AreCustomersOf, AreOrdersOf, is_any, number_of, numbers_of, work_of, works_of};
+ghost use Rattle.transactions.specs.Delivery.{IsCustomerFound, IsOrderFound, work_of, works_of};
 ghost use Rattle.transactions.specs.Progresses.{FollowsFrom, HasFound};
 
 use super::work::{Found, Work};
-use super::{CustomersCredited, Delivered, OrderDelivered};
+use super::{CustomerCredited, OrderDelivered};
 use crate::progress::Gathered;
-use requests::{Delivery, DeliveryReply, Fault, Reply, Shown};
+use machine::delivery_reply;
+use requests::{Delivery, Fault, Reply, Shown};
 use schema::NoMemory;
 use std::alloc::Global;
 
 /// How far a Delivery has come: its phase, with the phase's input.
 #[derive(Drop)]
 pub enum Progress {
-    /// Delivers the oldest new order of each district, at place 0.
-    DeliverOrders(Delivery),
-    /// Credits the customers who ordered them, at place 1.
-    CreditCustomers(Delivery, Delivered),
+    /// Delivers the district's oldest new order, at place 0.
+    DeliverOrder(Delivery),
+    /// Credits the customer who ordered it, at place 1.
+    CreditCustomer(Delivery, OrderDelivered),
 }
 
 impl Progress {
@@ -37,10 +36,8 @@ impl Progress {
         ensures { result ≡ work_of self.now }
     {
         match self {
-            Progress::DeliverOrders(delivery) => Work::DeliverOrders(*delivery),
-            Progress::CreditCustomers(delivery, delivered) => {
-                Work::CreditCustomers(*delivery, *delivered)
-            }
+            Progress::DeliverOrder(delivery) => Work::DeliverOrder(*delivery),
+            Progress::CreditCustomer(delivery, order) => Work::CreditCustomer(*delivery, *order),
         }
     }
 
@@ -54,96 +51,61 @@ impl Progress {
         ensures { IfOk result (λ gathered. FollowsFrom (any.Delivery self) found.items gathered) }
     {
         match self {
-            Progress::DeliverOrders(delivery) => Ok(gather_orders(delivery, found)),
-            Progress::CreditCustomers(delivery, delivered) => {
-                Ok(gather_customers(delivery, delivered, found))
+            Progress::DeliverOrder(delivery) => Ok(gather_order(delivery, found)),
+            Progress::CreditCustomer(delivery, order) => {
+                Ok(gather_customer(delivery, order, found))
             }
         }
     }
 }
 
-// The step after the first phase: the customers are to be credited, or the Delivery is carried out, since no district has a new
-// order.
-fn gather_orders(delivery: Delivery, found: Vec<crate::Found>) -> Gathered
-    requires { HasFound (any.Delivery (Progress.DeliverOrders delivery)) found.items }
-    ensures { FollowsFrom (any.Delivery (Progress.DeliverOrders delivery)) found.items result }
+// The step after the first phase: the order's customer is to be credited, or the Delivery is carried out, since the district has
+// no new order.
+fn gather_order(delivery: Delivery, found: Vec<crate::Found>) -> Gathered
+    requires { HasFound (any.Delivery (Progress.DeliverOrder delivery)) found.items }
+    ensures { FollowsFrom (any.Delivery (Progress.DeliverOrder delivery)) found.items result }
 {
-    let delivered = orders_found(found);
-    if is_any(&delivered) {
-        Gathered::Next(crate::Progress::Delivery(Progress::CreditCustomers(delivery, delivered)))
-    } else {
-        Gathered::Finish(Reply::Done(Shown::Delivery(reply(&delivery, &delivered))))
+    match order_found(found) {
+        Some(order) => {
+            Gathered::Next(crate::Progress::Delivery(Progress::CreditCustomer(delivery, order)))
+        }
+        None => Gathered::Finish(Reply::Done(Shown::Delivery(delivery_reply(&delivery, None)))),
     }
 }
 
 // The step after the second phase: the Delivery is carried out, or rolled back.
-fn gather_customers(delivery: Delivery, delivered: Delivered, found: Vec<crate::Found>) -> Gathered
-    requires { HasFound (any.Delivery (Progress.CreditCustomers delivery delivered)) found.items }
-    ensures { FollowsFrom (any.Delivery (Progress.CreditCustomers delivery delivered)) found.items
+fn gather_customer(delivery: Delivery, order: OrderDelivered, found: Vec<crate::Found>) -> Gathered
+    requires { HasFound (any.Delivery (Progress.CreditCustomer delivery order)) found.items }
+    ensures { FollowsFrom (any.Delivery (Progress.CreditCustomer delivery order)) found.items
         result }
 {
-    match customers_found(found) {
-        CustomersCredited::Credited => {
-            Gathered::Finish(Reply::Done(Shown::Delivery(reply(&delivery, &delivered))))
+    match customer_found(found) {
+        CustomerCredited::Credited => {
+            let shown = delivery_reply(&delivery, Some(order.o_id));
+            Gathered::Finish(Reply::Done(Shown::Delivery(shown)))
         }
-        CustomersCredited::OutOfRange => Gathered::Finish(Reply::RolledBack(Fault::Range)),
-    }
-}
-
-// Whether any district had a new order.
-fn is_any(delivered: &Delivered) -> bool
-    ensures { result ≡ is_any delivered.now }
-{
-    for one in delivered {
-        if one.is_some() {
-            return true;
-        }
-    }
-    false
-}
-
-// The reply.
-fn reply(delivery: &Delivery, delivered: &Delivered) -> DeliveryReply
-    ensures { result ≡ delivery_reply delivery.now (numbers_of delivered.now) }
-{
-    let mut orders = [None; 10];
-    for place in 0..10 {
-        orders[place] = number_of(delivered[place]);
-    }
-    DeliveryReply {
-        carrier_id: delivery.carrier_id,
-        orders,
-    }
-}
-
-// The number of the order that was delivered, if there is one.
-fn number_of(one: Option<OrderDelivered>) -> Option<u32>
-    ensures { result ≡ number_of one }
-{
-    match one {
-        Some(order) => Some(order.o_id),
-        None => None,
+        CustomerCredited::OutOfRange => Gathered::Finish(Reply::RolledBack(Fault::Range)),
     }
 }
 
 // What the first phase found.
-fn orders_found(mut found: Vec<crate::Found>) -> Delivered
-    requires { AreOrdersOf found.items }
-    ensures { found.items ≡ any_found.Delivery (Found.Orders result) ∷ [] }
+fn order_found(mut found: Vec<crate::Found>) -> Option<OrderDelivered>
+    requires { IsOrderFound found.items }
+    ensures { found.items ≡ any_found.Delivery (Found.Order result) ∷ [] }
 {
     match found.pop() {
-        Some(crate::Found::Delivery(Found::Orders(delivered))) => delivered,
+        Some(crate::Found::Delivery(Found::Order(order))) => order,
         _ => unreachable!(),
     }
 }
 
 // What the second phase found.
-fn customers_found(mut found: Vec<crate::Found>) -> CustomersCredited
-    requires { AreCustomersOf found.items }
-    ensures { found.items ≡ any_found.Delivery (Found.Customers result) ∷ [] }
+fn customer_found(mut found: Vec<crate::Found>) -> CustomerCredited
+    requires { IsCustomerFound found.items }
+    ensures { found.items ≡ any_found.Delivery (Found.Customer result) ∷ [] }
 {
     match found.pop() {
-        Some(crate::Found::Delivery(Found::Customers(credited))) => credited,
+        Some(crate::Found::Delivery(Found::Customer(credited))) => credited,
         _ => unreachable!(),
     }
 }

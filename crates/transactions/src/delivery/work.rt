@@ -5,32 +5,30 @@ ghost use Rattle.slices.specs.SliceView.{SliceKeeps};
 ghost use Rattle.transactions.specs.Granted.{AreGrantedFor, AreLeft};
 ghost use Rattle.transactions.specs.Delivery.{CanDo, HasDone, home_of, group_wants_of};
 
-use super::customers::credit_customers;
-use super::orders::deliver_orders;
-use super::{CustomersCredited, Delivered};
+use super::customers::credit_customer;
+use super::orders::deliver_order;
+use super::{CustomerCredited, OrderDelivered};
 use groups::GroupWant;
 use requests::{Delivery, Group};
-use schema::NoMemory;
+use schema::{DistrictKey, NoMemory};
 use slices::Slice;
 use tickets::{Claim, GroupNames};
-
-// The number of districts of a warehouse.
-const DISTRICTS: usize = 10;
 
 /// The work of an action of a Delivery.
 #[derive(Drop)]
 pub enum Work {
-    /// Delivers the oldest new order of each district.
-    DeliverOrders(Delivery),
-    /// Credits the customers who ordered them.
-    CreditCustomers(Delivery, Delivered),
+    /// Delivers the district's oldest new order.
+    DeliverOrder(Delivery),
+    /// Credits the customer who ordered it.
+    CreditCustomer(Delivery, OrderDelivered),
 }
 
 /// What an action of a Delivery found.
 #[derive(Drop)]
 pub enum Found {
-    Orders(Delivered),
-    Customers(CustomersCredited),
+    /// The order that was delivered; `None` if the district had no new order.
+    Order(Option<OrderDelivered>),
+    Customer(CustomerCredited),
 }
 
 impl Work {
@@ -39,8 +37,8 @@ impl Work {
         ensures { result ≡ home_of self.now }
     {
         match self {
-            Work::DeliverOrders(delivery) => delivery.w_id,
-            Work::CreditCustomers(delivery, _) => delivery.w_id,
+            Work::DeliverOrder(delivery) => delivery.home.w_id,
+            Work::CreditCustomer(delivery, _) => delivery.home.w_id,
         }
     }
 
@@ -49,8 +47,8 @@ impl Work {
         ensures { result ≡ length (group_wants_of self.now) }
     {
         match self {
-            Work::DeliverOrders(_) => DISTRICTS,
-            Work::CreditCustomers(_, _) => DISTRICTS,
+            Work::DeliverOrder(_) => 1,
+            Work::CreditCustomer(_, _) => 1,
         }
     }
 
@@ -58,19 +56,19 @@ impl Work {
     pub(crate) fn group_want(&self, number: usize) -> Option<GroupWant>
         ensures { result ≡ slice_get (group_wants_of self.now) number }
     {
-        if number >= DISTRICTS {
-            return None;
-        }
-        let d_id = number as u32 + 1;
-        match self {
-            Work::DeliverOrders(delivery) => Some(GroupWant::exclusively(Group::Orders {
-                w_id: delivery.w_id,
-                d_id,
-            })),
-            Work::CreditCustomers(delivery, _) => Some(GroupWant::exclusively(Group::Customers {
-                w_id: delivery.w_id,
-                d_id,
-            })),
+        let group = match self {
+            Work::DeliverOrder(delivery) => {
+                let DistrictKey { w_id, d_id } = delivery.home;
+                Group::Orders { w_id, d_id }
+            }
+            Work::CreditCustomer(delivery, _) => {
+                let DistrictKey { w_id, d_id } = delivery.home;
+                Group::Customers { w_id, d_id }
+            }
+        };
+        match number {
+            0 => Some(GroupWant::exclusively(group)),
+            _ => None,
         }
     }
 
@@ -91,14 +89,14 @@ impl Work {
         ensures err { OnErr result ((slice.new ≡ slice.old) × (claims.new ≡ claims.old)) }
     {
         match self {
-            Work::DeliverOrders(delivery) => {
-                Ok(Found::Orders(deliver_orders(slice, claims, &delivery)?))
+            Work::DeliverOrder(delivery) => {
+                Ok(Found::Order(deliver_order(slice, &mut claims[0], &delivery)?))
             }
-            Work::CreditCustomers(delivery, delivered) => Ok(Found::Customers(credit_customers(
+            Work::CreditCustomer(delivery, order) => Ok(Found::Customer(credit_customer(
                 slice,
-                claims,
-                delivery.w_id,
-                &delivered,
+                &mut claims[0],
+                delivery.home,
+                order,
             )?)),
         }
     }

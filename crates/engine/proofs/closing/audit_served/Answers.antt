@@ -1,5 +1,5 @@
 use Rattle.std.proofs.Common.{List, length, slice_get, ap, subst, ◌∙◌}
-use Rattle.requests.specs.declared.request.Request.{Request}
+use Rattle.requests.specs.declared.script.Part.{Part}
 use Rattle.commit_log.specs.declared.entry.Entry.{Entry}
 use Rattle.commit_log.specs.Items.{items_of}
 use Rattle.engine.specs.Rules.{rules_of}
@@ -17,7 +17,7 @@ loop-session-preserved g c =
     let scripts = c.args.scripts.now in
     let recorded = c.in-Some-audit.recorded in
     let script = reaches scripts session c.loop-session-test.true in
-    let asked = ap (λ (l : List (List Request)). slice_get l session) c.requires.scripts ∙ script.1 in
+    let asked = ap (λ (l : List (List Part)). slice_get l session) c.requires.scripts ∙ script.1 in
     let served = subst (λ (l : List Entry). Served rules script.0 recorded (items_of session l) (length l)) known.same (c.in-Some-audit.ensures.served script.0 asked) in
     record {
       count = one_longer c.loop-session.answers.items c.put.new.items.items recorded session known.count c.in_ok-put.ensures;

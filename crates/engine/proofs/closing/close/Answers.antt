@@ -1,7 +1,7 @@
 use Rattle.std.proofs.Common.{◌≡◌, ◌+◌, List, ◌++◌, drop, length, sym, ap, subst, ◌∙◌, arith, length-append}
 use Rattle.std.proofs.lemmas.List.{drop_at, length-map}
 use Rattle.partitions.specs.Parts.{SharedTables}
-use Rattle.requests.specs.declared.request.Request.{Request}
+use Rattle.requests.specs.declared.script.Part.{Part}
 use Rattle.machine.specs.Machine.{tables_after}
 use Rattle.commit_log.specs.declared.entry.Entry.{Entry}
 use Rattle.commit_log.specs.Log.{requests_of}
@@ -42,7 +42,7 @@ returns g c =
     let recorded_each = length-map interactive (λ (one : Left g.row.J.Denot). one.session.answers) in
     let count : length c.audit_left.new.answers.items ≡ length (scripts ++ asked) = omega (arith, recorded, recorded_each, served.count, many, both) in
     let behind : AreAskedFrom (length answers) (scripts ++ asked) interactive =
-    subst (λ (rest : List (List Request)). AreAskedFrom (length answers) (scripts ++ rest) interactive) (sym left.asked) (asked_behind scripts interactive (length answers) served.count) in
+    subst (λ (rest : List (List Part)). AreAskedFrom (length answers) (scripts ++ rest) interactive) (sym left.asked) (asked_behind scripts interactive (length answers) served.count) in
     let among = subst (λ (l : List Entry). ServedEach (rules_of opening g.J.LogNames.most) (scripts ++ asked) l answers) (sym served.same) (served_among (rules_of opening g.J.LogNames.most) scripts asked c.into_inner-log.result answers served.count served.each) in
     let each = subst (λ (l : List Entry). ServedEach (rules_of opening g.J.LogNames.most) (scripts ++ asked) l c.audit_left.new.answers.items) served.same (left.each (scripts ++ asked) behind among) in
     record {
@@ -51,6 +51,7 @@ returns g c =
           (left.same ∙ served.same) idle.same settled.same c.into_entries.ensures count each (λ s from low. idle.none s (omega (arith, from, both, all)) low) settled.settled c.in_ok-tables.ensures c.scale.ensures.within
           log.legal log.accepted log.sessions log.few;
       asked = left.asked;
+      numbered = left.numbered;
       recorded = ap (drop (length scripts)) left.recorded ∙ drop_at answers (recorded_by interactive) (length scripts) served.count;
       all = all;
     }

@@ -15,21 +15,21 @@ use Rattle.engine.proofs.opening.open.Goals as goal
 pub cut-requires-clause-boxes : goal.cut-requires-clause-boxes
 cut-requires-clause-boxes g c =
     let boxed = c.in_ok-boxes.ensures in
-    let in_place : AreInPlace c.args.tables.scale.warehouses c.in_ok-boxes.seats = subst (λ s. AreInPlace s.warehouses c.in_ok-boxes.seats) c.scale-scale.ensures.value boxed.places in
-    subst (AreBoxesOf c.args.tables) (sym boxed.boxes) (opened_groups_have_boxes c.args.tables c.args.opening.groups.items c.in_ok-boxes.seats c.requires.named.opened in_place boxed.contents)
+    let in_place : AreInPlace c.args.opening.tables.scale.warehouses c.in_ok-boxes.seats = subst (λ s. AreInPlace s.warehouses c.in_ok-boxes.seats) c.scale-scale.ensures.value boxed.places in
+    subst (AreBoxesOf c.args.opening.tables) (sym boxed.boxes) (opened_groups_have_boxes c.args.opening.tables c.args.opening.groups.items c.in_ok-boxes.seats c.requires.named.opened in_place boxed.contents)
 
 pub new-log-requires-clause-opening : goal.new-log-requires-clause-opening
 new-log-requires-clause-opening g c =
     let boxed = c.in_ok-boxes.ensures in
-    let in_place : AreInPlace c.args.tables.scale.warehouses c.in_ok-boxes.seats = subst (λ s. AreInPlace s.warehouses c.in_ok-boxes.seats) c.scale-scale.ensures.value boxed.places in
+    let in_place : AreInPlace c.args.opening.tables.scale.warehouses c.in_ok-boxes.seats = subst (λ s. AreInPlace s.warehouses c.in_ok-boxes.seats) c.scale-scale.ensures.value boxed.places in
     subst (λ (t : Database). SeatsRecord (content t) c.in_ok-boxes.seats) (sym c.requires.named.tables_are)
-    (seats_record c.args.tables c.args.opening.groups.items c.in_ok-boxes.seats c.requires.named.opened in_place boxed.contents)
+    (seats_record c.args.opening.tables c.args.opening.groups.items c.in_ok-boxes.seats c.requires.named.opened in_place boxed.contents)
 
 pub open_shards-requires : goal.open_shards-requires
 open_shards-requires g c =
     let slices = c.in_ok-catalog.slices.items in
     subst (λ (t : Database). All (IsToOpen t) slices) (sym c.requires.named.tables_are)
-    (subst (All (IsToOpen c.args.tables)) (sym c.in_ok-catalog.ensures.slices) (cut_to_open c.args.tables (warehouse_ids c.args.tables.scale)))
+    (subst (All (IsToOpen c.args.opening.tables)) (sym c.in_ok-catalog.ensures.slices) (cut_to_open c.args.opening.tables (warehouse_ids c.args.opening.tables.scale)))
 
 pub open_places-requires-clause-new : goal.open_places-requires-clause-new
 open_places-requires-clause-new g c = all_new c.in_ok-book.lanes.items c.in_ok-book.ensures.sessions

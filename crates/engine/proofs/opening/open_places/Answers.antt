@@ -3,7 +3,7 @@ use Rattle.std.specs.Prelude.{All}
 use Rattle.std.specs.Vec.Iter.{into_iter_items}
 use Rattle.std.proofs.lemmas.List.Elements.{All-push}
 use Rattle.schema.proofs.RowReads.{copied_item}
-use Rattle.requests.specs.declared.request.Request.{Request}
+use Rattle.requests.specs.declared.script.Part.{Part}
 use Rattle.commit_log.specs.PassView.{PassView, SessionSeatView}
 use Rattle.engine.specs.Interactive.{HasAskedNothing}
 use Rattle.engine.specs.Sessions.{AreNewFrom}
@@ -20,7 +20,7 @@ open-requires-in-Some-get-clause-script g c =
     let next = c.in-Some.ensures.cases in
     let rest = new_next slot c.in-Some.pass c.in-Some.seat (into_iter_items c.next.new.self) (subst (AreNewFrom slot) next.0 c.loop-slot.invariant.new) (omega (arith, below, most)) in
     ap (slice_get g.J.ServeNames.scripts) (ap (λ (p : PassView). p.session) rest.0)
-    ∙ ap (λ (l : List (List Request)). slice_get l slot) c.requires.scripts
+    ∙ ap (λ (l : List (List Part)). slice_get l slot) c.requires.scripts
     ∙ sym (copied_item c.args.scripts.now c.args.scripts.now refl slot (Some c.in-Some-get.script) c.in-Some-get.ensures.lookup)
 
 pub open-requires-in-Some-get-clause-seat : goal.open-requires-in-Some-get-clause-seat

@@ -5,11 +5,10 @@ use Rattle.groups.specs.Groups.{is_same}
 use Rattle.groups.specs.Laws.{FootprintsNameEachGroupOnce}
 use Rattle.groups.proofs.Counts.{one-le}
 use Rattle.groups.proofs.NewOrderGroups.{new_order_names_each_group_once}
-use Rattle.groups.proofs.DeliveryGroups.{delivery_names_each_group_once}
 use Rattle.groups.proofs.StockGroups.{stock_level_names_each_group_once}
 use Rattle.groups.proofs.laws.footprints_name_each_group_once.Goals as goal
 
--- at most one of the groups of a payment or an Order-Status has the kind of the group
+-- at most one of the groups of a payment, an Order-Status or a Delivery has the kind of the group
 each_once : FootprintsNameEachGroupOnce
 each_once (NewOrder n) group = new_order_names_each_group_once n group
 each_once (Payment p) (Warehouse w_id) = omega (arith, one-le (is_same (Warehouse w_id) (Warehouse p.home.w_id)))
@@ -24,7 +23,12 @@ each_once (OrderStatus o) (Customers w_id d_id) = omega (arith, one-le (is_same 
 each_once (OrderStatus o) (Orders w_id d_id) = omega (arith, one-le (is_same (Orders w_id d_id) (Orders o.home.w_id o.home.d_id)))
 each_once (OrderStatus o) (History w_id d_id) = omega arith
 each_once (OrderStatus o) (Stock w_id residue) = omega arith
-each_once (Delivery d) group = delivery_names_each_group_once d group
+each_once (Delivery d) (Warehouse w_id) = omega arith
+each_once (Delivery d) (District w_id d_id) = omega arith
+each_once (Delivery d) (Customers w_id d_id) = omega (arith, one-le (is_same (Customers w_id d_id) (Customers d.home.w_id d.home.d_id)))
+each_once (Delivery d) (Orders w_id d_id) = omega (arith, one-le (is_same (Orders w_id d_id) (Orders d.home.w_id d.home.d_id)))
+each_once (Delivery d) (History w_id d_id) = omega arith
+each_once (Delivery d) (Stock w_id residue) = omega arith
 each_once (StockLevel s) group = stock_level_names_each_group_once s group
 
 pub returns : goal.returns

@@ -1,18 +1,21 @@
-use Rattle.std.proofs.Common.{ℕ, List, [], ◌∷◌, codes, ap, ◌∙◌}
+use Rattle.std.proofs.Common.{[], ◌∷◌, refl, ap, ◌∙◌}
 use Rattle.std.specs.Fmt.{decimal}
 use Rattle.files.specs.Columns.{MaybeWhole}
-use Rattle.terminals.specs.RequestColumns.{repeated}
 use Rattle.files.proofs.ColumnsRead.{and_then, several, whole}
+use Rattle.terminals.specs.Nullable.{nullable_text}
 use Rattle.terminals.proofs.delivery.take_reply.Goals as goal
 
 pub returns-clause-taken : goal.returns-clause-taken
 returns-clause-taken c = λ none.
-    let orders = c.take_orders.ensures.taken none in
-    let carrier = c.whole.ensures.taken orders.faultless in
-    let after : List (List ℕ) → List (List ℕ) = λ l. decimal c.whole.result ∷ l in
-    record { faultless = carrier.0; texts = after orders.texts; are_said = ap (λ l. codes "D" ∷ after l) orders.are_said; left = carrier.1 ∙ ap after orders.left }
+    let order = c.take_order.ensures.taken none in
+    let carrier = c.whole-2.ensures.taken order.0 in
+    let district = c.whole.ensures.taken carrier.0 in
+    let said = decimal c.whole.result ∷ decimal c.whole-2.result ∷ nullable_text c.take_order.result ∷ [] in
+    let all = district.1 ∙ ap (λ l. decimal c.whole.result ∷ l) (carrier.1 ∙ ap (λ l. decimal c.whole-2.result ∷ l) order.1) in
+    record { faultless = district.0; texts = said; are_said = refl; left = all }
 
 pub returns-clause-columns : goal.returns-clause-columns
 returns-clause-columns c =
     (and_then (whole 1 10 c.args.fields.now c.whole.new.self c.whole.ensures.field)
-    (several (repeated 10 (MaybeWhole 1 9999999 ∷ [])) c.whole.new.self c.take_orders.new.fields c.take_orders.ensures.columns)).is
+    (and_then (whole 1 10 c.whole.new.self c.whole-2.new.self c.whole-2.ensures.field)
+    (several (MaybeWhole 1 9999999 ∷ []) c.whole-2.new.self c.take_order.new.fields c.take_order.ensures.column))).is

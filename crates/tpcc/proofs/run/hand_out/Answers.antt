@@ -20,8 +20,8 @@ returns-in_err-log-clause-some g c =
     let before = g.A.Write.contents c.args.answers.now in
     let answers = c.args.outcome.now.answers.items in
     let output = output_of g.A.Write.contents c.args.answers.now c.args.answers.now g.N.OutputFiles.named c.args.output_files.now c.write_entries.new.output_files in
-    let some : HandsOutSome g.F.Write.contents (run_outputs c.args.log c.args.tables) output c.args.outcome.now.log.items answers =
-    inl (begins-none c.args.outcome.now.log.items before answers, c.in_err-log.ensures.same) in
+    let some : HandsOutSome g.F.Write.contents (run_outputs c.args.log c.args.tables) output c.args.scripts.now c.args.outcome.now.log.items answers =
+    inl (begins-none c.args.outcome.now.log.items c.args.scripts.now before answers, c.in_err-log.ensures.same) in
     on_any_err c.from_residual.result some
 
 -- not all was printed, or the log has not got its name
@@ -30,10 +30,10 @@ returns-in_err-name_printed-clause-some g c =
     let before = g.A.Write.contents c.args.answers.now in
     let after = g.A.Write.contents c.print_answers-printed.new.sink in
     let output = output_of g.A.Write.contents c.args.answers.now c.print_answers-printed.new.sink g.N.OutputFiles.named c.args.output_files.now c.name_printed.new.output_files in
-    let Prints : List Entry → List (List (Result ℕ Refusal)) → Type 0 = λ log l. BeginsToWrite before after (BeginAllAnswers log 0 l) in
-    let printed = all_or_some c.print_answers-printed.result before after _ _ (all-begun c.as_slice-entries.result.now 0 c.as_slice.result.now) c.print_answers-printed.ensures.printed c.print_answers-printed.ensures.begun in
+    let Prints : List Entry → List (List (Result ℕ Refusal)) → Type 0 = λ log l. BeginsToWrite before after (BeginAllAnswers log c.args.scripts.now 0 l) in
+    let printed = all_or_some c.print_answers-printed.result before after _ _ (all-begun c.as_slice-entries.result.now c.args.scripts.now 0 c.as_slice.result.now) c.print_answers-printed.ensures.printed c.print_answers-printed.ensures.begun in
     let reported = subst (Prints c.as_slice-entries.result.now) c.as_slice.ensures.value printed in
-    let some : HandsOutSome g.F.Write.contents (run_outputs c.args.log c.args.tables) output c.args.outcome.now.log.items c.args.outcome.now.answers.items =
+    let some : HandsOutSome g.F.Write.contents (run_outputs c.args.log c.args.tables) output c.args.scripts.now c.args.outcome.now.log.items c.args.outcome.now.answers.items =
     inl (subst (λ log. Prints log c.args.outcome.now.answers.items) c.as_slice-entries.ensures.value reported, c.in_err-name_printed.ensures.err ∙ c.in_ok-log.ensures.same) in
     on_any_err c.from_residual-in_err-name_printed.result some
 
@@ -44,7 +44,7 @@ returns-clause-some g c =
     let after = g.A.Write.contents c.print_answers-printed.new.sink in
     let names = g.N.OutputFiles.named in
     let log = c.args.outcome.now.log.items in
-    let Prints : List Entry → List (List (Result ℕ Refusal)) → Type 0 = λ es l. Writes before after (AreAllAnswers es 0 l) in
+    let Prints : List Entry → List (List (Result ℕ Refusal)) → Type 0 = λ es l. Writes before after (AreAllAnswers es c.args.scripts.now 0 l) in
     let well = printed_well c.print_answers-printed.result tt c.in_ok-name_printed.ensures.printed c.print_answers-printed.ensures.printed in
     let printed = subst (λ es. Prints es c.args.outcome.now.answers.items) c.as_slice-entries.ensures.value (subst (Prints c.as_slice-entries.result.now) c.as_slice.ensures.value well) in
     let Logs : List Entry → Type 0 = λ l. HasWritten g.F.Write.contents c.args.log (IsLog l) c.in_ok-log.log in
@@ -61,7 +61,7 @@ returns-clause-all g c =
     let after = g.A.Write.contents c.print_answers-printed.new.sink in
     let names = g.N.OutputFiles.named in
     let log = c.args.outcome.now.log.items in
-    let Prints : List Entry → List (List (Result ℕ Refusal)) → Type 0 = λ es l. Writes before after (AreAllAnswers es 0 l) in
+    let Prints : List Entry → List (List (Result ℕ Refusal)) → Type 0 = λ es l. Writes before after (AreAllAnswers es c.args.scripts.now 0 l) in
     let well = printed_well c.print_answers-printed.result tt c.in_ok-name_printed.ensures.printed c.print_answers-printed.ensures.printed in
     let Logs : List Entry → Type 0 = λ l. HasWritten g.F.Write.contents c.args.log (IsLog l) c.in_ok-log.log in
     let with_log = names c.name_printed.new.output_files in

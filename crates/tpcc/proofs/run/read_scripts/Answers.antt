@@ -3,7 +3,7 @@ use Rattle.std.specs.List.{AllZip}
 use Rattle.std.specs.Borrow.{Bor}
 use Rattle.std.proofs.lemmas.List.{drop-set-lt, get_or_default, length_push}
 use Rattle.std.proofs.lemmas.Result.{err_from_is_err_and}
-use Rattle.requests.specs.declared.request.Request.{Request}
+use Rattle.requests.specs.declared.script.Part.{Part}
 use Rattle.terminals.specs.FirstFault.{script_fault}
 use Rattle.terminals.specs.Script.{IsScript}
 use Rattle.tpcc.specs.Faults.{IsFirst, IsOfReading}
@@ -26,7 +26,7 @@ loop-session-preserved g c =
     let before : i < i + 1 = omega arith in
     let GivesScript : g.row.S.Denot → Type 0 = λ s. Gives (g.S.Input.remaining s) (IsScript script) in
     let one : GivesScript source = subst GivesScript (sym c.index-sources-session.is) c.in-Ok.ensures.script in
-    let AreRead : List (List Request) → Type 0 = λ l. AllZip (λ source script. Gives source (IsScript script)) (map g.S.Input.remaining (take (i + 1) old)) l in
+    let AreRead : List (List Part) → Type 0 = λ l. AllZip (λ source script. Gives source (IsScript script)) (map g.S.Input.remaining (take (i + 1) old)) l in
     record {
       count = ap length c.in_ok-push-in-Ok.ensures.items ∙ length_push scripts script ∙ ap (λ n. n + 1) c.loop-session.invariant.count;
       read = subst AreRead (sym c.in_ok-push-in-Ok.ensures.items)

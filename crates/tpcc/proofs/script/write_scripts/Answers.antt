@@ -3,16 +3,16 @@ use Rattle.std.proofs.Common.{◌≡◌, inl, inr, [], ◌+◌, ◌<◌, ℕ, Li
 use Rattle.std.specs.List.{All}
 use Rattle.std.specs.Borrow.{Bor}
 use Rattle.std.proofs.lemmas.List.{drop-drop, get_or-drop, get_or_default}
-use Rattle.requests.specs.Check.{IsAccepted}
-use Rattle.requests.specs.declared.request.Request.{Request}
-use Rattle.terminals.specs.Script.{IsScript}
+use Rattle.requests.specs.declared.terminal_request.TerminalRequest.{TerminalRequest}
+use Rattle.terminals.specs.Script.{AreAsked}
+use Rattle.workload.specs.Within.{AreAccepted}
 use Rattle.tpcc.specs.Script.{AreDrawn, NamesScripts}
 use Rattle.files.proofs.Sent.{on_any_err}
 use Rattle.tpcc.proofs.ScriptFiles.{names-first, scripts-more}
 use Rattle.tpcc.proofs.script.write_scripts.Goals as goal
 
-pub returns-in_err-script-clause-some : goal.returns-in_err-script-clause-some
-returns-in_err-script-clause-some g c =
+pub returns-in_err-asked-clause-some : goal.returns-in_err-asked-clause-some
+returns-in_err-asked-clause-some g c =
     on_any_err c.from_residual.result
     (names-first g.T.Write.contents c.args.workload.now c.args.files.items c.loop-session.session (g.N.OutputFiles.named c.args.output_files.now) (g.N.OutputFiles.named c.loop-session.output_files) c.loop-session.invariant.named)
 
@@ -36,17 +36,18 @@ loop-session-preserved g c =
     let is : file ≡ get_or files session file =
     c.remove-file.ensures.value ∙ ap (λ l. get_or l 0 file) is_left ∙ get_or-drop session files 0 file ∙ ap (λ n. get_or files n file) at in
     let ok = c.in_ok-write_requests.ensures.ok in
-    let Accepted : List Request → Type 0 = λ l. All (IsAccepted workload.scale) l in
-    let Scripts : List Request → Type 0 = λ l. IsScript l ok.1.0 in
-    let drawn : AreDrawn workload session ok.1.0 = (subst Scripts c.in_ok-script.ensures.drawn ok.1.1, subst Accepted c.in_ok-script.ensures.drawn c.in_ok-script.ensures.accepted) in
+    let Accepted : List TerminalRequest → Type 0 = λ l. All (AreAccepted workload.scale) l in
+    let Records : List TerminalRequest → Type 0 = λ l. AreAsked l ok.1.0 in
+    let asked = c.as_slice.ensures.value ∙ c.in_ok-asked.ensures.drawn in
+    let drawn : AreDrawn workload session ok.1.0 = (subst Records asked ok.1.1, subst Accepted c.in_ok-asked.ensures.drawn c.in_ok-asked.ensures.accepted) in
     record {
       left = c.remove-file.ensures.items ∙ ap (drop 1) is_left ∙ drop-drop 1 session files;
       named = scripts-more g.T.Write.contents workload files session file (g.N.OutputFiles.named c.args.output_files.now) (g.N.OutputFiles.named c.loop-session.output_files) (g.N.OutputFiles.named c.write_requests.new.output_files) there is
           c.loop-session.invariant.named (ok.0, (ok.1.0, drawn, ok.1.2), ok.2);
     }
 
-pub returns-in_err-script-clause-fault : goal.returns-in_err-script-clause-fault
-returns-in_err-script-clause-fault g c =
+pub returns-in_err-asked-clause-fault : goal.returns-in_err-asked-clause-fault
+returns-in_err-asked-clause-fault g c =
     let p = err_from_is_err_and c.from_residual.result c.from_residual.ensures.1 in
     rw p.1 (inl p.2)
 

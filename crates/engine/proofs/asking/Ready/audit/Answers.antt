@@ -13,8 +13,8 @@ returns-clause-served g c = λ script found.
     let log = c.args.log.now in
     let recorded = c.audit.ensures in
     let session_is = sym c.session.ensures ∙ c.if-session.false in
-    let same = ap length c.requests.ensures.value in
-    let all : length own.answers.items ≡ length own.script.now = omega (arith, c.if-len-requests.false, c.len.ensures, own.answers.ok.0, same) in
+    let same = ap length c.parts.ensures.value in
+    let all : length own.answers.items ≡ length own.script.now = omega (arith, c.if-len-parts.false, c.len.ensures, own.answers.ok.0, same) in
     subst (λ (answers : List (Result ℕ Refusal)). Served rules script answers (items_of c.args.session log) (length log)) (sym c.of.ensures)
     (audited rules g.J.ServeNames.scripts own.script.now own.seat own.pass own.answers.items (vec_capacity own.answers) c.args.session own.is_full log c.self.invariant
     session_is all recorded.mine recorded.reached script found)

@@ -1,5 +1,6 @@
 use Rattle.std.proofs.Common.{◌≡◌, Ok, ap, ◌∙◌}
 use Rattle.requests.specs.Check.{check_of}
+use Rattle.requests.specs.Script.{part}
 use Rattle.commit_log.specs.PassView.{SessionSeatView}
 use Rattle.engine.specs.Rules.{rules_of}
 use Rattle.engine.specs.Interactive.{AskerView}
@@ -11,11 +12,13 @@ invariant_of-away g c =
     let own = c.self.inside in
     let held = c.self.invariant in
     let rules = rules_of g.J.LogNames.opening g.J.LogNames.most in
-    let accepted : check_of rules.scale own.request ≡ Ok tt = ap (λ (a : AskerView). check_of rules.scale a.request) c.self.view_is ∙ c.requires.accepted in
+    let accepted : check_of rules.scale own.part.request ≡ Ok tt = ap (λ (a : AskerView). check_of rules.scale a.request) c.self.view_is ∙ c.requires.accepted in
     let not_full = ap (λ (a : AskerView). a.before.is_full) c.self.view_is ∙ c.requires.open in
     record {
-      so_far = away_now rules own.requests.items own.seat c.ask.new.self own.pass own.answers.items own.is_full own.request own.number held.before not_full held.number_is accepted c.ask.ensures.seat;
-      request_is = ap (λ (s : SessionSeatView). s.asking.request) c.ask.ensures.seat;
+      so_far = away_now rules own.parts.items own.seat c.ask.new.self own.pass own.answers.items own.is_full own.part held.before.resting not_full accepted c.ask.ensures.seat;
+      numbered = held.before.numbered;
+      number_is = ap (λ (s : SessionSeatView). s.asking.number) c.ask.ensures.seat ∙ held.number_is;
+      asked_is = ap (λ (s : SessionSeatView). part s.asking.number s.asking.request) c.ask.ensures.seat;
       can_keep = held.can_keep;
       can_answer = held.can_answer;
     }
@@ -25,11 +28,13 @@ invariant_of-away-in-Err g c =
     let own = c.self.inside in
     let held = c.self.invariant in
     let rules = rules_of g.J.LogNames.opening g.J.LogNames.most in
-    let accepted : check_of rules.scale own.request ≡ Ok tt = ap (λ (a : AskerView). check_of rules.scale a.request) c.self.view_is ∙ c.requires.accepted in
+    let accepted : check_of rules.scale own.part.request ≡ Ok tt = ap (λ (a : AskerView). check_of rules.scale a.request) c.self.view_is ∙ c.requires.accepted in
     let not_full = ap (λ (a : AskerView). a.before.is_full) c.self.view_is ∙ c.requires.open in
     record {
-      so_far = away_now rules own.requests.items own.seat c.ask.new.self own.pass own.answers.items own.is_full own.request own.number held.before not_full held.number_is accepted c.ask.ensures.seat;
-      request_is = ap (λ (s : SessionSeatView). s.asking.request) c.ask.ensures.seat;
+      so_far = away_now rules own.parts.items own.seat c.ask.new.self own.pass own.answers.items own.is_full own.part held.before.resting not_full accepted c.ask.ensures.seat;
+      numbered = held.before.numbered;
+      number_is = ap (λ (s : SessionSeatView). s.asking.number) c.ask.ensures.seat ∙ held.number_is;
+      asked_is = ap (λ (s : SessionSeatView). part s.asking.number s.asking.request) c.ask.ensures.seat;
       can_keep = held.can_keep;
       can_answer = held.can_answer;
     }

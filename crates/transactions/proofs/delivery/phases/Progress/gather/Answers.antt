@@ -4,14 +4,14 @@ use Rattle.transactions.specs.declared.progress.Progress.TheVariants as any_prog
 use Rattle.transactions.specs.Progresses.{FollowsFrom, HasFound}
 use Rattle.transactions.proofs.delivery.phases.Progress.gather.Goals as goal
 
-pub gather_orders-requires : goal.gather_orders-requires
-gather_orders-requires c = subst (λ (p : Progress). HasFound (any_progress.Delivery p) c.args.found.items) c.in-DeliverOrders.is c.requires
+pub gather_order-requires : goal.gather_order-requires
+gather_order-requires c = subst (λ (p : Progress). HasFound (any_progress.Delivery p) c.args.found.items) c.in-DeliverOrder.is c.requires
 
-pub returns-in-DeliverOrders : goal.returns-in-DeliverOrders
-returns-in-DeliverOrders c = subst (λ (p : Progress). FollowsFrom (any_progress.Delivery p) c.args.found.items c.gather_orders.result) (sym c.in-DeliverOrders.is) c.gather_orders.ensures
+pub returns-in-DeliverOrder : goal.returns-in-DeliverOrder
+returns-in-DeliverOrder c = subst (λ (p : Progress). FollowsFrom (any_progress.Delivery p) c.args.found.items c.gather_order.result) (sym c.in-DeliverOrder.is) c.gather_order.ensures
 
-pub gather_customers-requires : goal.gather_customers-requires
-gather_customers-requires c = subst (λ (p : Progress). HasFound (any_progress.Delivery p) c.args.found.items) c.in-CreditCustomers.is c.requires
+pub gather_customer-requires : goal.gather_customer-requires
+gather_customer-requires c = subst (λ (p : Progress). HasFound (any_progress.Delivery p) c.args.found.items) c.in-CreditCustomer.is c.requires
 
-pub returns-in-CreditCustomers : goal.returns-in-CreditCustomers
-returns-in-CreditCustomers c = subst (λ (p : Progress). FollowsFrom (any_progress.Delivery p) c.args.found.items c.gather_customers.result) (sym c.in-CreditCustomers.is) c.gather_customers.ensures
+pub returns-in-CreditCustomer : goal.returns-in-CreditCustomer
+returns-in-CreditCustomer c = subst (λ (p : Progress). FollowsFrom (any_progress.Delivery p) c.args.found.items c.gather_customer.result) (sym c.in-CreditCustomer.is) c.gather_customer.ensures
