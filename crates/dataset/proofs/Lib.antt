@@ -15,6 +15,7 @@ pub mod TableEntries
 pub mod Reported
 pub mod ColumnRanges
 pub mod Bounds
+pub mod OrderLines
 pub mod AllRows
 pub mod Short
 pub mod LetterFault
