@@ -333,7 +333,7 @@ insert_all-none {c = c} o old es none sorted =
 abbrev pub without_lines : List (EntryOf Orders) → List (OrderKey × Order)
 without_lines es = map (λ e. (e.0, e.1.0)) es
 
-keys-without_lines : (es : List (EntryOf Orders)) → keys_of (without_lines es) ≡ keys_of es
+pub keys-without_lines : (es : List (EntryOf Orders)) → keys_of (without_lines es) ≡ keys_of es
 keys-without_lines [] = refl
 keys-without_lines (e ∷ es) = ap (λ l. e.0 ∷ l) (keys-without_lines es)
 
