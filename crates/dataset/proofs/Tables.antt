@@ -73,15 +73,15 @@ customers_of scale customers = row_records customer_fields (zip (customer_keys s
 abbrev pub histories_of : Scale → List (List History) → List (List Field)
 histories_of scale lists = payment_records (zip (district_keys scale) lists)
 
--- the records of the orders, in format 2 with those of these lines that are their own
-abbrev pub order_part : Format → TableRows → List (List Field)
-order_part One rows = row_records order_fields rows.orders.entries
-order_part Two rows = records_with rows.lines rows.orders.entries
+-- the records of orders that are rows of a format, with those of these lines that are their own in format 2
+abbrev pub orders_of : Format → List (OrderLineKey × OrderLine) → List (OrderKey × Order) → List (List Field)
+orders_of One lines orders = row_records order_fields orders
+orders_of Two lines orders = records_with lines orders
 
 -- the records of the lines, which format 2 does not have
-abbrev pub line_part : Format → TableRows → List (List Field)
-line_part One rows = row_records line_fields rows.lines
-line_part Two rows = []
+abbrev pub lines_apart : Format → List (OrderLineKey × OrderLine) → List (List Field)
+lines_apart One lines = row_records line_fields lines
+lines_apart Two lines = []
 
 -- the records of six tables, whose rows are in key order, followed by others
 abbrev dense_then : Scale → TableRows → List (List (List Field)) → List (List (List Field))
@@ -93,7 +93,7 @@ dense_then scale rows others =
 abbrev pub rows_by_table : Format → Scale → TableRows → List (List (List Field))
 rows_by_table format scale rows =
     dense_then scale rows
-    (order_part format rows ∷ row_records new_order_fields rows.new_orders.entries ∷ line_part format rows ∷ [])
+    (orders_of format rows.lines rows.orders.entries ∷ row_records new_order_fields rows.new_orders.entries ∷ lines_apart format rows.lines ∷ [])
 
 -- the records of the three other tables, by ascending keys
 abbrev pub ordered_by_table : Format → Scale → TableRows → List (List (List Field))
@@ -159,11 +159,11 @@ module _ (scale : Scale) (rows : TableRows) where
         ap (λ parts. (header_fields format scale ∷ []) ++ (flat_map (λ part. part) parts ++ (end_fields (records_by_table One (database scale rows)) ∷ []))) (sorted format)
 
     module _ (orders : IsOrdered order_cmp rows.orders) (new_orders : IsOrdered order_cmp rows.new_orders) (lines : IsStrictlySortedBy line_cmp (keys_of rows.lines)) where
-      by_order : (format : Format) → order_records format (database scale rows) ≡ order_part format rows
+      by_order : (format : Format) → order_records format (database scale rows) ≡ orders_of format rows.lines rows.orders.entries
       by_order One = ap (row_records order_fields) (entries-ordered orders_total rows.orders.entries orders)
       by_order Two = ap (records_with rows.lines) (entries-ordered orders_total rows.orders.entries orders)
 
-      by_line : (format : Format) → line_records format (database scale rows) ≡ line_part format rows
+      by_line : (format : Format) → line_records format (database scale rows) ≡ lines_apart format rows.lines
       by_line One = ap (row_records line_fields) (entries-ordered lines_total rows.lines lines)
       by_line Two = refl
 
@@ -177,15 +177,12 @@ module _ (scale : Scale) (rows : TableRows) where
       pub end-counts : end_fields (records_by_table One (database scale rows)) ≡ count_fields rows
       end-counts = ap end_fields (by_table One) ∙ counted
 
--- so what was written for the rows is the tables' records
-module _ (format : Format) (scale : Scale) (rows : TableRows) (counts : HasCounts scale rows) (orders : IsOrdered order_cmp rows.orders)
-    (new_orders : IsOrdered order_cmp rows.new_orders) (lines : IsStrictlySortedBy line_cmp (keys_of rows.lines)) (within : IsWithinFormat format (database scale rows)) where
-  pub are-records : (written : List (List (List ℕ)))
-      → AllZip AreSpelt ((header_fields format scale ∷ flat_map (λ part. part) (rows_by_table format scale rows)) ++ (count_fields rows ∷ [])) written
-      → AreRecordsIn format (database scale rows) written
-  unfolding records AreRecordsIn
-  are-records written spelt =
-      let all : records format (database scale rows) ≡ (header_fields format scale ∷ flat_map (λ part. part) (rows_by_table format scale rows)) ++ (count_fields rows ∷ []) =
-      (λ i. (header_fields format scale ∷ flat_map (λ part. part) (by_table scale rows counts orders new_orders lines format i))
-      ++ (end-counts scale rows counts orders new_orders lines i ∷ [])) in
-      (within, subst (λ fields. AllZip AreSpelt fields written) (sym all) spelt)
+      -- so what was written for the rows is the tables' records
+      pub are-records : (format : Format) → IsWithinFormat format (database scale rows) → (written : List (List (List ℕ)))
+          → AllZip AreSpelt ((header_fields format scale ∷ flat_map (λ part. part) (rows_by_table format scale rows)) ++ (count_fields rows ∷ [])) written
+          → AreRecordsIn format (database scale rows) written
+      unfolding records AreRecordsIn
+      are-records format within written spelt =
+          let all : records format (database scale rows) ≡ (header_fields format scale ∷ flat_map (λ part. part) (rows_by_table format scale rows)) ++ (count_fields rows ∷ []) =
+          (λ i. (header_fields format scale ∷ flat_map (λ part. part) (by_table format i)) ++ (end-counts i ∷ [])) in
+          (within, subst (λ fields. AllZip AreSpelt fields written) (sym all) spelt)
