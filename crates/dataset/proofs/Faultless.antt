@@ -263,7 +263,7 @@ module _ (format : Format) (t : Database) (within : IsWithinScale t) (fit : AllB
 
   pub lines_number : number_of_lines format (header ∷ texts) ≡ length (entries t.lines)
   lines_number =
-      lines_counted format header (all_rows format t) texts is_header (all-weaker _ _ (λ row fits. fits_known format t.scale row fits) (all_rows format t) fit) spelt
+      lines_counted format t.scale header (all_rows format t) texts is_header (all-weaker _ _ (λ row fits. fits_known format t.scale row fits) (all_rows format t) fit) spelt
       ∙ ap length (lines_in_all format t within)
 
   -- as many of each table as the tables have

@@ -70,10 +70,10 @@ other_name left known word after five read apart =
     let no = not_word left known (codes "TPCC") word after read (omega arith) (utf8_words (codes "TPCC") refl) apart in
     rw (no, and_right (length left == 5) false refl) refl
 
--- a condition between None and None
-none_either : (b : Bool) → (if b then None {Format} else None) ≡ None
-none_either true = refl
-none_either false = refl
+-- a condition between a format and itself
+none_either : (b : Bool) (none : Option Format) → (if b then none else none) ≡ none
+none_either true none = refl
+none_either false none = refl
 
 pub other_format : (left mid : List (List ℕ)) (known : Option FaultKind) (name word : List ℕ) (after : FieldsView) → length left ≡ 5 → left ≡ name ∷ mid
     → ◌≡◌ {A = List ℕ × FieldsView} (word, after) (next_read word_read [] mid known) → (word ≡ codes "1" → ⊥) → (word ≡ codes "2" → ⊥) → header_format left ≡ None
@@ -82,7 +82,7 @@ other_format left mid known name word after five is read not_one not_two =
     let one = ap (λ l. bytes_eq (get_or l 1 []) (codes "1")) is ∙ not_word mid known (codes "1") word after read some (utf8_words (codes "1") refl) not_one in
     let two = ap (λ l. bytes_eq (get_or l 1 []) (codes "2")) is ∙ not_word mid known (codes "2") word after read some (utf8_words (codes "2") refl) not_two in
     let no : format_of (get_or left 1 []) ≡ None = rw (one, two) refl in
-    ap (λ (f : Option Format). if length left == 5 && bytes_eq (get_or left 0 []) (codes "TPCC") then f else None) no ∙ none_either (length left == 5 && bytes_eq (get_or left 0 []) (codes "TPCC"))
+    ap (λ (f : Option Format). if length left == 5 && bytes_eq (get_or left 0 []) (codes "TPCC") then f else None) no ∙ none_either (length left == 5 && bytes_eq (get_or left 0 []) (codes "TPCC")) None
 
 -- the number of the format as a word
 abbrev pub format_word : Format → List ℕ

@@ -22,6 +22,9 @@ pub mod LetterFault
 pub mod RowsFault
 pub mod HeaderFault
 pub mod RowTaken
+pub mod FieldsLeft
+pub mod LinesTaken
+pub mod LinesPut
 pub mod ColumnFields
 pub mod RowFields
 pub mod Contents

@@ -1,13 +1,11 @@
 -- Tables within their scale and the ranges of their columns are determined by their records, in each format.
-use Rattle.std.proofs.Common.{◌≡◌, ◌==◌, ◌||◌, ◌⊎◌, inl, inr, IsTrue, ℕ, Bool, true, false, List, [], ◌∷◌, ◌++◌, map, codes, lit<, refl, sym, ap, subst, ◌∙◌, arith}
+use Rattle.std.proofs.Common.{◌≡◌, ◌==◌, ℕ, Bool, true, false, List, [], ◌∷◌, ◌++◌, map, codes, lit<, refl, sym, ap, subst, ◌∙◌, arith}
 use Rattle.std.specs.Prelude.{if◌then◌else◌}
-use Rattle.std.specs.List.{AllByRecursion, AllZip, flat_map, list_any}
+use Rattle.std.specs.List.{AllByRecursion, AllZip, flat_map}
 use Rattle.std.specs.List.Sorted.{IsStrictlySortedBy}
-use Rattle.std.specs.Map.{keys_of, values_of}
-use Rattle.std.specs.Ordering.{eq_by_cmp}
-use Rattle.std.specs.Cmp.{Equal-is}
+use Rattle.std.specs.Map.{keys_of}
 use Rattle.std.specs.declared.cmp.Ordering.TheVariants.{Less}
-use Rattle.std.specs.FinMap.{contains_key-keys, entries, same_entries_map}
+use Rattle.std.specs.FinMap.{entries, same_entries_map}
 use Rattle.std.proofs.lemmas.Cmp.{tied_itself}
 use Rattle.std.specs.Str.{bytes_eq}
 use Rattle.std.proofs.lemmas.Fmt.{decimal_digit, decimal_injective}
@@ -22,12 +20,12 @@ use Rattle.rows.specs.declared.records.Order.{Order}
 use Rattle.rows.specs.declared.records.OrderLine.{OrderLine}
 use Rattle.schema.specs.Consistency.{lines_of}
 use Rattle.rows.specs.declared.records.History.{History}
-use Rattle.rows.specs.Keys.{district_cmp, order_cmp, order_of_line}
+use Rattle.rows.specs.Keys.{district_cmp}
 use Rattle.schema.specs.declared.scale.Scale.{Scale}
 use Rattle.schema.specs.Limits.{IsScale}
 use Rattle.schema.specs.Scale.{has_district}
 use Rattle.schema.specs.Database.{Database, IsWithinScale}
-use Rattle.schema.proofs.KeyOrders.{districts_total, districts_exact, lines_total, orders_exact}
+use Rattle.schema.proofs.KeyOrders.{districts_total, districts_exact}
 use Rattle.schema.proofs.EachRows.{keys_ascend}
 use Rattle.dataset.specs.declared.format.Format.{Format}
 use Rattle.dataset.specs.declared.format.Format.TheVariants.{One, Two}
@@ -40,11 +38,11 @@ use Rattle.dataset.specs.TableRow.{TableRow, RowFits, kind_rows, record_rows, ro
 use Rattle.dataset.proofs.AllRows.{all_records, all_rows, entries_at, records_of_rows, rows_at, rows_fit, rows_of}
 use Rattle.dataset.proofs.Contents.{entries_of, lines_of_format, of_entries, of_table, with_row}
 use Rattle.dataset.proofs.EachTable.{EntryOf, all_tables, get_made, make, number_made, number_of_row}
-use Rattle.dataset.proofs.Keys.{all-each, all-weaker}
-use Rattle.dataset.proofs.OrderLines.{IsAmong, grouped}
+use Rattle.dataset.proofs.Keys.{all-weaker}
+use Rattle.dataset.proofs.OrderLines.{lines_grouped}
 use Rattle.dataset.proofs.Payments.{all-payments, payments_of}
 use Rattle.dataset.proofs.RowFields.{row_reads}
-use Rattle.dataset.proofs.TableEntries.{each_entry, same_keys}
+use Rattle.dataset.proofs.TableEntries.{same_keys}
 
 -- ---- what the rows of tables are read as
 
@@ -218,24 +216,9 @@ lines_together : (t : Database) (es : List (OrderKey × Order)) → flat_map (λ
 lines_together t [] = refl
 lines_together t (e ∷ es) = ap (λ l. lines_of t e.0 ++ l) (lines_together t es)
 
-any_among : (ks : List OrderKey) (x : OrderKey) → IsTrue (list_any (eq_by_cmp order_cmp x) ks) → IsAmong x ks
-any_among [] x h = absurd cc
-any_among (k ∷ ks) x h = by (any_among ks x) (eq_by_cmp order_cmp x k) refl h
-  where
-    by : (IsTrue (list_any (eq_by_cmp order_cmp x) ks) → IsAmong x ks) → (b : Bool) → eq_by_cmp order_cmp x k ≡ b → IsTrue (b || list_any (eq_by_cmp order_cmp x) ks) → IsAmong x (k ∷ ks)
-    by later true test h = inl (orders_exact x k ((Equal-is (order_cmp x k)).0 test))
-    by later false test h = inr (later h)
-
--- the lines of all orders are all lines
-all_grouped : (t : Database) → IsWithinScale t → flat_map (λ e. lines_of t e.0) (entries t.orders) ≡ entries t.lines
-all_grouped t w =
-    grouped (entries t.lines) (entries t.orders) (keys_ascend _ t.lines) (keys_ascend _ t.orders)
-    (each_entry (λ _. Unit {0}) lines_total t.lines (all-each _ (λ _. tt) (values_of (entries t.lines))) (λ e found _.
-    any_among (keys_of (entries t.orders)) (order_of_line e.0) (sym (contains_key-keys t.orders (order_of_line e.0)) ∙ w.lines_have_orders e.0 e.1 found)))
-
 pub lines_in_all : (format : Format) (t : Database) → IsWithinScale t → lines_of_format format (all_rows format t) ≡ entries t.lines
 lines_in_all One t within = entries_in_all One t Lines
-lines_in_all Two t within = ap (flat_map (λ (e : EntryOf Orders). e.1.1)) (entries_in_all Two t Orders) ∙ lines_together t (entries t.orders) ∙ all_grouped t within
+lines_in_all Two t within = ap (flat_map (λ (e : EntryOf Orders). e.1.1)) (entries_in_all Two t Orders) ∙ lines_together t (entries t.orders) ∙ lines_grouped t within
 
 records_tell : (format : Format) (t u : Database) → IsWithinScale t → IsWithinScale u → InRange t → InRange u → (rows : List (List (List ℕ))) → AreRecordsIn format t rows → AreRecordsIn format u rows → t ≡ u
 unfolding AreRecordsIn records

@@ -111,27 +111,27 @@ long_lines [] = refl
 long_lines (line ∷ lines) = let rest = long_lines lines in omega (arith, rest)
 
 -- the record of a row of format 2 has the lines that the row adds
-lines_in_record : {scale : Scale} (row : TableRow) (texts : List (List ℕ)) → IsKnown Two scale row → AreSpelt (row_fields row) texts → lines_in texts ≡ length (lines_added row)
-lines_in_record (OfOrder key x lines) [] known spelt = absurd spelt
-lines_in_record (OfOrder key x lines) (text ∷ texts) known spelt =
+lines_in_record : (scale : Scale) (row : TableRow) (texts : List (List ℕ)) → IsKnown Two scale row → AreSpelt (row_fields row) texts → lines_in texts ≡ length (lines_added row)
+lines_in_record scale (OfOrder key x lines) [] known spelt = absurd spelt
+lines_in_record scale (OfOrder key x lines) (text ∷ texts) known spelt =
     let long = AllZip-long IsSpelt (row_fields (OfOrder key x lines)) (text ∷ texts) spelt in
     let fields = long_lines lines in
     let few : length lines ≤ MOST_LINES = known.1.2 in
     let count : line_count Two (length texts - 8) ≡ length lines = omega (arith, long, fields, few) in
     ap (λ w. if bytes_eq w (letter Orders) then line_count Two (length texts - 8) else 0) spelt.0 ∙ count
-lines_in_record (OfLine key x) texts known spelt = absurd known
-lines_in_record (OfItem key x) (text ∷ texts) known spelt = ap (λ w. if bytes_eq w (letter Orders) then line_count Two (length texts - 8) else 0) spelt.0
-lines_in_record row [] known spelt = absurd spelt
-lines_in_record row (text ∷ texts) known spelt = ap (λ w. if bytes_eq w (letter Orders) then line_count Two (length texts - 8) else 0) spelt.0
+lines_in_record scale (OfLine key x) texts known spelt = absurd known
+lines_in_record scale (OfItem key x) (text ∷ texts) known spelt = ap (λ w. if bytes_eq w (letter Orders) then line_count Two (length texts - 8) else 0) spelt.0
+lines_in_record scale row [] known spelt = absurd spelt
+lines_in_record scale row (text ∷ texts) known spelt = ap (λ w. if bytes_eq w (letter Orders) then line_count Two (length texts - 8) else 0) spelt.0
 
-lines_in_records : {scale : Scale} (rows : List TableRow) (records : List (List (List ℕ))) → AllByRecursion (IsKnown Two scale) rows → AllZip AreSpelt (map row_fields rows) records
+lines_in_records : (scale : Scale) (rows : List TableRow) (records : List (List (List ℕ))) → AllByRecursion (IsKnown Two scale) rows → AllZip AreSpelt (map row_fields rows) records
     → sum (map lines_in records) ≡ length (flat_map lines_added rows)
-lines_in_records [] [] known spelt = refl
-lines_in_records [] (record_ ∷ records) known spelt = absurd spelt
-lines_in_records (row ∷ rows) [] known spelt = absurd spelt
-lines_in_records (row ∷ rows) (record_ ∷ records) known spelt =
+lines_in_records scale [] [] known spelt = refl
+lines_in_records scale [] (record_ ∷ records) known spelt = absurd spelt
+lines_in_records scale (row ∷ rows) [] known spelt = absurd spelt
+lines_in_records scale (row ∷ rows) (record_ ∷ records) known spelt =
     sum-map lines_in (record_ ∷ records) ∙ sum_by-cons lines_in record_ records ∙ ap (λ n. lines_in record_ + n) (sym (sum-map lines_in records))
-    ∙ (λ i. lines_in_record row record_ known.0 spelt.0 i + lines_in_records rows records known.1 spelt.1 i)
+    ∙ (λ i. lines_in_record scale row record_ known.0 spelt.0 i + lines_in_records scale rows records known.1 spelt.1 i)
     ∙ sym (length-append (lines_added row) (flat_map lines_added rows))
 
 header_without_lines : (format : Format) (scale : Scale) (header : List (List ℕ)) → AreSpelt (header_fields format scale) header → lines_in header ≡ 0
@@ -139,13 +139,13 @@ header_without_lines format scale [] spelt = refl
 header_without_lines format scale (text ∷ texts) spelt = ap (λ w. if bytes_eq w (letter Orders) then line_count Two (length texts - 8) else 0) spelt.0
 
 -- the lines that are counted are those of the rows
-pub lines_counted : (format : Format) {scale : Scale} (header : List (List ℕ)) (rows : List TableRow) (records : List (List (List ℕ))) → AreSpelt (header_fields format scale) header
+pub lines_counted : (format : Format) (scale : Scale) (header : List (List ℕ)) (rows : List TableRow) (records : List (List (List ℕ))) → AreSpelt (header_fields format scale) header
     → AllByRecursion (IsKnown format scale) rows → AllZip AreSpelt (map row_fields rows) records → number_of_lines format (header ∷ records) ≡ length (lines_of_format format rows)
-lines_counted One {scale} header rows records is_header known spelt =
+lines_counted One scale header rows records is_header known spelt =
     header_uncounted Lines One scale header records is_header ∙ rows_counted Lines rows records spelt ∙ entries_counted Lines rows
-lines_counted Two {scale} header rows records is_header known spelt =
+lines_counted Two scale header rows records is_header known spelt =
     sum-map lines_in (header ∷ records) ∙ sum_by-cons lines_in header records ∙ ap (λ n. lines_in header + n) (sym (sum-map lines_in records))
-    ∙ (λ i. header_without_lines Two scale header is_header i + (lines_in_records rows records known spelt ∙ ap length (lines_of_rows Two rows known)) i) ∙ zero-add (length (lines_of_format Two rows))
+    ∙ (λ i. header_without_lines Two scale header is_header i + (lines_in_records scale rows records known spelt ∙ ap length (lines_of_rows Two scale rows known)) i) ∙ zero-add (length (lines_of_format Two rows))
 
 module _ (l : Loader) (header : List (List ℕ)) (records : List (List (List ℕ))) (rows : List TableRow) (spelt : AreSpelt (header_fields l.format l.scale) header) (h : HasRows l.format l.scale l.rows l.last records rows) where
   table_counted : (table : Table) → length (entries_of table rows) ≡ number_of table (header ∷ records)
@@ -168,7 +168,7 @@ module _ (l : Loader) (header : List (List ℕ)) (records : List (List (List ℕ
       ∷ paid_count i
       ∷ (ap length (are_kept h Orders) ∙ length-map (entries_of Orders rows) (λ e. (e.0, e.1.0)) ∙ table_counted Orders) i
       ∷ (ap length (are_kept h NewOrders) ∙ table_counted NewOrders) i
-      ∷ (ap length (lines_kept h) ∙ sym (lines_counted l.format header rows records spelt h.known h.are_spelt)) i ∷ []
+      ∷ (ap length (lines_kept h) ∙ sym (lines_counted l.format l.scale header rows records spelt h.known h.are_spelt)) i ∷ []
 
 pub counts_loaded : (l : Loader) (read : List (List (List ℕ))) → HasLoaded l read → table_counts l.rows ≡ counts l.format read
 counts_loaded l read h = all_counted l h.header h.records (rows_read (sizes l.format l.scale) h.records) h.is_header.is_spelt h.rows ∙ ap (counts l.format) (sym h.are)

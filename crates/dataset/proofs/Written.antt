@@ -169,5 +169,5 @@ module _ (t : Database) (before mid : Option (List ℕ)) (old : List ℕ) (none 
     -- a beginning, since a beginning of what was gathered was sent
     pub begun-last : Begins mid after left → BeginsToWrite before after (AreFirstRecords2 t)
     begun-last begun =
-        let cut : take (length (records Two t)) (records Two t) ≡ records t = take-length (records Two t) in
+        let cut : take (length (records Two t)) (records Two t) ≡ records Two t = take-length (records Two t) in
         (h.rows, (length (records Two t), subst (λ l. AllZip AreSpelt l h.rows) (sym cut) h.are_spelt), begins-end before mid after h.rows left sends begun)

@@ -1,4 +1,5 @@
 ghost use Rattle.std.specs.Prelude.{◌≡◌};
+ghost use Rattle.dataset.specs.FirstFault.{format_of};
 ghost use Rattle.dataset.specs.Formats.{line_count, most_lines, most_warehouses};
 
 use rows::{LAST_LINE, MOST_LINES, MOST_WAREHOUSES};
@@ -13,6 +14,17 @@ pub enum Format {
 }
 
 impl Format {
+    /// The format with that number in its header.
+    pub fn named(number: &str) -> Option<Format>
+        ensures { result ≡ format_of number.now }
+    {
+        match number {
+            "1" => Some(Format::One),
+            "2" => Some(Format::Two),
+            _ => None,
+        }
+    }
+
     /// The most warehouses of a dataset.
     pub fn most_warehouses(self) -> u32
         ensures { result ≡ most_warehouses self }

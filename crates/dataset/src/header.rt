@@ -26,10 +26,8 @@ pub fn parse(fields: &mut Fields) -> Result<Header, FaultKind>
     if fields.left() != 5 || fields.word() != "TPCC" {
         return Err(FaultKind::NoHeader);
     }
-    let format = match fields.word() {
-        "1" => Format::One,
-        "2" => Format::Two,
-        _ => return Err(FaultKind::NoHeader),
+    let Some(format) = Format::named(fields.word()) else {
+        return Err(FaultKind::NoHeader);
     };
     let scale = numbers(fields, format)?;
     Ok(Header { format, scale })
@@ -37,8 +35,9 @@ pub fn parse(fields: &mut Fields) -> Result<Header, FaultKind>
 
 // The scale that the three numbers of a header make. Returns their least fault, if there is one.
 fn numbers(fields: &mut Fields, format: Format) -> Result<Scale, FaultKind>
-    ensures { fault_of fields.old ≡ None
+    ensures exact { fault_of fields.old ≡ None
         → IsScaleAs format result (fields_left fields.old) }
+    ensures clean { OnOk result (fault_of fields.old ≡ None) }
 {
     let warehouses = fields.whole(1, format.most_warehouses());
     let items = fields.whole(1, 100_000);
