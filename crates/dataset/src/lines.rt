@@ -73,7 +73,7 @@ fn take_row(fields: &mut Fields, scale: Scale) -> OrderLine
 
 /// Appends the lines of an order to its record.
 pub fn put_all(out: &mut NewRecord, lines: Lines<'_>) -> Result<(), NoMemory>
-    ensures { OnOk result (Adds (lines_fields lines) out.old out.new) }
+    ensures { OnOk result (Adds (lines_fields lines.entry) out.old out.new) }
 {
     for (key, row) in lines {
         put_line(out, key.number, row)?;

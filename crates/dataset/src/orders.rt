@@ -68,10 +68,10 @@ pub fn write<W: Write>(
 ) -> Result<(), FileError>
     ensures written { OnOk result
         (Puts (W.contents sink.old) (W.contents sink.new) writer.old.text writer.new.text
-        (records_with lines.now orders)) }
+        (records_with lines.now orders.entry)) }
     ensures begun { OnErr result
         (StopsIn (W.contents sink.old) (W.contents sink.new) writer.old.text
-        (records_with lines.now orders)) }
+        (records_with lines.now orders.entry)) }
     ensures failed { IfErr result IsOfWriting }
 {
     for (key, row) in orders {
@@ -84,7 +84,7 @@ pub fn write<W: Write>(
 
 // Appends the fields of an order's record.
 fn put(out: &mut NewRecord, key: OrderKey, row: &Order, lines: Lines<'_>) -> Result<(), NoMemory>
-    ensures { OnOk result (Adds (order_record key row.now lines) out.old out.new) }
+    ensures { OnOk result (Adds (order_record key row.now lines.entry) out.old out.new) }
 {
     out.push("O")?;
     put_key(out, key)?;
