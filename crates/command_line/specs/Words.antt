@@ -110,8 +110,8 @@ module _ (found : Found) where
     pub quiet : IsFlag (codes "quiet") s.quiet
 
   pub record AsksToMigrate (s : MigrateSettings) : Type 0 where
-    pub old : s.old.now ≡ word_of (codes "OLD")
-    pub new : s.new.now ≡ word_of (codes "NEW")
+    pub «data» : s.«data».now ≡ word_of (codes "OLD")
+    pub file : s.file.now ≡ word_of (codes "NEW")
     pub quiet : IsFlag (codes "quiet") s.quiet
 
   pub record AsksToReplay (s : ReplaySettings) : Type 0 where

@@ -7,12 +7,13 @@ use crate::settings::arguments::{argument, named, quiet, word};
 use clap::{ArgMatches, Command};
 use std::alloc::{AllocError, Global};
 
-/// The settings of `tpcc migrate`: the path of the dataset that is read, and the path of the one that is written. Both
-/// may be one path.
+/// The settings of `tpcc migrate`: the paths of two datasets, which may be one path.
 #[derive(Debug, Drop)]
 pub struct MigrateSettings<'a> {
-    pub old: &'a str,
-    pub new: &'a str,
+    /// OLD, which is read.
+    pub data: &'a str,
+    /// NEW, which is written.
+    pub file: &'a str,
     /// Whether only faults are printed.
     pub quiet: bool,
 }
@@ -22,8 +23,8 @@ pub fn read<'a>(matches: &ArgMatches<'a>) -> MigrateSettings<'a>
     ensures { AsksToMigrate (found_of matches.now) result }
 {
     MigrateSettings {
-        old: word(matches, "OLD"),
-        new: word(matches, "NEW"),
+        data: word(matches, "OLD"),
+        file: word(matches, "NEW"),
         quiet: matches.get_flag("quiet"),
     }
 }
@@ -33,11 +34,11 @@ pub fn command<'a>(alloc: Global) -> Result<Command<'a>, AllocError>
     ensures { IfOk result (IsCommand (alone migrate_command)) }
 {
     let about = "Reads a dataset of either format, and writes the same tables in format 2";
-    let old = argument(alloc, "OLD", "The dataset, of format 1 or 2");
-    let new = argument(alloc, "NEW", "Where the dataset is written in format 2");
+    let data = argument(alloc, "OLD", "The dataset, of format 1 or 2");
+    let file = argument(alloc, "NEW", "Where the dataset is written in format 2");
     let command = named(alloc, "migrate", about, HELP)
-        .arg(old)?
-        .arg(new)?
+        .arg(data)?
+        .arg(file)?
         .arg(quiet(alloc))?;
     Ok(command)
 }
