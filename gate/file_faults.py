@@ -17,7 +17,7 @@ from allocations import AT_ONCE, MOMENT, library, read, write
 
 ROOT = os.path.dirname(os.path.dirname(os.path.abspath(__file__)))
 DATASET = f"{ROOT}/examples/two-warehouses.csv"
-FIRST_FORMAT = f"{ROOT}/scenarios/datasets/two-warehouses-of-format-1.csv"
+FIRST_FORMAT = f"{ROOT}/examples/two-warehouses-of-format-1.csv"
 EVENTS = f"{ROOT}/examples/one-payment.csv"
 FAULT = re.compile(r"tpcc: (.*): row (\d+): fault (\d+)\n")
 # How many bytes a read and a write move at most where one of them is to fail.
