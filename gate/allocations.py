@@ -1,9 +1,7 @@
 """Makes each allocation of the program fail in turn: gate/allocations.py PROGRAM
 
 `tpcc run` and `tpcc sim` serve requests on small datasets, while warehouses move and while actions wait. Each command is run once
-for each of its allocations, with that allocation refused. `tpcc migrate` of a small dataset of format 1 is treated in the same way: it
-must end with status 0 and the tables in format 2, or with status 4, `tpcc: no memory` and no file. A run of the other two commands
-must end in one of these ways:
+for each of its allocations, with that allocation refused. A run must end in one of these ways:
 
 - Status 0. Each request is answered done, or refused for lack of memory (12) or as died (11). `replay` of the log prints `equal`
   and the number of done requests, and gives the tables that were written; `check` of them succeeds. A schedule ends with rounds,
@@ -13,6 +11,9 @@ must end in one of these ways:
 - Status 4 and `tpcc: no memory`, without a log. No answer is printed and no file is left; or the whole log is left under its
   temporary name.
 - Status 1 and `tpcc: no thread`, from `tpcc run`. No file is left.
+
+`tpcc migrate` is run in the same way on a small dataset of format 1. A run of it must end with status 0 and the tables in format 2, or
+with status 4, `tpcc: no memory` and no file. At least one must end with the latter.
 
 The sweep ends with the first run that makes too few allocations to be refused one. In the sweep over one payment, exactly one run
 must print what is printed if the log has no memory for the payment's entry.

@@ -1,7 +1,7 @@
 """Cuts the files that the program reads, and makes its reads and writes fail: gate/file_faults.py PROGRAM
 
-- A dataset of either format that is cut after any record, or within the first one of each table, is a fault of the record at the cut; or
-  its end record is missing (7), if what is left of the record is one. No tables are written.
+- A dataset of either format that is cut after any record, or within the first one of each table, is a fault of the record at the cut. If
+  what is left of this record is a record too, the fault is that the end record is missing (7). No tables are written.
 - A read that fails, in a dataset, a script, a schedule or a log, is fault 10 of the record that was being read.
 - A write that fails leaves the first bytes of what was to be printed, all that were written before, and is fault 10.
 """
