@@ -32,7 +32,8 @@ use Rattle.dataset.specs.Columns.{sizes}
 use Rattle.files.specs.Columns.{at_end, columns_fault, take_columns}
 use Rattle.dataset.specs.declared.format.Format.{Format}
 use Rattle.dataset.specs.declared.format.Format.TheVariants.{One, Two}
-use Rattle.dataset.specs.Formats.{format_number, most_warehouses}
+use Rattle.dataset.specs.Formats.{format_number, most_lines, most_warehouses}
+use Rattle.rows.specs.declared.limits.TheConstants.{LAST_LINE, MOST_WAREHOUSES}
 use Rattle.dataset.specs.FirstFault.{HasNoTables, Reports, first_fault, format_of, header_columns, header_fault, header_first, header_format, header_sizes, numbers_fault, rows_fault, reported_header}
 use Rattle.files.specs.FirstFault.{behind_end, fault_at, fault_or}
 use Rattle.dataset.specs.Records.{AreSpelt, AreRecordsOfEither, IsHeader, header_fields, scale_fields}
@@ -71,9 +72,9 @@ other_name left known word after five read apart =
     rw (no, and_right (length left == 5) false refl) refl
 
 -- a condition between a format and itself
-none_either : (b : Bool) (none : Option Format) → (if b then none else none) ≡ none
-none_either true none = refl
-none_either false none = refl
+same_either : (b : Bool) (f : Option Format) → (if b then f else f) ≡ f
+same_either true f = refl
+same_either false f = refl
 
 pub other_format : (left mid : List (List ℕ)) (known : Option FaultKind) (name word : List ℕ) (after : FieldsView) → length left ≡ 5 → left ≡ name ∷ mid
     → ◌≡◌ {A = List ℕ × FieldsView} (word, after) (next_read word_read [] mid known) → (word ≡ codes "1" → ⊥) → (word ≡ codes "2" → ⊥) → header_format left ≡ None
@@ -82,7 +83,24 @@ other_format left mid known name word after five is read not_one not_two =
     let one = ap (λ l. bytes_eq (get_or l 1 []) (codes "1")) is ∙ not_word mid known (codes "1") word after read some (utf8_words (codes "1") refl) not_one in
     let two = ap (λ l. bytes_eq (get_or l 1 []) (codes "2")) is ∙ not_word mid known (codes "2") word after read some (utf8_words (codes "2") refl) not_two in
     let no : format_of (get_or left 1 []) ≡ None = rw (one, two) refl in
-    ap (λ (f : Option Format). if length left == 5 && bytes_eq (get_or left 0 []) (codes "TPCC") then f else None) no ∙ none_either (length left == 5 && bytes_eq (get_or left 0 []) (codes "TPCC")) None
+    ap (λ (f : Option Format). if length left == 5 && bytes_eq (get_or left 0 []) (codes "TPCC") then f else None) no ∙ same_either (length left == 5 && bytes_eq (get_or left 0 []) (codes "TPCC")) None
+
+-- the limits of the format are those of tables, or less
+pub some_within : (format : Format) → 1 ≤ most_warehouses format
+some_within One = omega arith
+some_within Two = omega arith
+
+pub most_within : (format : Format) → most_warehouses format ≤ MOST_WAREHOUSES
+most_within One = omega arith
+most_within Two = omega arith
+
+pub most_lines_within : (format : Format) → most_lines format ≤ LAST_LINE
+most_lines_within One = omega arith
+most_lines_within Two = omega arith
+
+pub some_lines_within : (format : Format) → 1 ≤ most_lines format
+some_lines_within One = omega arith
+some_lines_within Two = omega arith
 
 -- the number of the format as a word
 abbrev pub format_word : Format → List ℕ
@@ -100,6 +118,39 @@ some_format Two = refl
 format_is : (format : Format) (numbers : List (List ℕ)) → length numbers ≡ 3 → header_format (codes "TPCC" ∷ format_word format ∷ numbers) ≡ Some format
 format_is One numbers three = let long : (length (codes "TPCC" ∷ codes "1" ∷ numbers) == 5) ≡ true = grind (arith, nat_tests, three) in rw long refl
 format_is Two numbers three = let long : (length (codes "TPCC" ∷ codes "2" ∷ numbers) == 5) ≡ true = grind (arith, nat_tests, three) in rw long refl
+
+pub word_of_format : (format : Format) (word : List ℕ) → format_of word ≡ Some format → word ≡ format_word format
+word_of_format format word e = by (bytes_eq word (codes "1")) refl
+  where
+    two : bytes_eq word (codes "1") ≡ false → (b : Bool) → bytes_eq word (codes "2") ≡ b → word ≡ format_word format
+    two other_than true equal =
+        let read : format_of word ≡ Some Two = rw (other_than, equal) refl in
+        let is : Some Two ≡ Some format = sym read ∙ e in
+        let same : Two ≡ format = ap (λ (f : Option Format). unwrap_or f One) is in
+        (bytes_decides word (codes "2")).0 equal ∙ ap format_word same
+    two other_than false neither =
+        let read : format_of word ≡ None = rw (other_than, neither) refl in
+        let clash : None ≡ Some format = sym read ∙ e in
+        absurd cc
+    by : (b : Bool) → bytes_eq word (codes "1") ≡ b → word ≡ format_word format
+    by true equal =
+        let read : format_of word ≡ Some One = rw equal refl in
+        let is : Some One ≡ Some format = sym read ∙ e in
+        let same : One ≡ format = ap (λ (f : Option Format). unwrap_or f One) is in
+        (bytes_decides word (codes "1")).0 equal ∙ ap format_word same
+    by false other_than = two other_than (bytes_eq word (codes "2")) refl
+
+no_format : (word : List ℕ) → format_of word ≡ None → (word ≡ codes "1" → ⊥) × (word ≡ codes "2" → ⊥)
+no_format word e = (
+  λ is. let clash : Some One ≡ None = sym (ap format_of is) ∙ e in cc,
+  λ is. let clash : Some Two ≡ None = sym (ap format_of is) ∙ e in cc,
+)
+
+pub unknown_format : (left mid : List (List ℕ)) (known : Option FaultKind) (name word : List ℕ) (after : FieldsView) → length left ≡ 5 → left ≡ name ∷ mid
+    → ◌≡◌ {A = List ℕ × FieldsView} (word, after) (next_read word_read [] mid known) → format_of word ≡ None → header_format left ≡ None
+unknown_format left mid known name word after five is read none =
+    let no = no_format word none in
+    other_format left mid known name word after five is read no.0 no.1
 
 -- the name and the number of the format were taken
 pub record IsBegun (format : Format) (old next : Fields) : Type 0 where

@@ -1,5 +1,5 @@
 -- The fields of a record, some more taken at a time.
-use Rattle.std.proofs.Common.{◌≡◌, ◌≤◌, ℕ, ◌==◌, Bool, true, false, not, List, [], ◌∷◌, ◌++◌, Option, None, Some, IfSome, refl, sym, ap, subst, ◌∙◌, append_assoc}
+use Rattle.std.proofs.Common.{◌≡◌, ◌≤◌, ℕ, ◌==◌, Bool, true, false, not, List, [], ◌∷◌, ◌++◌, Option, None, Some, Result, Ok, Err, OnOk, IfSome, refl, sym, ap, subst, ◌∙◌, append_assoc}
 use Rattle.std.specs.Fmt.{decimal}
 use Rattle.std.proofs.lemmas.List.{append-nil}
 use Rattle.std.specs.Cmp.Lexicographic.{pointwise, bytes_decides}
@@ -66,6 +66,10 @@ all_spelt {fields} old new takes faultless none =
 -- and there was no fault before
 pub none_before : {fields : List Field} (old new : Fields) → TakesFields fields old new → fault_of new ≡ None → fault_of old ≡ None
 none_before old new takes faultless = (takes.well faultless).faultless
+
+pub on_any_ok : {T E P : Type 0} (r : Result T E) → P → OnOk r P
+on_any_ok (Ok t) p = p
+on_any_ok (Err e) p = tt
 
 -- a count, by the number that was expected
 pub takes-counted : {old : Fields} (count expected : ℕ) (new : Fields) → expected ≡ count → TakesWell old new (decimal expected) → TakesFields (Number count ∷ []) old new

@@ -39,6 +39,7 @@ mod warehouses;
 mod writer;
 
 pub use files::{FaultKind, FileError, FileFault, Input, Reader};
+pub use format::Format;
 pub use laws::{different_tables_have_different_records, records_report_tables};
 pub use ranges::columns_are_in_range;
 pub use reader::{read, read_scale};

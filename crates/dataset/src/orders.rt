@@ -75,11 +75,31 @@ pub fn write<W: Write>(
     ensures failed { IfErr result IsOfWriting }
 {
     for (key, row) in orders {
-        out.clear();
-        put(out, key, row, lines.of_order(key))?;
-        writer.write(sink, out)?;
+        write_order(writer, sink, out, key, row, lines.of_order(key))?;
     }
     Ok(())
+}
+
+// Writes the record of an order.
+fn write_order<W: Write>(
+    writer: &mut RecordWriter,
+    sink: &mut W,
+    out: &mut NewRecord,
+    key: OrderKey,
+    row: &Order,
+    lines: Lines<'_>,
+) -> Result<(), FileError>
+    ensures written { OnOk result
+        (Puts (W.contents sink.old) (W.contents sink.new) writer.old.text writer.new.text
+        (order_record key row.now lines.entry ∷ [])) }
+    ensures begun { OnErr result
+        (StopsIn (W.contents sink.old) (W.contents sink.new) writer.old.text
+        (order_record key row.now lines.entry ∷ [])) }
+    ensures failed { IfErr result IsOfWriting }
+{
+    out.clear();
+    put(out, key, row, lines)?;
+    writer.write(sink, out)
 }
 
 // Appends the fields of an order's record.
