@@ -132,6 +132,7 @@ word_of_format format word e = by (bytes_eq word (codes "1")) refl
         let read : format_of word ≡ None = rw (other_than, neither) refl in
         let clash : None ≡ Some format = sym read ∙ e in
         absurd cc
+
     by : (b : Bool) → bytes_eq word (codes "1") ≡ b → word ≡ format_word format
     by true equal =
         let read : format_of word ≡ Some One = rw equal refl in

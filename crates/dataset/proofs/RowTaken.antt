@@ -1,5 +1,5 @@
 -- A row's record, taken as its table's columns.
-use Rattle.std.proofs.Common.{◌≡◌, ℕ, zero, suc, ◌-◌, ◌&&◌, List, [], ◌∷◌, ◌++◌, map, take, drop, get_or, length, Bool, true, false, Option, Some, None, Ok, is_none, refl, sym, ap, subst, ◌∙◌}
+use Rattle.std.proofs.Common.{◌≡◌, ℕ, zero, suc, ◌-◌, ◌&&◌, List, [], ◌∷◌, ◌++◌, map, take, drop, length, Bool, true, false, Option, Some, None, Ok, is_none, refl, sym, ap, subst, ◌∙◌}
 use Rattle.std.specs.Str.Parse.{digits_value}
 use Rattle.std.proofs.lemmas.List.{append-nil}
 use Rattle.files.specs.declared.fault.FaultKind.{FaultKind}
@@ -15,7 +15,7 @@ use Rattle.dataset.specs.Columns.{Sizes, Table, Items, Orders, ascend_from, come
 use Rattle.dataset.specs.Formats.{line_count, most_lines}
 use Rattle.rows.specs.declared.keys.OrderKey.{OrderKey}
 use Rattle.dataset.specs.Order.{follows, place_numbers}
-use Rattle.dataset.specs.TableRow.{AddsRow, IsAdded, TableRow, has_rising_lines, insert_lines, lines_made, numbers_of, row_follows, row_of, row_place, row_read}
+use Rattle.dataset.specs.TableRow.{AddsRow, IsAdded, TableRow, has_rising_lines, lines_made, numbers_of, row_follows, row_of, row_place, row_read}
 use Rattle.dataset.specs.TakenAs.{IsRowOf}
 use Rattle.files.specs.Columns.{Value, Values, read_columns}
 use Rattle.files.proofs.ColumnValues.{AreRead, ReadsColumns, clean, read-take}

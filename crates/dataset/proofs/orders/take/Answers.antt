@@ -1,8 +1,8 @@
-use Rattle.std.proofs.Common.{◌≡◌, ◌-◌, ◌==◌, ℕ, None, List, length, refl, sym, ap, subst, ◌∙◌, arith}
-use Rattle.rows.specs.declared.keys.OrderKey.{OrderKey}
+use Rattle.std.proofs.Common.{◌≡◌, ◌≤◌, ◌-◌, ◌==◌, ℕ, None, List, length, refl, ap, subst, ◌∙◌, arith}
 use Rattle.rows.specs.declared.keys.OrderLineKey.{OrderLineKey}
 use Rattle.rows.specs.declared.records.Order.{Order}
 use Rattle.rows.specs.declared.records.OrderLine.{OrderLine}
+use Rattle.rows.specs.declared.limits.TheConstants.{LAST_LINE}
 use Rattle.files.specs.Columns.{MaybeWhole, Moment, Whole, at_end, read_columns}
 use Rattle.files.specs.FieldRead.{FieldsView, fields_view, field_read, whole_read}
 use Rattle.files.specs.KindsRead.{moment_read, optional_read}
@@ -12,6 +12,7 @@ use Rattle.dataset.specs.Formats.{line_count, most_lines}
 use Rattle.dataset.specs.TableRow.{TableRow, OfOrder, lines_made}
 use Rattle.dataset.specs.TakenAs.{ReadsLines}
 use Rattle.dataset.proofs.FieldsLeft.{columns_long, field_long}
+use Rattle.dataset.proofs.HeaderFault.{most_lines_within, some_lines_within}
 use Rattle.dataset.proofs.LinesTaken.{order_added, order_follows}
 use Rattle.dataset.proofs.RowTaken.{TakesRow, none_added, row_taken}
 use Rattle.files.proofs.ColumnValues.{of_reads, read_more, read_then}
@@ -70,3 +71,14 @@ returns-else-stand_in_order c =
     let taken = c.in_ok-lines_ascend.ensures in
     takes after _ _ (c.stand_in_order.ensures.fault ∙ ap (or_order (at_end (fields_left c.take_all.new.fields) (fault_of c.take_all.new.fields))) (order_follows (order after) taken))
     (none_added c.stand_in_order.ensures.free c.if-stand_in_order.false)
+
+pub new-requires : goal.new-requires
+new-requires c =
+    let most : c.most_lines.result ≡ most_lines c.args.loader.now.format = c.most_lines.ensures in
+    let some = some_lines_within c.args.loader.now.format in
+    let within = most_lines_within c.args.loader.now.format in
+    let range = c.whole-2.ensures.range (omega (arith, most, some)) in
+    let low = range.0 in
+    let high = range.1 in
+    let top : c.whole-2.result ≤ LAST_LINE = omega (arith, high, most, within) in
+    (omega arith, (low, top))
