@@ -32,7 +32,7 @@ const ORDER_FIELDS: usize = 8;
 pub fn header(search: &mut Search<'_>) {
     search.field("the word of a dataset", Spelling::Header("TPCC"));
     let name = "the format";
-    let format = format_of(search.word(name, FORMATS));
+    let format = Format::named(search.word(name, FORMATS));
     if format.is_none() {
         search.refuse(FaultKind::NoHeader, 2, name, FORMATS);
     }
@@ -43,15 +43,6 @@ pub fn header(search: &mut Search<'_>) {
         "how many customers of a district",
         Spelling::Whole(1, 3_000),
     );
-}
-
-// The format of that number.
-fn format_of(word: &str) -> Option<Format> {
-    match word {
-        "1" => Some(Format::One),
-        "2" => Some(Format::Two),
-        _ => None,
-    }
 }
 
 /// The names of the key fields of a row whose record begins with that word, if it is a table's letter.
@@ -104,7 +95,7 @@ impl Tables {
     pub fn pass(&mut self, mut fields: Fields<'_>) {
         let first = fields.word();
         if first == "TPCC" {
-            self.format = format_of(fields.word()).unwrap_or(Format::Two);
+            self.format = Format::named(fields.word()).unwrap_or(Format::Two);
             self.warehouses = fields.whole(1, self.format.most_warehouses());
             self.items = fields.whole(1, 100_000);
             self.customers = fields.whole(1, 3_000);
