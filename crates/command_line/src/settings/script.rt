@@ -156,7 +156,7 @@ pub fn command<'a>(alloc: Global) -> Result<Command<'a>, AllocError>
         .arg(counted(
             alloc,
             "requests",
-            "How many requests each script has, 0 to 16,777,216; 1,000 by default",
+            "How many records each script has, 0 to 16,777,216, of which a Delivery is ten requests; 1,000 by default",
         ))?
         .arg(counted(
             alloc,
