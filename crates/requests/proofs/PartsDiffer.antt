@@ -1,7 +1,7 @@
 -- The parts of a script's records differ from each other.
-use Rattle.std.proofs.Common.{◌≡◌, ◌≢◌, ◌⊎◌, inl, inr, ℕ, zero, suc, ◌+◌, ◌<◌, ◌≤◌, ◌++◌, List, [], ◌∷◌, length, map, Some, sym, ap, ◌∙◌, subst, arith}
-use Rattle.std.proofs.Math.Option.{some-injective}
+use Rattle.std.proofs.Common.{◌≡◌, ◌≢◌, ◌⊎◌, inl, inr, ℕ, zero, suc, ◌+◌, ◌<◌, ◌≤◌, ◌++◌, List, [], ◌∷◌, length, map, Option, Some, sym, ap, ◌∙◌, subst, arith}
 use Rattle.std.specs.List.{range_with_len, slice_get}
+use Rattle.std.specs.Option.{unwrap_or}
 use Rattle.requests.specs.Script.{part, parts_from, parts_of, AreDistinct, AreOfOtherDistricts}
 use Rattle.requests.specs.TerminalRequest.{delivery_in}
 use Rattle.requests.specs.declared.request.Request.{Request}
@@ -10,6 +10,10 @@ use Rattle.requests.specs.declared.script.Part.{Part}
 use Rattle.requests.specs.declared.terminal_request.TerminalRequest.{TerminalRequest}
 use Rattle.requests.specs.declared.terminal_request.TerminalRequest.TheVariants as asked
 use Rattle.requests.specs.declared.terminal_request.WarehouseDelivery.{WarehouseDelivery}
+
+-- the parts in two equal options are equal
+is_same : (x a : Part) → Some x ≡ Some a → x ≡ a
+is_same x a e = ap (λ (o : Option Part). unwrap_or o x) e
 
 -- an element of two lists joined is one of the first, or one of the second
 split : (xs ys : List Part) (i : ℕ) (x : Part) → slice_get (xs ++ ys) i ≡ Some x
@@ -24,7 +28,7 @@ split (y ∷ xs) ys (suc i) x e = elim (split xs ys i x e) [
 -- the parts of a record have its number
 of_number : (number : ℕ) (requests : List Request) (i : ℕ) (a : Part) → slice_get (map (part number) requests) i ≡ Some a → a.number ≡ number
 of_number number [] i a e = absurd cc
-of_number number (r ∷ rs) zero a e = sym (ap (λ (p : Part). p.number) (some-injective (part number r) a e))
+of_number number (r ∷ rs) zero a e = sym (ap (λ (p : Part). p.number) (is_same (part number r) a e))
 of_number number (r ∷ rs) (suc i) a e = of_number number rs i a e
 
 -- the parts of records have no lower number than the first
@@ -41,9 +45,11 @@ delivery_at : (number : ℕ) (d : WarehouseDelivery) (from left place : ℕ) (a 
     → part number (Delivery (delivery_in d (from + place))) ≡ a
 delivery_at number d from zero place a e = absurd cc
 delivery_at number d from (suc left) zero a e =
-    ap (λ k. part number (Delivery (delivery_in d k))) (omega arith) ∙ some-injective (part number (Delivery (delivery_in d from))) a e
+    let here : from + zero ≡ from = omega arith in
+    ap (λ k. part number (Delivery (delivery_in d k))) here ∙ is_same (part number (Delivery (delivery_in d from))) a e
 delivery_at number d from (suc left) (suc place) a e =
-    ap (λ k. part number (Delivery (delivery_in d k))) (omega arith) ∙ delivery_at number d (from + 1) left place a e
+    let next : from + suc place ≡ from + 1 + place = omega arith in
+    ap (λ k. part number (Delivery (delivery_in d k))) next ∙ delivery_at number d (from + 1) left place a e
 
 -- a list of one part has no other
 alone : (x a b : Part) (place other : ℕ) → place ≢ other → slice_get (x ∷ []) place ≡ Some a → slice_get (x ∷ []) other ≡ Some b

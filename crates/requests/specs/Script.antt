@@ -1,5 +1,5 @@
 -- The parts of scripts.
-use Rattle.std.specs.Prelude.{◌≡◌, ◌≢◌, ◌⊎◌, ⊥, ℕ, ◌+◌, List, [], ◌∷◌, ◌++◌, Some, map}
+use Rattle.std.specs.Prelude.{◌≡◌, ◌≢◌, ◌⊎◌, ℕ, ◌+◌, List, [], ◌∷◌, ◌++◌, Some, map}
 use Rattle.std.specs.List.{slice_get}
 use Rattle.requests.specs.TerminalRequest.{requests_of}
 use Rattle.requests.specs.declared.request.Request.{Request}
