@@ -12,13 +12,13 @@ use crate::settings::arguments::{
 use crate::settings::mix::mix;
 use crate::usage::UsageFault;
 use clap::{ArgMatches, Command};
-use rows::{MOST_ENTRIES, MOST_WAREHOUSES, SESSIONS};
+use rows::{LONGEST_LOG, MOST_WAREHOUSES, SESSIONS};
 use schema::Moment;
 use std::alloc::{AllocError, Global};
 use workload::Mix;
 
 // A script has no more records than a log has entries.
-const MOST_REQUESTS: u32 = MOST_ENTRIES as u32;
+const MOST_REQUESTS: u32 = LONGEST_LOG;
 
 /// The settings of `tpcc script`: paths of files, and the parameters of the scripts.
 #[derive(Debug, Drop)]
@@ -156,7 +156,7 @@ pub fn command<'a>(alloc: Global) -> Result<Command<'a>, AllocError>
         .arg(counted(
             alloc,
             "requests",
-            "How many requests each script has, 0 to 16,777,216; 1,000 by default",
+            "How many records each script has, 0 to 16,777,216, of which a Delivery is ten requests; 1,000 by default",
         ))?
         .arg(counted(
             alloc,
