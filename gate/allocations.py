@@ -12,6 +12,9 @@ for each of its allocations, with that allocation refused. A run must end in one
   temporary name.
 - Status 1 and `tpcc: no thread`, from `tpcc run`. No file is left.
 
+`tpcc migrate` is run in the same way on a small dataset of format 1. A run of it must end with status 0 and the tables in format 2, or
+with status 4, `tpcc: no memory` and no file. At least one must end with the latter.
+
 The sweep ends with the first run that makes too few allocations to be refused one. In the sweep over one payment, exactly one run
 must print what is printed if the log has no memory for the payment's entry.
 """
@@ -24,11 +27,14 @@ import tempfile
 from concurrent.futures import ThreadPoolExecutor
 from itertools import count
 
+from first_format import write_in_format_1
+
 ROOT = os.path.dirname(os.path.dirname(os.path.abspath(__file__)))
 POPULATION = ["--warehouses", "1", "--items", "10", "--customers", "3"]
 MOMENT = "2024-05-01T12:00:00"
 # A payment by number, a query of a customer's last order, a payment by last name, a payment that is rolled back, an order whose
-# second line takes from the same row of stock as its first, an order of an unknown item, and a query of low stock.
+# second line takes from the same row of stock as its first, an order of an unknown item, an order of fifteen lines, and a query of low
+# stock.
 REQUESTS = [
     f"P,1,1,1,1,#1,100,{MOMENT}",
     "O,1,1,BARBARBAR",
@@ -36,6 +42,7 @@ REQUESTS = [
     f"P,1,1,1,1,#9,100,{MOMENT}",
     f"N,1,1,1,{MOMENT},1,1,5,1,1,6,2,1,1,3,1,2,4,1,3",
     f"N,1,1,2,{MOMENT},1,1,5,2,1,6,3,1,1,4,1,2,11,1,3",
+    f"N,1,2,3,{MOMENT},{','.join(f'{line % 10 + 1},1,{line % 7 + 1}' for line in range(15))}",
     "L,1,1,20",
 ]
 # A delivery of a warehouse, as in a script, where it is ten requests; and one of a district, as in a schedule.
@@ -181,14 +188,38 @@ class Sweep:
                         well = False
                     ends.append(has_log)
                     if not was_refused:
-                        if not has_kept_its_log(self.command, ends):
-                            print(f"allocations: tpcc {self.command}: no run without memory for its tables left a log")
-                            well = False
-                        if self.sought and len(self.found) != 1:
-                            print(f"allocations: tpcc {self.command}: {len(self.found)} runs print what one must print")
-                            well = False
+                        missing = self.missing(ends)
+                        if missing:
+                            print(f"allocations: tpcc {self.command}: {missing}")
                         print(f"allocations: tpcc {self.command}: each of {number - 1} allocations refused in turn", flush=True)
-                        return well
+                        return well and not missing
+
+    def missing(self, ends):
+        """Returns which end of a run is missing in all these ends, or None."""
+        if not has_kept_its_log(self.command, ends):
+            return "no run without memory for its tables left a log"
+        if self.sought and len(self.found) != 1:
+            return f"{len(self.found)} runs print what one must print"
+        return None
+
+
+class Migrations(Sweep):
+    """The runs of `tpcc migrate` on a dataset, which must give the text of another one."""
+
+    def __init__(self, program, room, refuser, dataset, wanted):
+        super().__init__(program, room, refuser, "migrate", [dataset], 0)
+        self.words, self.wanted = ["migrate", dataset, "new.csv"], read(wanted)
+
+    def fault(self, folder, ran):
+        if ran.returncode == 4 and ran.stderr == "tpcc: no memory\n":
+            return f"no memory, but left {self.left(folder)}" if self.left(folder) else None
+        if ran.returncode != 0:
+            return f"status {ran.returncode}, {ran.stderr.strip() or 'no message'}"
+        is_well = self.left(folder) == ["new.csv"] and read(f"{folder}/new.csv") == self.wanted
+        return None if is_well else f"status 0, but left {self.left(folder)}, or other tables"
+
+    def missing(self, ends):
+        return None if False in ends else "no run ended for lack of memory"
 
 
 def schedule_of(scenario, room):
@@ -200,8 +231,9 @@ def schedule_of(scenario, room):
 
 def sweeps_of(program, room, refuser):
     """Returns the sweeps, over files that it writes to this folder."""
-    dataset, two = f"{room}/dataset.csv", f"{ROOT}/examples/two-warehouses.csv"
+    dataset, first, two = f"{room}/dataset.csv", f"{room}/first.csv", f"{ROOT}/examples/two-warehouses.csv"
     subprocess.run([program, "populate", dataset, *POPULATION], check=True)
+    write_in_format_1(dataset, first)
     files = {
         "all-kinds": [*REQUESTS, OF_WAREHOUSE],
         "payment": [PAYMENT],
@@ -226,6 +258,7 @@ def sweeps_of(program, room, refuser):
             sweep("sim", [two, schedule_of(name, room), "--executors", str(executors), "--locks"], requests)
             for name, executors, requests in SCHEDULES
         ],
+        Migrations(program, room, refuser, first, dataset),
     ]
 
 

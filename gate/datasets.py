@@ -1,17 +1,22 @@
 #!/usr/bin/env python3
-"""Measures what reading and populating datasets cost, in turns with another program.
+"""Measures what reading and populating datasets cost, in turns with another program, and how large datasets are.
 
     python3 -B gate/datasets.py PROGRAM [--beside NAME CHECK POPULATE] [--warehouses 1,2,4] [--runs 5] [--record]
 
 PROGRAM is `tpcc`. NAME is the name of the other program in the table. CHECK and POPULATE are its commands, in which `{file}`
-stands for a dataset and `{warehouses}` for the number of warehouses. Both programs read the same files, which PROGRAM populated,
-and check the twelve conditions. Both write what they populate. The table has the least processor time of several runs, in the
-program and in the system together; the most memory of a process (MB of 1,048,576 bytes); and for one warehouse the instructions
-in the program, counted by callgrind if valgrind is installed. With --record the table is written into docs/COSTS.md.
+stands for a dataset and `{warehouses}` for the number of warehouses. PROGRAM reads and writes datasets of format 2. The other
+program reads and writes the same tables in format 1, and PROGRAM reads that file too. Reading is with a check of the twelve
+conditions. Both programs write what they populate; the other's dataset must have the same tables.
+
+The table has the least processor time of several runs, in the program and in the system together; the most memory of a process
+(MB of 1,048,576 bytes); for one warehouse the instructions in the program, counted by callgrind if valgrind is installed; and the
+bytes of a dataset for each warehouse. The last column is the ratio of the first program, with format 2, to the other one. With
+--record the table is written into docs/COSTS.md.
 """
 
 import argparse
 import datetime
+import itertools
 import os
 import re
 import shlex
@@ -19,6 +24,8 @@ import shutil
 import subprocess
 import sys
 import tempfile
+
+from first_format import write_in_format_1
 
 COSTS = os.path.join(os.path.dirname(os.path.abspath(__file__)), os.pardir, "docs", "COSTS.md")
 BEGIN = "<!-- written by gate/datasets.py --record: begin -->"
@@ -56,38 +63,51 @@ def compare(commands, runs):
 
 
 def row(warehouses, work, unit, values, form):
-    """Returns a row of the table: the values, and the ratio of the first to the second."""
-    if len(values) < 2:
-        values = [*values, None]
-    if any(value is None for value in values):
-        cells = [form(value) if value is not None else "" for value in values] + [""]
-    else:
-        cells = [form(value) for value in values] + [f"{values[0] / values[1]:.2f}"]
+    """Returns a row of the table: the values, of which some may be None, and the ratio of the first to the last."""
+    first, *_, last = values
+    cells = [form(value) if value is not None else "" for value in values]
+    cells.append(f"{first / last:.2f}" if first is not None and last is not None else "")
     return f"| {warehouses} | {work} ({unit}) | " + " | ".join(cells) + " |"
+
+
+def measured(warehouses, work, commands, runs, folder):
+    """Returns the rows for these commands, of which some may be None."""
+    given = [command for command in commands if command is not None]
+    spread = lambda found: [next(found) if command is not None else None for command in commands]
+    results = compare(given, runs)
+    rows = [
+        row(warehouses, work, "s", spread(iter(result[0] for result in results)), "{:.2f}".format),
+        row(warehouses, work, "MB", spread(iter(result[1] / MB for result in results)), "{:.0f}".format),
+    ]
+    if warehouses == 1:
+        counts = [instructions(command, folder) for command in given]
+        billions = [count and count / 1e9 for count in counts]
+        rows.append(row(warehouses, work, "10^9 instructions", spread(iter(billions)), "{:.2f}".format))
+    return rows
+
+
+def same(one, other):
+    with open(one, "rb") as first, open(other, "rb") as second:
+        return all(a == b for a, b in itertools.zip_longest(first, second))
 
 
 def measure(program, beside, warehouses, runs):
     """Returns the rows of the table."""
     rows = []
     with tempfile.TemporaryDirectory() as folder:
+        two, one, made, others = (os.path.join(folder, name) for name in ("two.csv", "one.csv", "made.csv", "others.csv"))
         for count in warehouses:
-            read, made = (os.path.join(folder, name) for name in ("read.csv", "made.csv"))
-            run([program, "populate", read, "--warehouses", str(count)])
-            works = {
-                "reading": [[program, "check", read]],
-                "populating and writing": [[program, "populate", made, "--warehouses", str(count)]],
-            }
-            for work, command in zip(works, beside):
-                words = command.format(file=read if work == "reading" else made, warehouses=count)
-                works[work].append(shlex.split(words))
-            for work, commands in works.items():
-                found = compare(commands, runs)
-                rows.append(row(count, work, "s", [f[0] for f in found], "{:.2f}".format))
-                rows.append(row(count, work, "MB", [f[1] / MB for f in found], "{:.0f}".format))
-                if count == 1:
-                    counts = [instructions(words, folder) for words in commands]
-                    billions = [c and c / 1e9 for c in counts]
-                    rows.append(row(count, work, "10^9 instructions", billions, "{:.2f}".format))
+            run([program, "populate", two, "--warehouses", str(count)])
+            write_in_format_1(two, one)
+            fill = lambda command, file: shlex.split(command.format(file=file, warehouses=count))
+            check, populate = (fill(beside[0], one), fill(beside[1], others)) if beside else (None, None)
+            rows += measured(count, "reading", [[program, "check", two], [program, "check", one], check], runs, folder)
+            ours = [program, "populate", made, "--warehouses", str(count)]
+            rows += measured(count, "populating and writing", [ours, None, populate], runs, folder)
+            if beside and not same(one, others):
+                sys.exit(f"{shlex.join(populate)}: its tables are not those that {shlex.join(ours)} makes")
+            sizes = [os.path.getsize(path) / count / MB for path in (two, one)]
+            rows.append(row(count, "a dataset, for each warehouse", "MB", [*sizes, sizes[1] if beside else None], "{:.1f}".format))
     return rows
 
 
@@ -111,7 +131,7 @@ def main():
     words = parser.parse_args()
     name, *beside = words.beside or ["Another program"]
     warehouses = [int(count) for count in words.warehouses.split(",")]
-    head = f"| Warehouses | Work | Ours | {name} | Times |\n|---|---|---|---|---|"
+    head = f"| Warehouses | Work | Ours | Ours, format 1 | {name}, format 1 | Times |\n|---|---|---|---|---|---|"
     rows = measure(os.path.abspath(words.program), beside, warehouses, words.runs)
     commit = subprocess.run(
         ["git", "rev-parse", "--short=8", "HEAD"], capture_output=True, text=True, check=True, cwd=os.path.dirname(COSTS)

@@ -1,6 +1,7 @@
 """Cuts the files that the program reads, and makes its reads and writes fail: gate/file_faults.py PROGRAM
 
-- A dataset that is cut after any record, or within its first or last one, is a fault of the record at the cut. No tables are written.
+- A dataset of either format that is cut after any record, or within the first one of each table, is a fault of the record at the cut. If
+  what is left of this record is a record too, the fault is that the end record is missing (7). No tables are written.
 - A read that fails, in a dataset, a script, a schedule or a log, is fault 10 of the record that was being read.
 - A write that fails leaves the first bytes of what was to be printed, all that were written before, and is fault 10.
 """
@@ -16,12 +17,26 @@ from allocations import AT_ONCE, MOMENT, library, read, write
 
 ROOT = os.path.dirname(os.path.dirname(os.path.abspath(__file__)))
 DATASET = f"{ROOT}/examples/two-warehouses.csv"
+FIRST_FORMAT = f"{ROOT}/examples/two-warehouses-of-format-1.csv"
 EVENTS = f"{ROOT}/examples/one-payment.csv"
 FAULT = re.compile(r"tpcc: (.*): row (\d+): fault (\d+)\n")
 # How many bytes a read and a write move at most where one of them is to fail.
 READ_BYTES, WRITE_BYTES = 97, 7
 # The numbers of the files that a command opens: its first file, its second one, and the standard output.
 FIRST, SECOND, PRINTED = 3, 4, 1
+
+
+def is_record(cut, record):
+    """Returns whether the first bytes of a record are a record without a fault. A number or a text may be shorter, and an order may have
+    fewer lines."""
+    letter, *fields = cut.split(",")
+    if cut == record or letter in ("", "TPCC", "END"):
+        return cut == record != ""
+    if letter == "O":
+        behind = len(fields) - 8
+        return behind == 0 and fields[7] != "" or behind > 0 and behind % 7 == 0
+    # Records with these letters end with a text, which may be empty.
+    return len(fields) == record.count(",") and (fields[-1] != "" or letter in "ISCHL")
 
 
 class Trials:
@@ -54,23 +69,31 @@ class Trials:
         with open(path, "w", encoding="utf-8") as file:
             file.write(text[:end])
         ran = self.call("replay", path, f"{self.room}/no-entries.csv", "--tables", tables)
-        begun, is_whole = text[:end].count("\n"), text[end : end + 1] == "\n"
+        start = text.rindex("\n", 0, end) + 1 if "\n" in text[:end] else 0
+        begun, is_one = text[:end].count("\n"), is_record(text[start:end], text[start:].split("\n")[0])
         fault = self.fault_of(ran)
-        is_well = fault is not None and fault[:2] == (path, begun + (2 if is_whole else 1)) and not os.path.exists(tables)
-        self.expect(is_well, f"a dataset cut after {end} bytes", ran)
+        wanted = (path, begun + 2, 7) if is_one else (path, begun + 1)
+        is_well = fault is not None and fault[: len(wanted)] == wanted and not os.path.exists(tables)
+        self.expect(is_well, f"a dataset of {text.count(chr(10))} records cut after {end} bytes", ran)
         os.remove(path)
 
-    def cuts(self):
-        """Cuts the dataset after each record, and after each byte of its first and its last one."""
-        text = read(DATASET)
-        first, last = text.index("\n") + 1, text.rindex("\n", 0, len(text) - 1) + 1
-        ends = {place for place, byte in enumerate(text) if byte == "\n"} | {place + 1 for place, byte in enumerate(text) if byte == "\n"}
-        ends |= set(range(first)) | set(range(last, len(text) - 1))
+    def cuts(self, path):
+        """Cuts the dataset before and after each end of a record, and after each byte of the first record of each letter and of the
+        first order without a carrier."""
+        text = read(path)
+        ends, seen, place = set(), set(), 0
+        for record in text.splitlines():
+            kind = (record.split(",")[0], record.startswith("O,") and record.split(",")[6] == "")
+            ends |= {place + len(record), place + len(record) + 1}
+            if kind not in seen:
+                ends |= set(range(place, place + len(record)))
+            seen.add(kind)
+            place += len(record) + 1
         # With its last line feed, or without it, the dataset is whole.
         ends -= {len(text) - 1, len(text)}
         with ThreadPoolExecutor(AT_ONCE) as pool:
             list(pool.map(lambda end: self.cut(text, end), sorted(ends)))
-        print(f"file_faults: a dataset was cut at {len(ends)} places", flush=True)
+        print(f"file_faults: {os.path.basename(path)} was cut at {len(ends)} places", flush=True)
 
     # ---- reads that fail
 
@@ -114,8 +137,10 @@ def main():
         write(script, [*[f"P,1,1,1,1,#1,{100 + number},{MOMENT}" for number in range(20)], "END,20"])
         ran = trials.call("run", DATASET, script, "--log", log, "--quiet")
         trials.expect(ran.returncode == 0, "a script that is served", ran)
-        trials.cuts()
+        trials.cuts(DATASET)
+        trials.cuts(FIRST_FORMAT)
         trials.reads(DATASET, FIRST, "check", DATASET)
+        trials.reads(FIRST_FORMAT, FIRST, "check", FIRST_FORMAT)
         trials.reads(script, SECOND, "run", DATASET, script)
         trials.reads(EVENTS, SECOND, "sim", DATASET, EVENTS)
         trials.reads(log, SECOND, "replay", DATASET, log)

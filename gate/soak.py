@@ -3,7 +3,7 @@
 
 Each case has a seed. It plays a schedule of 500 events, or of as many as --events says, by `tpcc sim`: submissions of all five
 kinds, some of them hostile, moves between executors, takes, sends and now and then rounds, with small inboxes, and in some cases
-with a small log. Every tenth case also serves scripts by `tpcc run`, with moves. In each case
+with a small log. Every 32nd case has 64 warehouses. Every tenth case also serves scripts by `tpcc run`, with moves. In each case
 
 - `replay` of the log is equal, and gives the tables that were written; `check` of them succeeds. A schedule is also played up to
   each of its rounds, so this is so whenever nothing is active.
@@ -31,8 +31,12 @@ MOMENTS = ["2024-05-01T12:00:00", "1970-01-01T00:00:00", "9999-12-31T23:59:59"]
 NAMES = ["BARBARBAR", "BARBAROUGHT", "BARBARABLE", "EINGEINGEING"]
 # The scales of the datasets: warehouses, items, customers of a district.
 SCALES = [(1, 5, 1), (2, 10, 3), (3, 70, 5), (4, 30, 3)]
+# The scale with the most warehouses, and how many cases have it: one of so many.
+WIDE, WIDENED = (64, 5, 1), 32
 # How many cases serve scripts too: one of so many.
 SERVED = 10
+# How many cases there are in a batch, for each processor. A batch ends when its last case does.
+BATCH = 512
 
 
 class Wrong(Exception):
@@ -45,6 +49,8 @@ class Draws:
     def __init__(self, seed):
         self.random = random.Random(seed)
         self.scale = self.random.choice(SCALES)
+        if seed % WIDENED == 0:
+            self.scale = WIDE
 
     def number(self, most):
         """Returns a number from 1 to `most`, or now and then one that is out of this range."""
@@ -206,7 +212,7 @@ def same(one, other):
 def datasets_in(program, room):
     """Makes a dataset of each scale. Returns their paths."""
     paths = {}
-    for scale in SCALES:
+    for scale in [*SCALES, WIDE]:
         paths[scale] = f"{room}/{'-'.join(map(str, scale))}.csv"
         words = [it for name, number in zip(("warehouses", "items", "customers"), scale) for it in (f"--{name}", str(number))]
         subprocess.run([program, "populate", paths[scale], *words, "--quiet"], check=True)
@@ -232,10 +238,11 @@ def main():
     until = time.monotonic() + 60 * (words.minutes or 0)
     seeds = count(words.first) if words.minutes else iter(range(words.first, words.first + words.cases))
     room, failed, tried = tempfile.mkdtemp(prefix="soak-"), 0, 0
-    datasets, lanes = datasets_in(words.program, room), os.cpu_count() or 1
+    datasets, processors = datasets_in(words.program, room), os.cpu_count() or 1
 
-    with ProcessPoolExecutor(lanes) as pool:
-        for some in iter(lambda: [it for _, it in zip(range(64 * lanes), seeds)], []):
+    # There are two lanes for each processor, since a case that serves scripts waits for its threads.
+    with ProcessPoolExecutor(2 * processors) as pool:
+        for some in iter(lambda: [it for _, it in zip(range(BATCH * processors), seeds)], []):
             for seed, wrong, was_tried in pool.map(partial(try_one, words, datasets, room, until), some, chunksize=8):
                 tried += was_tried
                 if wrong:

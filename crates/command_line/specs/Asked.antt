@@ -5,12 +5,12 @@ use Rattle.clap.specs.Words.{HasKind, IsAmong, fault_of, rows_of, subcommand_of}
 use Rattle.clap.specs.declared.error.ErrorKind.TheVariants.{DisplayHelp, DisplayVersion}
 use Rattle.clap.specs.declared.parser.matches.Found.{Found}
 use Rattle.command_line.specs.declared.settings.Settings.{Settings}
-use Rattle.command_line.specs.declared.settings.Settings.TheVariants.{Run, Sim, Populate, Script, Check, Replay, Text}
+use Rattle.command_line.specs.declared.settings.Settings.TheVariants.{Run, Sim, Populate, Script, Check, Migrate, Replay, Text}
 use Rattle.command_line.specs.declared.usage.UsageFault.{UsageFault}
 use Rattle.command_line.specs.declared.usage.UsageFault.TheVariants as usage
 use Rattle.command_line.specs.CommandLine.{program}
 use Rattle.command_line.specs.Mistakes.{IsPopulateFault, IsRunFault, IsScriptFault, IsSimFault}
-use Rattle.command_line.specs.Words.{AsksForScripts, AsksToCheck, AsksToPopulate, AsksToReplay, AsksToRun, AsksToSimulate}
+use Rattle.command_line.specs.Words.{AsksForScripts, AsksToCheck, AsksToMigrate, AsksToPopulate, AsksToReplay, AsksToRun, AsksToSimulate}
 
 -- ---- a command that is named
 
@@ -21,6 +21,7 @@ AsksFor name found (Sim s) = (name ≡ codes "sim") × AsksToSimulate found s
 AsksFor name found (Populate s) = (name ≡ codes "populate") × AsksToPopulate found s
 AsksFor name found (Script s) = (name ≡ codes "script") × AsksForScripts found s
 AsksFor name found (Check s) = (name ≡ codes "check") × AsksToCheck found s
+AsksFor name found (Migrate s) = (name ≡ codes "migrate") × AsksToMigrate found s
 AsksFor name found (Replay s) = (name ≡ codes "replay") × AsksToReplay found s
 AsksFor name found (Text text) = ⊥
 
@@ -28,7 +29,7 @@ AsksFor name found (Text text) = ⊥
 abbrev pub IsFaultOf : List ℕ → Found → UsageFault → Type 0
 IsFaultOf name found usage.NoCommand =
     (name ≡ codes "run" → ⊥) × (name ≡ codes "sim" → ⊥) × (name ≡ codes "populate" → ⊥) × (name ≡ codes "script" → ⊥)
-    × (name ≡ codes "check" → ⊥) × (name ≡ codes "replay" → ⊥)
+    × (name ≡ codes "check" → ⊥) × (name ≡ codes "migrate" → ⊥) × (name ≡ codes "replay" → ⊥)
 IsFaultOf name found fault =
     ((name ≡ codes "run") × IsRunFault found fault)
     ⊎ (((name ≡ codes "sim") × IsSimFault found fault)

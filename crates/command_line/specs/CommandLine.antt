@@ -49,6 +49,9 @@ script_command = command (codes "script") (
 abbrev pub check_command : Shape
 check_command = command (codes "check") (argument (codes "DATA") ∷ flag (codes "fresh") ∷ flag (codes "quiet") ∷ [])
 
+abbrev pub migrate_command : Shape
+migrate_command = command (codes "migrate") (argument (codes "OLD") ∷ argument (codes "NEW") ∷ flag (codes "quiet") ∷ [])
+
 abbrev pub run_command : Shape
 run_command = command (codes "run") (
     argument (codes "DATA") ∷ arguments (codes "SCRIPT") ∷ option (codes "executors") ∷ option (codes "log-limit") ∷ option (codes "inbox") ∷ option (codes "tries")
@@ -76,7 +79,7 @@ program_alone = record (new_shape (codes "tpcc")) {
 unfoldable pub program : App
 program = record {
   top = record program_alone { is_leaf = false };
-  subs = populate_command ∷ script_command ∷ check_command ∷ run_command ∷ replay_command ∷ sim_command ∷ [];
+  subs = populate_command ∷ script_command ∷ check_command ∷ migrate_command ∷ run_command ∷ replay_command ∷ sim_command ∷ [];
 }
 
 -- ---- what is built

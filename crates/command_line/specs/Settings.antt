@@ -2,7 +2,7 @@
 use Rattle.std.specs.Prelude.{◌≤◌, ℕ, length}
 use Rattle.rows.specs.declared.limits.TheConstants.{INBOX, MOST_ENTRIES, SESSIONS}
 use Rattle.command_line.specs.declared.settings.Settings.{Settings}
-use Rattle.command_line.specs.declared.settings.Settings.TheVariants.{Run, Sim, Populate, Script, Check, Replay, Text}
+use Rattle.command_line.specs.declared.settings.Settings.TheVariants.{Run, Sim, Populate, Script, Check, Migrate, Replay, Text}
 use Rattle.command_line.specs.declared.settings.run.RunSettings.{RunSettings}
 use Rattle.command_line.specs.declared.settings.script.ScriptSettings.{ScriptSettings}
 use Rattle.command_line.specs.declared.settings.sim.SimSettings.{SimSettings}
@@ -36,5 +36,6 @@ IsWithinLimits (Sim sim) = IsPlayable sim
 IsWithinLimits (Populate populate) = Unit {0}
 IsWithinLimits (Script script) = HasFiles script
 IsWithinLimits (Check check) = Unit {0}
+IsWithinLimits (Migrate migrate) = Unit {0}
 IsWithinLimits (Replay replay) = Unit {0}
 IsWithinLimits (Text text) = Unit {0}

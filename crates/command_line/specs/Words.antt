@@ -8,6 +8,7 @@ use Rattle.files.specs.MomentText.{IsMomentText}
 use Rattle.workload.specs.declared.mix.Mix.{Mix}
 use Rattle.command_line.specs.MixText.{IsMixText}
 use Rattle.command_line.specs.declared.settings.check.CheckSettings.{CheckSettings}
+use Rattle.command_line.specs.declared.settings.migrate.MigrateSettings.{MigrateSettings}
 use Rattle.command_line.specs.declared.settings.populate.PopulateSettings.{PopulateSettings}
 use Rattle.command_line.specs.declared.settings.replay.ReplaySettings.{ReplaySettings}
 use Rattle.command_line.specs.declared.settings.run.RunSettings.{RunSettings}
@@ -106,6 +107,11 @@ module _ (found : Found) where
   pub record AsksToCheck (s : CheckSettings) : Type 0 where
     pub «data» : s.«data».now ≡ word_of (codes "DATA")
     pub fresh : IsFlag (codes "fresh") s.fresh
+    pub quiet : IsFlag (codes "quiet") s.quiet
+
+  pub record AsksToMigrate (s : MigrateSettings) : Type 0 where
+    pub «data» : s.«data».now ≡ word_of (codes "OLD")
+    pub file : s.file.now ≡ word_of (codes "NEW")
     pub quiet : IsFlag (codes "quiet") s.quiet
 
   pub record AsksToReplay (s : ReplaySettings) : Type 0 where

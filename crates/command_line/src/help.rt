@@ -1,5 +1,5 @@
 // The date of the newest changes, and the toolchain. A build does not contain its commit.
-pub const VERSION: &str = "2026-12-01, made by rattle-kit-13b logic dac8208d650f15bf";
+pub const VERSION: &str = "2026-12-02, made by rattle-kit-13b logic dac8208d650f15bf";
 
 // The text of `tpcc --help` after the list of commands.
 pub const PROGRAM: &str = "\
@@ -25,11 +25,11 @@ Exit statuses, with what is told on the standard error:
 
 Faults of a file, of which R is the record, counted from 1 (0: it can't be opened or made, brought to
 the disk or given its name; or help or the version can't be printed):
-  1  the header is missing or not of this format
+  1  the header is missing or of no known format
   2  an unknown letter, or a wrong number of fields
   3  a field is no number, moment or text of its kind
   4  a value out of its range
-  5  a record out of order, or a key twice
+  5  a record out of order, a key twice, or lines of an order out of order
   6  a row missing or too many, or a reference to no row
   7  the end record is missing
   8  a count in the end record is wrong

@@ -10,8 +10,8 @@ mod usage;
 mod words;
 
 pub use settings::{
-    CheckSettings, PopulateSettings, ReplaySettings, RunSettings, ScriptSettings, Settings,
-    SimSettings, read_words,
+    CheckSettings, MigrateSettings, PopulateSettings, ReplaySettings, RunSettings, ScriptSettings,
+    Settings, SimSettings, read_words,
 };
 pub use status::Status;
 pub use usage::UsageFault;

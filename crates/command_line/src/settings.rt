@@ -13,6 +13,7 @@ use std::alloc::{AllocError, Global};
 
 mod arguments;
 mod check;
+mod migrate;
 mod mix;
 mod populate;
 mod replay;
@@ -21,6 +22,7 @@ mod script;
 mod sim;
 
 pub use check::CheckSettings;
+pub use migrate::MigrateSettings;
 pub use populate::PopulateSettings;
 pub use replay::ReplaySettings;
 pub use run::RunSettings;
@@ -35,6 +37,7 @@ pub enum Settings<'a> {
     Populate(PopulateSettings<'a>),
     Script(ScriptSettings<'a>),
     Check(CheckSettings<'a>),
+    Migrate(MigrateSettings<'a>),
     Replay(ReplaySettings<'a>),
     /// The text of help or the version. It ends with a line feed.
     Text(String),
@@ -90,6 +93,7 @@ fn settings_of<'a>(
         "populate" => Ok(Settings::Populate(populate::read(found)?)),
         "script" => Ok(Settings::Script(script::read(alloc, found)?)),
         "check" => Ok(Settings::Check(check::read(found))),
+        "migrate" => Ok(Settings::Migrate(migrate::read(found))),
         "replay" => Ok(Settings::Replay(replay::read(found))),
         _ => Err(UsageFault::NoCommand),
     }
@@ -163,6 +167,7 @@ fn program<'a>(alloc: Global) -> Result<Command<'a>, AllocError>
         .subcommand(populate::command(alloc)?)?
         .subcommand(script::command(alloc)?)?
         .subcommand(check::command(alloc)?)?
+        .subcommand(migrate::command(alloc)?)?
         .subcommand(run::command(alloc)?)?
         .subcommand(replay::command(alloc)?)?
         .subcommand(sim::command(alloc)?)?;

@@ -1,6 +1,6 @@
 -- Tables whose records were loaded: the rows make these tables.
-use Rattle.std.proofs.Common.{◌≡◌, ◌*◌, ℕ, Bool, List, [], ◌∷◌, ◌++◌, length, refl, sym, ap, subst, ◌∙◌, arith}
-use Rattle.std.specs.List.{zip}
+use Rattle.std.proofs.Common.{◌≡◌, ◌*◌, ℕ, Bool, List, [], ◌∷◌, ◌++◌, inl, inr, map, length, refl, sym, ap, subst, ◌∙◌, arith}
+use Rattle.std.specs.List.{AllZip, zip}
 use Rattle.std.specs.List.Sorted.{IsStrictlySortedBy}
 use Rattle.std.specs.Map.{keys_of, values_of}
 use Rattle.std.specs.declared.cmp.Ordering.{Ordering}
@@ -25,16 +25,20 @@ use Rattle.dataset.specs.Columns.{Table, Items, Warehouses, Districts, Stocks, C
 use Rattle.dataset.specs.Loading.{HasLoaded, HasRows}
 use Rattle.dataset.specs.Payments.{Opens}
 use Rattle.dataset.specs.Ranges.{InRange}
-use Rattle.dataset.specs.Records.{AreRecords}
+use Rattle.dataset.specs.declared.format.Format.{Format}
+use Rattle.dataset.specs.declared.format.Format.TheVariants.{One, Two}
+use Rattle.dataset.specs.Formats.{IsWithinFormat}
+use Rattle.dataset.specs.Records.{AreRecordsIn, AreRecordsOfEither, AreSpelt, records}
 use Rattle.dataset.specs.TableRow.{TableRow, rows_read}
 use Rattle.dataset.proofs.AllRows.{all_rows, entries_at}
-use Rattle.dataset.proofs.Contents.{entries_of}
-use Rattle.dataset.proofs.Finished.{are_kept, paid, zip-split}
+use Rattle.dataset.proofs.Contents.{entries_of, lines_of_format}
+use Rattle.dataset.proofs.EachTable.{EntryOf}
+use Rattle.dataset.proofs.Finished.{are_kept, lines_kept, paid, zip-split}
 use Rattle.dataset.proofs.Keys.{AreScaleKeys, customers_of_scale, districts_of_scale, items_of_scale, sorted-district_keys, stocks_of_scale, warehouses_of_scale}
 use Rattle.dataset.proofs.Payments.{payments_of, payments-opened}
 use Rattle.dataset.proofs.TableEntries.{same_keys}
 use Rattle.dataset.proofs.Tables.{dense}
-use Rattle.dataset.proofs.Reported.{entries_in_all, init-last, rows_reported, same_lists, scale_reported}
+use Rattle.dataset.proofs.Reported.{entries_in_all, format_reported, init-last, lines_in_all, orders_at, rows_reported, same_lists, scale_reported}
 
 -- rows by the scale's keys make the table whose rows they are
 record Makes {K X : Type 0} {R : K → K → Ordering} (m : FinMap R X) (ks : List K) (xs : List X) : Type 0 where
@@ -65,13 +69,13 @@ ordered_is {R = R} o m rows same =
 
 -- ---- all tables
 
-module _ (scale : Scale) (has opened : TableRows) (last : Place) (records : List (List (List ℕ))) (rows : List TableRow) (h : HasRows scale has last records rows)
-    (opens : Opens (scale.warehouses * 10) has.histories.items opened.histories.items) (t : Database) (w : IsWithinScale t) (same_scale : scale ≡ t.scale) (all : rows ≡ all_rows t) where
+module _ (format : Format) (scale : Scale) (has opened : TableRows) (last : Place) (records : List (List (List ℕ))) (rows : List TableRow) (h : HasRows format scale has last records rows)
+    (opens : Opens (scale.warehouses * 10) has.histories.items opened.histories.items) (t : Database) (w : IsWithinScale t) (same_scale : scale ≡ t.scale) (all : rows ≡ all_rows format t) where
   of_scale : {A : Type 0} (f : Scale → A) → f t.scale ≡ f scale
   of_scale f = ap f (sym same_scale)
 
-  entries_reported : (table : Table) → entries_of table rows ≡ entries_at table t
-  entries_reported table = ap (entries_of table) all ∙ entries_in_all t table
+  entries_reported : (table : Table) → entries_of table rows ≡ entries_at format table t
+  entries_reported table = ap (entries_of table) all ∙ entries_in_all format t table
 
   items : Makes t.items (item_ids scale) has.items.items
   items = makes (items_of_scale scale) (λ q. w.items q ∙ of_scale (λ s. has_item s q)) (entries_reported Items) (are_kept h Items)
@@ -112,9 +116,9 @@ module _ (scale : Scale) (has opened : TableRows) (last : Place) (records : List
       let lists = opened.histories.items in
       let histories =
       same_entries_map (from_entries (zip (district_keys scale) lists)) t.histories (dense (districts_of_scale scale) lists lists_even ∙ same_histories) in
-      let orders = ordered_is orders_total t.orders has.orders.entries (are_kept h Orders ∙ entries_reported Orders) in
+      let orders = ordered_is orders_total t.orders has.orders.entries (are_kept h Orders ∙ ap (map (λ (e : EntryOf Orders). (e.0, e.1.0))) (entries_reported Orders) ∙ orders_at format t) in
       let new_orders = ordered_is orders_total t.new_orders has.new_orders.entries (are_kept h NewOrders ∙ entries_reported NewOrders) in
-      let lines = ordered_is lines_total t.lines has.lines (are_kept h Lines ∙ entries_reported Lines) in
+      let lines = ordered_is lines_total t.lines has.lines (lines_kept h ∙ ap (lines_of_format format) all ∙ lines_in_all format t w) in
       λ i. record {
         scale = same_scale i;
         items = items.table i;
@@ -140,11 +144,25 @@ module _ (scale : Scale) (has opened : TableRows) (last : Place) (records : List
       } in
       record { counts = counts; within = subst IsWithinScale (sym makes_tables) w }
 
+-- records after those that were loaded are of the loader's format
+of_format : (format : Format) (l : Loader) (read : List (List (List ℕ))) (end : List (List ℕ)) (t : Database) → HasLoaded l read → AreRecordsIn format t (read ++ (end ∷ [])) → AreRecordsIn l.format t (read ++ (end ∷ []))
+unfolding AreRecordsIn records
+of_format format l read end t h are =
+    let spelt = subst (λ r. AllZip AreSpelt (records format t) (r ++ (end ∷ []))) h.are are.1 in
+    let same = format_reported format l.format t.scale l.scale h.header spelt.0 h.is_header.is_spelt in
+    subst (λ f. IsWithinFormat f t × AllZip AreSpelt (records f t) (read ++ (end ∷ []))) same are
+
 -- the rows that were loaded fit the scale, where tables have the records that were read
 pub loaded_fits : (l : Loader) (opened : TableRows) (read : List (List (List ℕ))) (end : List (List ℕ)) (t : Database) → Opens (l.scale.warehouses * 10) l.rows.histories.items opened.histories.items
-    → IsWithinScale t → InRange t → HasLoaded l read → AreRecords t (read ++ (end ∷ [])) → FitsScale l.scale (record l.rows { histories = opened.histories })
+    → IsWithinScale t → InRange t → HasLoaded l read → AreRecordsIn l.format t (read ++ (end ∷ [])) → FitsScale l.scale (record l.rows { histories = opened.histories })
 loaded_fits l opened read end t opens w range h are =
-    let reported = rows_reported t w range h.header (h.records ++ (end ∷ [])) (subst (λ r. AreRecords t (r ++ (end ∷ []))) h.are are) in
-    let same = scale_reported l.scale t.scale h.header h.is_spelt reported.0 in
-    let all = ap (λ (s : Scale). rows_read (sizes s) h.records) same ∙ ap (rows_read (sizes t.scale)) (sym (init-last h.records end)) ∙ reported.1 in
-    fits_scale l.scale l.rows opened l.last h.records (rows_read (sizes l.scale) h.records) h.rows opens t w same all
+    let reported = rows_reported l.format t w range h.header (h.records ++ (end ∷ [])) (subst (λ r. AreRecordsIn l.format t (r ++ (end ∷ []))) h.are are) in
+    let same = scale_reported l.format l.format l.scale t.scale h.header h.is_header.is_spelt reported.0 in
+    let all = ap (λ (s : Scale). rows_read (sizes l.format s) h.records) same ∙ ap (rows_read (sizes l.format t.scale)) (sym (init-last h.records end)) ∙ reported.1 in
+    fits_scale l.format l.scale l.rows opened l.last h.records (rows_read (sizes l.format l.scale) h.records) h.rows opens t w same all
+
+-- the same where the records are of either format, since their header is that of the loader
+pub either_fits : (l : Loader) (opened : TableRows) (read : List (List (List ℕ))) (end : List (List ℕ)) (t : Database) → Opens (l.scale.warehouses * 10) l.rows.histories.items opened.histories.items
+    → IsWithinScale t → InRange t → HasLoaded l read → AreRecordsOfEither t (read ++ (end ∷ [])) → FitsScale l.scale (record l.rows { histories = opened.histories })
+either_fits l opened read end t opens w range h (inl are) = loaded_fits l opened read end t opens w range h (of_format One l read end t h are)
+either_fits l opened read end t opens w range h (inr are) = loaded_fits l opened read end t opens w range h (of_format Two l read end t h are)

@@ -14,22 +14,31 @@ use Rattle.std.proofs.lemmas.Bool.{and_parts}
 use Rattle.std.proofs.lemmas.Bool.Decides.{nat_tests}
 use Rattle.std.proofs.lemmas.List.{append-nil, map-append}
 use Rattle.rows.specs.declared.keys.DistrictKey.{DistrictKey}
+use Rattle.rows.specs.declared.keys.OrderKey.{OrderKey}
+use Rattle.rows.specs.declared.keys.OrderLineKey.{OrderLineKey}
 use Rattle.rows.specs.declared.records.History.{History}
+use Rattle.rows.specs.declared.records.NewOrder.{NewOrder}
+use Rattle.rows.specs.declared.records.Order.{Order}
+use Rattle.rows.specs.declared.records.OrderLine.{OrderLine}
 use Rattle.schema.specs.declared.scale.Scale.{Scale}
 use Rattle.schema.specs.declared.table_rows.TableRows.{TableRows}
 use Rattle.schema.specs.Scale.{district_keys, district_slot}
+use Rattle.schema.proofs.KeyOrders.{orders_total, lines_total}
 use Rattle.dataset.specs.Payments.{Pays}
 use Rattle.dataset.specs.declared.place.Place.{Place}
 use Rattle.dataset.specs.declared.place.Place.TheVariants as at
+use Rattle.dataset.specs.declared.format.Format.{Format}
+use Rattle.dataset.specs.declared.format.Format.TheVariants.{One, Two}
 use Rattle.dataset.specs.Columns.{Table, Items, Warehouses, Districts, Stocks, Customers, Histories, Orders, NewOrders, Lines, table_number}
-use Rattle.dataset.specs.Loading.{AddsRows, AreInOrder}
+use Rattle.dataset.specs.Loading.{AddsRows, AreInOrder, AreLinesOf, IsKnown}
 use Rattle.dataset.specs.Order.{place_cmp, place_numbers, follows}
-use Rattle.dataset.specs.TableRow.{TableRow, OfItem, OfWarehouse, OfDistrict, OfStock, OfCustomer, OfHistory, OfOrder, OfNewOrder, OfLine, AddsRow, row_place}
+use Rattle.dataset.specs.TableRow.{TableRow, OfItem, OfWarehouse, OfDistrict, OfStock, OfCustomer, OfHistory, OfOrder, OfNewOrder, OfLine, AddsRow, insert_lines, row_place}
 use Rattle.dataset.proofs.AllRows.{rows_of}
-use Rattle.dataset.proofs.EachTable.{EntryOf, Found, KeyOf, Other, Own, RowOf, all_tables, cmp_of, find, get, is_keyed, make, number_of_row, rises}
-use Rattle.dataset.proofs.Keys.{all-append, all-map, all-weaker, sorted-district_keys}
+use Rattle.dataset.proofs.EachTable.{EntryOf, Found, Other, Own, RowOf, all_tables, cmp_of, find, get, is_keyed, make, number_of_row, rises}
+use Rattle.dataset.proofs.Keys.{all-append, all-each, all-map, all-weaker, sorted-district_keys}
 use Rattle.rows.specs.Keys.{order_cmp, line_cmp}
 use Rattle.dataset.proofs.Order.{follows_le, numbers_of, place_number, place_reaches, turned}
+use Rattle.dataset.proofs.OrderLines.{lines_sorted}
 use Rattle.dataset.proofs.Payments.{all_reached, district_at_slot, few_opened, few_paid, lists_paid, payments_of, places, slots_paid}
 
 -- ---- the rows of one table
@@ -161,9 +170,9 @@ keys_ascend table keyed (row ∷ rows) h = by (keys_ascend table keyed rows h.1)
 -- what is kept of a table
 abbrev pub Kept : Table → Type 0
 Kept Histories = List (List History)
-Kept Orders = List (EntryOf Orders)
-Kept NewOrders = List (EntryOf NewOrders)
-Kept Lines = List (EntryOf Lines)
+Kept Orders = List (OrderKey × Order)
+Kept NewOrders = List (OrderKey × NewOrder)
+Kept Lines = List (OrderLineKey × OrderLine)
 Kept table = List (RowOf table)
 
 abbrev pub kept : (table : Table) → TableRows → Kept table
@@ -177,41 +186,37 @@ kept Orders rows = rows.orders.entries
 kept NewOrders rows = rows.new_orders.entries
 kept Lines rows = rows.lines
 
--- a row is put at the end, a payment at the end of its district's list, and an entry under its key
+-- a row is put at the end, a payment at the end of its district's list
 abbrev pub Pushed : {E X : Type 0} → E × X → List X → List X → Type 0
 Pushed e old new = new ≡ old ++ e.1 ∷ []
 
 abbrev pub Paid : Scale → DistrictKey × History → List (List History) → List (List History) → Type 0
 Paid scale e old new = Pays (district_slot scale e.0) e.1 old new
 
-abbrev pub Inserted : {K X : Type 0} → (K → K → Ordering) → K × X → List (K × X) → List (K × X) → Type 0
-Inserted cmp e old new = new ≡ insert_entry cmp old e.0 e.1
-
--- how an entry was put to what is kept of its table
-abbrev pub Put : Scale → (table : Table) → EntryOf table → Kept table → Kept table → Type 0
-Put scale Histories = Paid scale
-Put scale Orders = Inserted order_cmp
-Put scale NewOrders = Inserted order_cmp
-Put scale Lines = Inserted line_cmp
-Put scale table = Pushed
-
 -- an entry, if there is one
 abbrev pub PutSome : {E L : Type 0} → (E → L → L → Type 0) → Option E → L → L → Type 0
 PutSome put None old new = new ≡ old
 PutSome put (Some e) old new = put e old new
 
+-- how a row was put to what is kept of a table; nothing is said of ordered tables
+abbrev pub RowPut : Scale → Table → TableRow → TableRows → TableRows → Type 0
+RowPut scale Histories row old new = PutSome (Paid scale) (get Histories row) old.histories.items new.histories.items
+RowPut scale Orders row old new = Unit {0}
+RowPut scale NewOrders row old new = Unit {0}
+RowPut scale Lines row old new = Unit {0}
+RowPut scale table row old new = PutSome Pushed (get table row) (kept table old) (kept table new)
+
 -- a row that is added changes its own table only
-pub row_put : (scale : Scale) (table : Table) (row : TableRow) (old new : TableRows) → AddsRow scale row old new
-    → PutSome (Put scale table) (get table row) (kept table old) (kept table new)
+pub row_put : (scale : Scale) (table : Table) (row : TableRow) (old new : TableRows) → AddsRow scale row old new → RowPut scale table row old new
 row_put scale Items (OfItem key row) old new add = add.1
 row_put scale Warehouses (OfWarehouse key row) old new add = add.1
 row_put scale Districts (OfDistrict key row) old new add = add.1
 row_put scale Stocks (OfStock key row) old new add = add.1
 row_put scale Customers (OfCustomer key row) old new add = add.1
 row_put scale Histories (OfHistory key row) old new add = add.1
-row_put scale Orders (OfOrder key row) old new add = add.1
-row_put scale NewOrders (OfNewOrder key row) old new add = add.1
-row_put scale Lines (OfLine key row) old new add = add.1
+row_put scale Orders row old new add = tt
+row_put scale NewOrders row old new add = tt
+row_put scale Lines row old new add = tt
 row_put scale table row old new add = ap (kept table) add.0
 
 -- rows at the end of a list
@@ -226,6 +231,75 @@ module _ (table : Table) (list : TableRows → List (RowOf table)) (scale : Scal
       by None same = ap (λ l. l ++ values_of (entries_of table rows)) same
       by (Some e) put = ap (λ l. l ++ values_of (entries_of table rows)) put ∙ append_assoc (list old) (e.1 ∷ []) (values_of (entries_of table rows))
 
+-- ---- the ordered tables
+
+-- the lines that a row adds
+abbrev pub lines_added : TableRow → List (OrderLineKey × OrderLine)
+lines_added (OfOrder key row lines) = lines
+lines_added (OfLine key row) = (key, row) ∷ []
+lines_added row = []
+
+-- the order that it adds, if it is one
+abbrev pub orders_added : TableRow → List (OrderKey × Order)
+orders_added (OfOrder key row lines) = (key, row) ∷ []
+orders_added row = []
+
+-- and the new order
+abbrev pub new_orders_added : TableRow → List (OrderKey × NewOrder)
+new_orders_added (OfNewOrder key row) = (key, row) ∷ []
+new_orders_added row = []
+
+-- entries with others, each stored under its key
+abbrev pub insert_all : {K X : Type 0} → (K → K → Ordering) → List (K × X) → List (K × X) → List (K × X)
+insert_all c old [] = old
+insert_all c old (e ∷ es) = insert_all c (insert_entry c old e.0 e.1) es
+
+pub insert_lines_is : (old es : List (OrderLineKey × OrderLine)) → insert_lines old es ≡ insert_all line_cmp old es
+insert_lines_is old [] = refl
+insert_lines_is old (e ∷ es) = insert_lines_is (insert_entry line_cmp old e.0 e.1) es
+
+insert_all-append : {K X : Type 0} (c : K → K → Ordering) (old xs ys : List (K × X)) → insert_all c old (xs ++ ys) ≡ insert_all c (insert_all c old xs) ys
+insert_all-append c old [] ys = refl
+insert_all-append c old (x ∷ xs) ys = insert_all-append c (insert_entry c old x.0 x.1) xs ys
+
+-- where each row inserts entries, all rows insert theirs
+module _ {K X : Type 0} (c : K → K → Ordering) (list : TableRows → List (K × X)) (added : TableRow → List (K × X)) (scale : Scale)
+    (step : (row : TableRow) (old mid : TableRows) → AddsRow scale row old mid → list mid ≡ insert_all c (list old) (added row)) where
+  all_inserted : (rows : List TableRow) (old new : TableRows) → AddsRows scale rows old new → list new ≡ insert_all c (list old) (flat_map added rows)
+  all_inserted [] old new h = ap list h
+  all_inserted (row ∷ rows) old new h =
+      all_inserted rows h.0 new h.1.1 ∙ ap (λ l. insert_all c l (flat_map added rows)) (step row old h.0 h.1.0)
+      ∙ sym (insert_all-append c (list old) (added row) (flat_map added rows))
+
+lines_put : (scale : Scale) (row : TableRow) (old new : TableRows) → AddsRow scale row old new → new.lines ≡ insert_all line_cmp old.lines (lines_added row)
+lines_put scale (OfOrder key row lines) old new add = add.2 ∙ insert_lines_is old.lines lines
+lines_put scale (OfLine key row) old new add = add.1
+lines_put scale row old new add = ap (λ (r : TableRows). r.lines) add.0
+
+orders_put : (scale : Scale) (row : TableRow) (old new : TableRows) → AddsRow scale row old new → new.orders.entries ≡ insert_all order_cmp old.orders.entries (orders_added row)
+orders_put scale (OfOrder key row lines) old new add = add.1
+orders_put scale row old new add = ap (λ (r : TableRows). r.orders.entries) add.0
+
+new_orders_put : (scale : Scale) (row : TableRow) (old new : TableRows) → AddsRow scale row old new
+    → new.new_orders.entries ≡ insert_all order_cmp old.new_orders.entries (new_orders_added row)
+new_orders_put scale (OfNewOrder key row) old new add = add.1
+new_orders_put scale row old new add = ap (λ (r : TableRows). r.new_orders.entries) add.0
+
+-- the lines of all rows were inserted
+pub lines_inserted : (scale : Scale) (rows : List TableRow) (old new : TableRows) → AddsRows scale rows old new
+    → new.lines ≡ insert_all line_cmp old.lines (flat_map lines_added rows)
+lines_inserted scale = all_inserted line_cmp (λ r. r.lines) lines_added scale (lines_put scale)
+
+-- and the orders
+pub orders_inserted : (scale : Scale) (rows : List TableRow) (old new : TableRows) → AddsRows scale rows old new
+    → new.orders.entries ≡ insert_all order_cmp old.orders.entries (flat_map orders_added rows)
+orders_inserted scale = all_inserted order_cmp (λ r. r.orders.entries) orders_added scale (orders_put scale)
+
+-- and the new orders
+pub new_orders_inserted : (scale : Scale) (rows : List TableRow) (old new : TableRows) → AddsRows scale rows old new
+    → new.new_orders.entries ≡ insert_all order_cmp old.new_orders.entries (flat_map new_orders_added rows)
+new_orders_inserted scale = all_inserted order_cmp (λ r. r.new_orders.entries) new_orders_added scale (new_orders_put scale)
+
 -- a key above all others is put at the end
 insert-last : {K X : Type 0} (c : K → K → Ordering) → ((j k : K) → c j k ≡ Less → c k j ≡ Greater) → (es : List (K × X)) (key : K) (row : X) → AllByRecursion (λ k. c k key ≡ Less) (keys_of es)
     → insert_entry c es key row ≡ es ++ ((key, row) ∷ [])
@@ -237,34 +311,90 @@ below_pushed : {K : Type 0} (cmp : K → K → Ordering) (ks : List K) (key : K)
 below_pushed cmp ks key [] h g = tt
 below_pushed cmp ks key (j ∷ later) h g = (all-append (λ k. cmp k j ≡ Less) ks (key ∷ []) h.0 (g.0, tt), below_pushed cmp ks key later h.1 g.1)
 
--- rows under their keys, which ascend
-module _ (table : Table) (list : TableRows → List (EntryOf table)) (o : IsTotalOrder (cmp_of table)) (scale : Scale)
-    (step : (row : TableRow) (old mid : TableRows) → AddsRow scale row old mid → PutSome (Inserted (cmp_of table)) (get table row) (list old) (list mid)) where
-  -- the keys come after those of these entries
-  abbrev Behind : List (EntryOf table) → List (KeyOf table) → Type 0
-  Behind es later = AllByRecursion (λ key. AllByRecursion (λ k. cmp_of table k key ≡ Less) (keys_of es)) later
+-- entries by ascending keys above those that are there are put at the end
+pub insert_all-ascending : {K X : Type 0} {c : K → K → Ordering} → IsTotalOrder c → (old es : List (K × X)) → IsStrictlySortedBy c (keys_of es)
+    → AllByRecursion (λ key. AllByRecursion (λ k. c k key ≡ Less) (keys_of old)) (keys_of es) → insert_all c old es ≡ old ++ es
+unfolding IsStrictlySortedBy
+insert_all-ascending o old [] sorted below = sym (append-nil old)
+insert_all-ascending {K} {X} {c} o old (e ∷ es) sorted below =
+    let last : insert_entry c old e.0 e.1 ≡ old ++ (e ∷ []) = insert-last c (turned o) old e.0 e.1 below.0 in
+    let keys : keys_of (insert_entry c old e.0 e.1) ≡ keys_of old ++ (e.0 ∷ []) = ap keys_of last ∙ map-append (λ (f : K × X). f.0) old (e ∷ []) in
+    let below_rest = subst (λ ks. AllByRecursion (λ key. AllByRecursion (λ k. c k key ≡ Less) ks) (keys_of es)) (sym keys) (below_pushed c (keys_of old) e.0 (keys_of es) below.1 sorted.0) in
+    insert_all-ascending o (insert_entry c old e.0 e.1) es sorted.1 below_rest ∙ ap (λ l. l ++ es) last ∙ append_assoc old (e ∷ []) es
 
-  pub inserted : (rows : List TableRow) (old new : TableRows) → AddsRows scale rows old new
-      → IsStrictlySortedBy (cmp_of table) (keys_of (entries_of table rows)) → Behind (list old) (keys_of (entries_of table rows))
-      → list new ≡ list old ++ entries_of table rows
-  unfolding IsStrictlySortedBy
-  inserted [] old new h sorted below = ap list h ∙ sym (append-nil (list old))
-  inserted (row ∷ rows) old new h sorted below = by (inserted rows h.0 new h.1.1) (get table row) (step row old h.0 h.1.0) sorted below
-    where
-      by : (IsStrictlySortedBy (cmp_of table) (keys_of (entries_of table rows)) → Behind (list h.0) (keys_of (entries_of table rows))
-          → list new ≡ list h.0 ++ entries_of table rows)
-          → (r : Option (EntryOf table)) → PutSome (Inserted (cmp_of table)) r (list old) (list h.0)
-          → IsStrictlySortedBy (cmp_of table) (keys_of (with_entry r (entries_of table rows)))
-          → Behind (list old) (keys_of (with_entry r (entries_of table rows))) → list new ≡ list old ++ with_entry r (entries_of table rows)
-      by rest None same sorted below =
-          rest sorted (subst (λ l. Behind l (keys_of (entries_of table rows))) (sym same) below) ∙ ap (λ l. l ++ entries_of table rows) same
-      by rest (Some e) put sorted below =
-          let last : list h.0 ≡ list old ++ (e ∷ []) = put ∙ insert-last (cmp_of table) (turned o) (list old) e.0 e.1 below.0 in
-          let keys : keys_of (list h.0) ≡ keys_of (list old) ++ (e.0 ∷ []) = ap keys_of last ∙ map-append (λ (f : EntryOf table). f.0) (list old) (e ∷ []) in
-          let below_rest : Behind (list h.0) (keys_of (entries_of table rows)) =
-          subst (λ ks. AllByRecursion (λ key. AllByRecursion (λ k. cmp_of table k key ≡ Less) ks) (keys_of (entries_of table rows))) (sym keys)
-          (below_pushed (cmp_of table) (keys_of (list old)) e.0 (keys_of (entries_of table rows)) below.1 sorted.0) in
-          rest sorted.1 below_rest ∙ ap (λ l. l ++ entries_of table rows) last ∙ append_assoc (list old) (e ∷ []) (entries_of table rows)
+-- into nothing
+pub insert_all-none : {K X : Type 0} {c : K → K → Ordering} → IsTotalOrder c → (old es : List (K × X)) → old ≡ [] → IsStrictlySortedBy c (keys_of es) → insert_all c old es ≡ es
+insert_all-none {c = c} o old es none sorted =
+    ap (λ l. insert_all c l es) none ∙ insert_all-ascending o [] es sorted (all-each _ (λ _. tt) (keys_of es))
+
+-- ---- what rows add to the ordered tables
+
+-- the orders without their lines
+abbrev pub without_lines : List (EntryOf Orders) → List (OrderKey × Order)
+without_lines es = map (λ e. (e.0, e.1.0)) es
+
+pub keys-without_lines : (es : List (EntryOf Orders)) → keys_of (without_lines es) ≡ keys_of es
+keys-without_lines [] = refl
+keys-without_lines (e ∷ es) = ap (λ l. e.0 ∷ l) (keys-without_lines es)
+
+-- the orders of these rows
+pub orders_of_rows : (rows : List TableRow) → flat_map orders_added rows ≡ map (λ e. (e.0, e.1.0)) (entries_of Orders rows)
+orders_of_rows [] = refl
+orders_of_rows (OfOrder key row lines ∷ rows) = ap (λ l. (key, row) ∷ l) (orders_of_rows rows)
+orders_of_rows (row ∷ rows) = orders_of_rows rows
+
+-- the new orders
+pub new_orders_of_rows : (rows : List TableRow) → flat_map new_orders_added rows ≡ entries_of NewOrders rows
+new_orders_of_rows [] = refl
+new_orders_of_rows (OfNewOrder key row ∷ rows) = ap (λ l. (key, row) ∷ l) (new_orders_of_rows rows)
+new_orders_of_rows (row ∷ rows) = new_orders_of_rows rows
+
+-- the lines of these rows: in format 1 rows of their own, in format 2 those of the orders
+abbrev pub lines_of_format : Format → List TableRow → List (OrderLineKey × OrderLine)
+lines_of_format One rows = entries_of Lines rows
+lines_of_format Two rows = flat_map (λ e. e.1.1) (entries_of Orders rows)
+
+pub lines_of_rows : (format : Format) (scale : Scale) (rows : List TableRow) → AllByRecursion (IsKnown format scale) rows → flat_map lines_added rows ≡ lines_of_format format rows
+lines_of_rows One scale [] known = refl
+lines_of_rows One scale (OfOrder key row lines ∷ rows) known = ap (λ l. l ++ flat_map lines_added rows) known.0.1 ∙ lines_of_rows One scale rows known.1
+lines_of_rows One scale (OfLine key row ∷ rows) known = ap (λ l. (key, row) ∷ l) (lines_of_rows One scale rows known.1)
+lines_of_rows One scale (row ∷ rows) known = lines_of_rows One scale rows known.1
+lines_of_rows Two scale [] known = refl
+lines_of_rows Two scale (OfOrder key row lines ∷ rows) known = ap (λ l. lines ++ l) (lines_of_rows Two scale rows known.1)
+lines_of_rows Two scale (OfLine key row ∷ rows) known = absurd known.0
+lines_of_rows Two scale (row ∷ rows) known = lines_of_rows Two scale rows known.1
+
+-- the orders of known rows in format 2 have lines of their own, by ascending numbers
+pub orders_own : (scale : Scale) (rows : List TableRow) → AllByRecursion (IsKnown Two scale) rows
+    → AllByRecursion (λ (e : EntryOf Orders). AreLinesOf Two e.0 e.1.1) (entries_of Orders rows)
+orders_own scale rows known = all-weaker _ _ (λ e k. k.1) (entries_of Orders rows) (all_entries Orders (IsKnown Two scale) rows known)
+
+-- the lines of known rows in order are in key order
+pub lines_ascend : (format : Format) (scale : Scale) (rows : List TableRow) → AllByRecursion (IsKnown format scale) rows → AreInOrder rows
+    → IsStrictlySortedBy line_cmp (keys_of (lines_of_format format rows))
+lines_ascend One scale rows known order = keys_ascend Lines refl rows order
+lines_ascend Two scale rows known order =
+    let own = orders_own scale rows known in
+    lines_sorted (entries_of Orders rows) (keys_ascend Orders refl rows order)
+    (all-weaker _ _ (λ e are. are.0) (entries_of Orders rows) own) (all-weaker _ _ (λ e are. are.1) (entries_of Orders rows) own)
+
+-- the ordered tables to which the rows were added
+module _ (scale : Scale) (rows : List TableRow) (old new : TableRows) (h : AddsRows scale rows old new) (order : AreInOrder rows) where
+  pub orders_are : old.orders.entries ≡ [] → new.orders.entries ≡ map (λ e. (e.0, e.1.0)) (entries_of Orders rows)
+  orders_are none =
+      let es = without_lines (entries_of Orders rows) in
+      orders_inserted scale rows old new h ∙ ap (insert_all order_cmp old.orders.entries) (orders_of_rows rows)
+      ∙ insert_all-none orders_total old.orders.entries es none (subst (IsStrictlySortedBy order_cmp) (sym (keys-without_lines (entries_of Orders rows))) (keys_ascend Orders refl rows order))
+
+  pub new_orders_are : old.new_orders.entries ≡ [] → new.new_orders.entries ≡ entries_of NewOrders rows
+  new_orders_are none =
+      new_orders_inserted scale rows old new h ∙ ap (insert_all order_cmp old.new_orders.entries) (new_orders_of_rows rows)
+      ∙ insert_all-none orders_total old.new_orders.entries (entries_of NewOrders rows) none (keys_ascend NewOrders refl rows order)
+
+  pub lines_are : (format : Format) → AllByRecursion (IsKnown format scale) rows → old.lines ≡ [] → new.lines ≡ lines_of_format format rows
+  lines_are format known none =
+      lines_inserted scale rows old new h ∙ ap (insert_all line_cmp old.lines) (lines_of_rows format scale rows known)
+      ∙ insert_all-none lines_total old.lines (lines_of_format format rows) none (lines_ascend format scale rows known order)
 
 -- ---- the lists of payments
 

@@ -42,7 +42,7 @@ KeyOf Orders = OrderKey
 KeyOf NewOrders = OrderKey
 KeyOf Lines = OrderLineKey
 
--- what a row has besides
+-- what a row has besides; an order has its columns and the lines of its record
 abbrev pub RowOf : Table → Type 0
 RowOf Items = Item
 RowOf Warehouses = Warehouse
@@ -50,7 +50,7 @@ RowOf Districts = District
 RowOf Stocks = Stock
 RowOf Customers = Customer
 RowOf Histories = History
-RowOf Orders = Order
+RowOf Orders = Order × List (OrderLineKey × OrderLine)
 RowOf NewOrders = NewOrder
 RowOf Lines = OrderLine
 
@@ -66,7 +66,7 @@ make Districts e = OfDistrict e.0 e.1
 make Stocks e = OfStock e.0 e.1
 make Customers e = OfCustomer e.0 e.1
 make Histories e = OfHistory e.0 e.1
-make Orders e = OfOrder e.0 e.1
+make Orders e = OfOrder e.0 e.1.0 e.1.1
 make NewOrders e = OfNewOrder e.0 e.1
 make Lines e = OfLine e.0 e.1
 
@@ -78,7 +78,7 @@ get Districts (OfDistrict key row) = Some (key, row)
 get Stocks (OfStock key row) = Some (key, row)
 get Customers (OfCustomer key row) = Some (key, row)
 get Histories (OfHistory key row) = Some (key, row)
-get Orders (OfOrder key row) = Some (key, row)
+get Orders (OfOrder key row lines) = Some (key, (row, lines))
 get NewOrders (OfNewOrder key row) = Some (key, row)
 get Lines (OfLine key row) = Some (key, row)
 get table row = None
@@ -99,7 +99,7 @@ find Districts (OfDistrict key row) = Own (key, row) refl refl refl
 find Stocks (OfStock key row) = Own (key, row) refl refl refl
 find Customers (OfCustomer key row) = Own (key, row) refl refl refl
 find Histories (OfHistory key row) = Own (key, row) refl refl refl
-find Orders (OfOrder key row) = Own (key, row) refl refl refl
+find Orders (OfOrder key row lines) = Own (key, (row, lines)) refl refl refl
 find NewOrders (OfNewOrder key row) = Own (key, row) refl refl refl
 find Lines (OfLine key row) = Own (key, row) refl refl refl
 find table row = Other refl refl

@@ -1,7 +1,7 @@
 -- The tables of what was loaded in the end, and that they are those whose records were read.
 use Rattle.std.proofs.Common.{◌≡◌, ℕ, suc, ◌≤◌, ◌*◌, ◌⊎◌, inl, inr, Bool, true, false, cond, List, [], ◌∷◌, ◌++◌, map, sum, length, Option, None, Some, IsTrue, is_some, Result, Ok, Err, IfOk, refl, sym, ap, subst, ◌∙◌, arith}
 use Rattle.std.specs.Prelude.{◌↔◌, IsOk}
-use Rattle.std.specs.List.{AllByRecursion, AllZip, flat_map, zip}
+use Rattle.std.specs.List.{AllByRecursion, AllZip, filter, flat_map, zip}
 use Rattle.std.specs.List.Sorted.{IsStrictlySortedBy}
 use Rattle.std.specs.Map.{keys_of, values_of}
 use Rattle.std.specs.Option.{option_map}
@@ -13,33 +13,42 @@ use Rattle.std.specs.FinMap.{IsAntisymmetric}
 use Rattle.std.proofs.lemmas.Cmp.{tied_itself}
 use Rattle.std.proofs.lemmas.List.{length-map}
 use Rattle.rows.specs.declared.keys.DistrictKey.{DistrictKey}
+use Rattle.rows.specs.declared.keys.OrderLineKey.{OrderLineKey}
+use Rattle.rows.specs.declared.records.Order.{Order}
+use Rattle.rows.specs.declared.records.OrderLine.{OrderLine}
 use Rattle.rows.specs.declared.records.History.{History}
 use Rattle.rows.specs.Keys.{order_cmp, line_cmp}
 use Rattle.schema.specs.declared.scale.Scale.{Scale}
 use Rattle.schema.specs.declared.scale_fault.ScaleFault.{ScaleFault}
 use Rattle.schema.specs.declared.table_rows.TableRows.{TableRows}
-use Rattle.schema.specs.Database.{Database}
+use Rattle.schema.specs.Database.{Database, is_of_order, rows_where}
+use Rattle.schema.specs.OrderRows.{line_table}
+use Rattle.schema.proofs.OrderedParts.{entries-ordered}
 use Rattle.schema.specs.Dense.{place}
 use Rattle.schema.specs.Scale.{district_keys}
 use Rattle.schema.specs.Rows.{database, HasCounts}
 use Rattle.schema.proofs.KeyOrders.{orders_total, lines_total}
 use Rattle.dataset.specs.declared.place.Place.{Place}
 use Rattle.dataset.specs.declared.place.Place.TheVariants as at
+use Rattle.dataset.specs.declared.format.Format.{Format}
+use Rattle.dataset.specs.declared.format.Format.TheVariants.{One, Two}
+use Rattle.dataset.specs.Formats.{IsWithinFormat, most_lines, most_warehouses}
 use Rattle.dataset.specs.Columns.{Table, Items, Warehouses, Districts, Stocks, Customers, Histories, Orders, NewOrders, Lines, table_number}
 use Rattle.dataset.specs.Payments.{Opens}
-use Rattle.dataset.specs.Records.{AreSpelt, AreRecords, row_records, payment_records, header_fields, history_fields}
-use Rattle.dataset.specs.Writing.{count_fields}
-use Rattle.dataset.specs.Loading.{HasKey, HasRows}
-use Rattle.dataset.specs.TableRow.{TableRow, AddsRow, row_fields, row_place}
+use Rattle.dataset.specs.Records.{Field, AreSpelt, AreRecordsIn, IsHeader, row_records, payment_records, header_fields, history_fields, line_fields, order_fields, order_record}
+use Rattle.dataset.specs.Writing.{count_fields, records_with}
+use Rattle.dataset.specs.Loading.{HasRows, IsKnown}
+use Rattle.dataset.specs.TableRow.{TableRow, AddsRow, OfLine, row_fields, row_place}
 use Rattle.dataset.proofs.AllRows.{after_header, entry_records, fields_of_rows, map-flat_map}
-use Rattle.dataset.proofs.Contents.{Inserted, Kept, PaysAll, Pushed, PutSome, all_entries, by_tables, entries_of, inserted, kept, keys_ascend, of_entries, of_table, paid_all, pushed, row_put}
+use Rattle.dataset.proofs.Contents.{Kept, PaysAll, Pushed, PutSome, all_entries, by_tables, entries_of, kept, keys-without_lines, keys_ascend, lines_are, lines_ascend, lines_of_format, new_orders_are, of_entries, of_table, orders_are, orders_own, paid_all, pushed, row_put}
 use Rattle.dataset.proofs.EachTable.{EntryOf, KeyOf, RowOf, all_tables, cmp_of, get, is_keyed, make}
 use Rattle.dataset.proofs.Keys.{AreScaleKeys, all-each, all-map, all-weaker, customers_of_scale, districts_of_scale, items_of_scale, stocks_of_scale, warehouses_of_scale}
 use Rattle.dataset.proofs.Order.{follows_le}
 use Rattle.std.specs.Ordering.{is_le}
 use Rattle.dataset.specs.Order.{place_cmp}
 use Rattle.dataset.proofs.Payments.{places, payments_of, payments_recorded, payments-opened, counts-opened}
-use Rattle.dataset.proofs.Tables.{are-records, customer_count, district_count, item_count, rows_by_table, stock_count, warehouse_count}
+use Rattle.dataset.proofs.OrderLines.{own_lines}
+use Rattle.dataset.proofs.Tables.{are-records, lines_apart, orders_of, customer_count, district_count, item_count, rows_by_table, stock_count, warehouse_count}
 use Rattle.dataset.proofs.Texts.{all_zip-append}
 
 -- ---- as many keys of the scale as it has are all of them
@@ -117,9 +126,9 @@ zip-split (e ∷ es) = ap (λ l. e ∷ l) (zip-split es)
 -- the rows that were added are those that are kept
 abbrev pub AreKept : Scale → (table : Table) → List (EntryOf table) → Kept table → Type 0
 AreKept scale Histories es lists = payments_of (zip (district_keys scale) lists) ≡ es
-AreKept scale Orders es entries = entries ≡ es
+AreKept scale Orders es entries = entries ≡ map (λ e. (e.0, e.1.0)) es
 AreKept scale NewOrders es entries = entries ≡ es
-AreKept scale Lines es entries = entries ≡ es
+AreKept scale Lines es entries = Unit {0}
 AreKept scale table es rows = values_of es ≡ rows
 
 none_placed : (ks : List DistrictKey) → AllByRecursion (λ q. IsTrue (is_le (place_cmp q at.Header))) (places at.History (zip {X = List History} ks []))
@@ -130,29 +139,19 @@ no_payments : (ks : List DistrictKey) → payments_of (zip ks []) ≡ []
 no_payments [] = refl
 no_payments (k ∷ ks) = refl
 
-module _ {scale : Scale} {has : TableRows} {last : Place} {records : List (List (List ℕ))} {rows : List TableRow} (h : HasRows scale has last records rows) where
+module _ {format : Format} {scale : Scale} {has : TableRows} {last : Place} {records : List (List (List ℕ))} {rows : List TableRow} (h : HasRows format scale has last records rows) where
   dense_has : (table : Table) (list : TableRows → List (RowOf table))
       → ((row : TableRow) (old mid : TableRows) → AddsRow scale row old mid → PutSome Pushed (get table row) (list old) (list mid))
       → list h.none ≡ [] → values_of (entries_of table rows) ≡ list has
   dense_has table list step none = sym (pushed table list scale step rows h.none has h.added ∙ ap (λ l. l ++ values_of (entries_of table rows)) none)
 
-  ordered_has : (table : Table) → IsTrue (is_keyed table) → IsTotalOrder (cmp_of table) → (list : TableRows → List (EntryOf table))
-      → ((row : TableRow) (old mid : TableRows) → AddsRow scale row old mid → PutSome (Inserted (cmp_of table)) (get table row) (list old) (list mid))
-      → list h.none ≡ [] → list has ≡ entries_of table rows
-  ordered_has table key o list step none =
-      let sorted = keys_ascend table key rows h.in_order in
-      let below =
-      subst (λ l. AllByRecursion (λ key. AllByRecursion (λ k. cmp_of table k key ≡ Less) (keys_of l)) (keys_of (entries_of table rows))) (sym none)
-      (all-each _ (λ _. tt) (keys_of (entries_of table rows))) in
-      inserted table list o scale step rows h.none has h.added sorted below ∙ ap (λ l. l ++ entries_of table rows) none
-
   -- of what the rows of a table are made of which no row is missing
   no_missing : (table : Table) {known : KeyOf table → Bool} {ks : List (KeyOf table)} {list : List (RowOf table)} → IsTrue (is_keyed table)
-      → AreScaleKeys (cmp_of table) known ks → ((e : EntryOf table) → HasKey scale (make table e) → IsTrue (known e.0))
+      → AreScaleKeys (cmp_of table) known ks → ((e : EntryOf table) → IsKnown format scale (make table e) → IsTrue (known e.0))
       → values_of (entries_of table rows) ≡ list → length list ≡ length ks → entries_of table rows ≡ zip ks list
   no_missing table {known} {ks} key keys has_key are even =
       let es = entries_of table rows in
-      let all_known = all-map (λ k. IsTrue (known k)) (λ e. e.0) es (all-weaker _ _ has_key es (all_entries table (HasKey scale) rows h.known)) in
+      let all_known = all-map (λ k. IsTrue (known k)) (λ e. e.0) es (all-weaker _ _ has_key es (all_entries table (IsKnown format scale) rows h.known)) in
       let have = all-weaker _ _ (λ k is_known. place_has keys.total ks k keys.exact (keys.placed k ∙ is_known)) (keys_of es) all_known in
       let many : length (keys_of es) ≡ length ks = length-map es (λ e. e.0) ∙ sym (length-map es (λ e. e.1)) ∙ ap length are ∙ even in
       let all : keys_of es ≡ ks = same_keys keys.total ks (keys_of es) keys.sorted (keys_ascend table key rows h.in_order) have many in
@@ -173,18 +172,94 @@ module _ {scale : Scale} {has : TableRows} {last : Place} {records : List (List 
   are_kept Stocks = dense_has Stocks (kept Stocks) (row_put scale Stocks) h.are_none.stocks
   are_kept Customers = dense_has Customers (kept Customers) (row_put scale Customers) h.are_none.customers
   are_kept Histories = paid.payments ∙ ap (λ l. l ++ entries_of Histories rows) (no_payments (district_keys scale))
-  are_kept Orders = ordered_has Orders refl orders_total (kept Orders) (row_put scale Orders) h.are_none.orders
-  are_kept NewOrders = ordered_has NewOrders refl orders_total (kept NewOrders) (row_put scale NewOrders) h.are_none.new_orders
-  are_kept Lines = ordered_has Lines refl lines_total (kept Lines) (row_put scale Lines) h.are_none.lines
+  are_kept Orders = orders_are scale rows h.none has h.added h.in_order h.are_none.orders
+  are_kept NewOrders = new_orders_are scale rows h.none has h.added h.in_order h.are_none.new_orders
+  are_kept Lines = tt
+
+  -- the lines of all rows are kept
+  pub lines_kept : has.lines ≡ lines_of_format format rows
+  lines_kept = lines_are scale rows h.none has h.added h.in_order format h.known h.are_none.lines
+
+  pub lines_ascending : IsStrictlySortedBy line_cmp (keys_of has.lines)
+  lines_ascending = subst (λ l. IsStrictlySortedBy line_cmp (keys_of l)) (sym lines_kept) (lines_ascend format scale rows h.known h.in_order)
+
+  pub orders_ascending : IsStrictlySortedBy order_cmp (keys_of has.orders.entries)
+  orders_ascending =
+      subst (λ l. IsStrictlySortedBy order_cmp (keys_of l)) (sym (are_kept Orders))
+      (subst (IsStrictlySortedBy order_cmp) (sym (keys-without_lines (entries_of Orders rows))) (keys_ascend Orders refl rows h.in_order))
 
 -- ---- the records of all rows
 
 part_recorded : (table : Table) (rows : List TableRow) → map row_fields (of_table (table_number table) rows) ≡ entry_records table (entries_of table rows)
 part_recorded table rows = ap (map row_fields) (of_entries table rows) ∙ fields_of_rows table (entries_of table rows)
 
-module _ (scale : Scale) (has opened : TableRows) (last : Place) (records : List (List (List ℕ))) (rows : List TableRow) (h : HasRows scale has last records rows)
+-- the records of orders without lines
+orders_alone : (scale : Scale) (es : List (EntryOf Orders)) → AllByRecursion (λ (e : EntryOf Orders). IsKnown One scale (make Orders e)) es
+    → entry_records Orders es ≡ row_records order_fields (map (λ e. (e.0, e.1.0)) es)
+orders_alone scale [] known = refl
+orders_alone scale (e ∷ es) known = λ i. order_record e.0 e.1.0 (known.0.1 i) ∷ orders_alone scale es known.1 i
+
+-- the records of orders with lines
+orders_together : (lines : List (OrderLineKey × OrderLine)) (es : List (EntryOf Orders))
+    → entry_records Orders (map (λ e. (e.0, (e.1.0, rows_where (is_of_order e.0) (line_table lines)))) es) ≡ records_with lines (map (λ e. (e.0, e.1.0)) es)
+orders_together lines [] = refl
+orders_together lines (e ∷ es) = ap (λ l. order_record e.0 e.1.0 (rows_where (is_of_order e.0) (line_table lines)) ∷ l) (orders_together lines es)
+
+-- the rows of a format are what each of its tables keeps
+module _ {format : Format} {scale : Scale} {has : TableRows} {last : Place} {records : List (List (List ℕ))} {rows : List TableRow} (h : HasRows format scale has last records rows) where
+  all_known : AllByRecursion (λ (e : EntryOf Orders). IsKnown format scale (make Orders e)) (entries_of Orders rows)
+  all_known = all_entries Orders (IsKnown format scale) rows h.known
+
+orders_recorded : (format : Format) {scale : Scale} {has : TableRows} {last : Place} {records : List (List (List ℕ))} {rows : List TableRow} → HasRows format scale has last records rows
+    → entry_records Orders (entries_of Orders rows) ≡ orders_of format has.lines has.orders.entries
+orders_recorded One {scale} {has} {rows = rows} h = orders_alone scale (entries_of Orders rows) (all_known h) ∙ ap (row_records order_fields) (sym (are_kept h Orders))
+orders_recorded Two {scale} {has} {rows = rows} h =
+    let es = entries_of Orders rows in
+    let own = orders_own scale rows h.known in
+    let lines : has.lines ≡ flat_map (λ (e : EntryOf Orders). e.1.1) es = lines_kept h in
+    let each : (e : EntryOf Orders) → rows_where (is_of_order e.0) (line_table has.lines) ≡ filter (λ l. is_of_order e.0 l.0) has.lines = λ e.
+    ap (filter (λ (l : OrderLineKey × OrderLine). is_of_order e.0 l.0)) (entries-ordered lines_total has.lines (lines_ascending h)) in
+    let are : map (λ (e : EntryOf Orders). (e.0, (e.1.0, rows_where (is_of_order e.0) (line_table has.lines)))) es ≡ es =
+    (λ i. map (λ (e : EntryOf Orders). (e.0, (e.1.0, (each e ∙ ap (filter (λ (l : OrderLineKey × OrderLine). is_of_order e.0 l.0)) lines) i))) es)
+    ∙ own_lines es (keys_ascend Orders refl rows h.in_order) (all-weaker _ _ (λ e a. a.0) es own) in
+    ap (entry_records Orders) (sym are) ∙ orders_together has.lines es ∙ ap (records_with has.lines) (sym (are_kept h Orders))
+
+-- format 2 has no rows of ORDER-LINE of their own
+no_line_rows : (scale : Scale) (rows : List TableRow) → AllByRecursion (IsKnown Two scale) rows → entries_of Lines rows ≡ []
+no_line_rows scale [] known = refl
+no_line_rows scale (OfLine key row ∷ rows) known = absurd known.0
+no_line_rows scale (row ∷ rows) known = no_line_rows scale rows known.1
+
+lines_recorded : (format : Format) {scale : Scale} {has : TableRows} {last : Place} {records : List (List (List ℕ))} {rows : List TableRow} → HasRows format scale has last records rows
+    → entry_records Lines (entries_of Lines rows) ≡ lines_apart format has.lines
+lines_recorded One h = ap (row_records line_fields) (sym (lines_kept h))
+lines_recorded Two {scale} {rows = rows} h = ap (entry_records Lines) (no_line_rows scale rows h.known)
+
+-- the tables that are made of the rows of format 1 are within its limits
+orders_within : (scale : Scale) (es : List (EntryOf Orders)) → AllByRecursion (λ (e : EntryOf Orders). IsKnown One scale (make Orders e)) es
+    → AllByRecursion (λ (row : Order). row.ol_cnt ≤ most_lines One) (values_of (map (λ (e : EntryOf Orders). (e.0, e.1.0)) es))
+orders_within scale [] known = tt
+orders_within scale (e ∷ es) known = (known.0.0, orders_within scale es known.1)
+
+lines_within : (scale : Scale) (es : List (EntryOf Lines)) → AllByRecursion (λ (e : EntryOf Lines). IsKnown One scale (make Lines e)) es
+    → AllByRecursion (λ (key : OrderLineKey). key.number ≤ most_lines One) (keys_of es)
+lines_within scale [] known = tt
+lines_within scale (e ∷ es) known = (known.0, lines_within scale es known.1)
+
+within_format : (format : Format) {scale : Scale} {has : TableRows} (opened : TableRows) {last : Place} {records : List (List (List ℕ))} {rows : List TableRow} → HasRows format scale has last records rows
+    → scale.warehouses ≤ most_warehouses format → IsWithinFormat format (database scale (record has { histories = opened.histories }))
+within_format One {scale} {has} opened {rows = rows} h few = record {
+  warehouses = few;
+  orders = subst (λ es. AllByRecursion (λ (row : Order). row.ol_cnt ≤ most_lines One) (values_of es)) (sym (entries-ordered orders_total has.orders.entries (orders_ascending h) ∙ are_kept h Orders))
+      (orders_within scale (entries_of Orders rows) (all_known h));
+  lines = subst (λ es. AllByRecursion (λ (key : OrderLineKey). key.number ≤ most_lines One) (keys_of es)) (sym (entries-ordered lines_total has.lines (lines_ascending h) ∙ lines_kept h))
+      (lines_within scale (entries_of Lines rows) (all_entries Lines (IsKnown One scale) rows h.known));
+}
+within_format Two opened h few = tt
+
+module _ (format : Format) (scale : Scale) (has opened : TableRows) (last : Place) (records : List (List (List ℕ))) (rows : List TableRow) (h : HasRows format scale has last records rows)
     (opens : Opens (scale.warehouses * 10) has.histories.items opened.histories.items) (counts : HasCounts scale (record has { histories = opened.histories })) where
-  rows_recorded : map row_fields rows ≡ flat_map (λ part. part) (rows_by_table scale (record has { histories = opened.histories }))
+  rows_recorded : map row_fields rows ≡ flat_map (λ part. part) (rows_by_table format scale (record has { histories = opened.histories }))
   rows_recorded =
       let items = no_missing h Items refl (items_of_scale scale) (λ e known. known) (are_kept h Items) (item_count scale _ counts) in
       let warehouses = no_missing h Warehouses refl (warehouses_of_scale scale) (λ e known. known) (are_kept h Warehouses) (warehouse_count scale _ counts) in
@@ -195,13 +270,14 @@ module _ (scale : Scale) (has opened : TableRows) (last : Place) (records : List
       ap (row_records history_fields) (sym (are_kept h Histories) ∙ sym (payments-opened (district_keys scale) has.histories.items opens.opened opens.are_empty)
       ∙ ap (λ lists. payments_of (zip (district_keys scale) lists)) (sym opens.more))
       ∙ payments_recorded (zip (district_keys scale) opened.histories.items) in
+      let orders = orders_recorded format h in
+      let lines = lines_recorded format h in
       ap (map row_fields) (by_tables rows h.in_order) ∙ map-flat_map row_fields (λ table. of_table (table_number table) rows) all_tables
       ∙ (λ i. flat_map (λ table. part_recorded table rows i) all_tables)
       ∙ ap (flat_map (λ part. part)) (λ i.
       entry_records Items (items i) ∷ entry_records Warehouses (warehouses i) ∷ entry_records Districts (districts i)
       ∷ entry_records Stocks (stocks i) ∷ entry_records Customers (customers i) ∷ payments i
-      ∷ entry_records Orders (sym (are_kept h Orders) i) ∷ entry_records NewOrders (sym (are_kept h NewOrders) i)
-      ∷ entry_records Lines (sym (are_kept h Lines) i) ∷ [])
+      ∷ orders i ∷ entry_records NewOrders (sym (are_kept h NewOrders) i) ∷ lines i ∷ [])
 
   counts_opened : count_fields has ≡ count_fields (record has { histories = opened.histories })
   counts_opened =
@@ -209,19 +285,18 @@ module _ (scale : Scale) (has opened : TableRows) (last : Place) (records : List
       sym (counts-opened has.histories.items opens.opened opens.are_empty) ∙ ap (λ lists. sum (map length lists)) (sym opens.more) in
       rw paid refl
 
-  pub all_recorded : (header end : List (List ℕ)) → AreSpelt (header_fields scale) header → AreSpelt (count_fields has) end
-      → AreRecords (database scale (record has { histories = opened.histories })) ((header ∷ records) ++ (end ∷ []))
-  all_recorded header end spelt counted =
+  pub all_recorded : (header end : List (List ℕ)) → IsHeader format scale header → AreSpelt (count_fields has) end
+      → AreRecordsIn format (database scale (record has { histories = opened.histories })) ((header ∷ records) ++ (end ∷ []))
+  all_recorded header end is_header counted =
       let rows_of_tables = record has { histories = opened.histories } in
       let last_ : AreSpelt (count_fields rows_of_tables) end = subst (λ fields. AreSpelt fields end) counts_opened counted in
-      let body : AllZip AreSpelt (header_fields scale ∷ flat_map (λ part. part) (rows_by_table scale rows_of_tables)) (header ∷ records) =
-      subst (λ fields. AllZip AreSpelt (header_fields scale ∷ fields) (header ∷ records)) rows_recorded (spelt, h.are_spelt) in
-      are-records scale rows_of_tables counts
-      (subst (λ es. IsStrictlySortedBy order_cmp (keys_of es)) (sym (are_kept h Orders)) (keys_ascend Orders refl rows h.in_order))
+      let body : AllZip AreSpelt (header_fields format scale ∷ flat_map (λ part. part) (rows_by_table format scale rows_of_tables)) (header ∷ records) =
+      subst (λ fields. AllZip AreSpelt (header_fields format scale ∷ fields) (header ∷ records)) rows_recorded (is_header.is_spelt, h.are_spelt) in
+      are-records scale rows_of_tables counts (orders_ascending h)
       (subst (λ es. IsStrictlySortedBy order_cmp (keys_of es)) (sym (are_kept h NewOrders)) (keys_ascend NewOrders refl rows h.in_order))
-      (subst (λ es. IsStrictlySortedBy line_cmp (keys_of es)) (sym (are_kept h Lines)) (keys_ascend Lines refl rows h.in_order))
+      (lines_ascending h) format (within_format format opened h is_header.within)
       ((header ∷ records) ++ (end ∷ []))
-      (all_zip-append AreSpelt (header_fields scale ∷ flat_map (λ part. part) (rows_by_table scale rows_of_tables)) (count_fields rows_of_tables ∷ []) (header ∷ records) (end ∷ []) body (last_, tt))
+      (all_zip-append AreSpelt (header_fields format scale ∷ flat_map (λ part. part) (rows_by_table format scale rows_of_tables)) (count_fields rows_of_tables ∷ []) (header ∷ records) (end ∷ []) body (last_, tt))
 
 -- of the tables that were made of rows that fit the scale
 pub by_checked : (r : Result Database ScaleFault) (t : Database) (Fits : Type 0) (P : Database → Type 0) → IfOk r (λ made. made ≡ t) → (IsOk r ↔ Fits) → (Fits → P t) → IfOk r P

@@ -1,6 +1,9 @@
 -- The fault of a header.
 use Rattle.std.proofs.Common.{◌≡◌, ◌≢◌, ◌≤◌, ◌==◌, ◌+◌, ◌⊎◌, inl, inr, ℕ, List, [], ◌∷◌, ◌++◌, length, not, get_or, Bool, true, false, nat_lt, Option, Some, None, Result, IsUtf8, codes, refl, sym, ap, subst, ◌∙◌, arith}
-use Rattle.std.specs.Prelude.{IsSome}
+use Rattle.std.specs.Prelude.{◌&&◌, IfSome, IsSome, if◌then◌else◌, unwrap_or}
+use Rattle.std.specs.Fmt.{decimal}
+use Rattle.std.proofs.Common.{lit<}
+use Rattle.std.proofs.lemmas.Fmt.{decimal_digit}
 use Rattle.std.specs.Option.{ok_or}
 use Rattle.std.specs.Str.{bytes_eq}
 use Rattle.std.specs.Str.Parse.{digits_value}
@@ -27,20 +30,24 @@ use Rattle.dataset.specs.declared.loader.Loader.{Loader}
 use Rattle.dataset.specs.Loading.{HasLoaded}
 use Rattle.dataset.specs.Columns.{sizes}
 use Rattle.files.specs.Columns.{at_end, columns_fault, take_columns}
-use Rattle.dataset.specs.FirstFault.{HasNoTables, Reports, first_fault, header_columns, header_fault, header_first, header_sizes, is_header, rows_fault, reported_header}
+use Rattle.dataset.specs.declared.format.Format.{Format}
+use Rattle.dataset.specs.declared.format.Format.TheVariants.{One, Two}
+use Rattle.dataset.specs.Formats.{format_number, most_lines, most_warehouses}
+use Rattle.rows.specs.declared.limits.TheConstants.{LAST_LINE, MOST_WAREHOUSES}
+use Rattle.dataset.specs.FirstFault.{HasNoTables, Reports, first_fault, format_of, header_columns, header_fault, header_first, header_format, header_sizes, numbers_fault, rows_fault, reported_header}
 use Rattle.files.specs.FirstFault.{behind_end, fault_at, fault_or}
-use Rattle.dataset.specs.Records.{AreSpelt, AreRecords, header_fields}
-use Rattle.dataset.specs.TakenAs.{IsHeaderAs, ReportsEnd}
+use Rattle.dataset.specs.Records.{AreSpelt, AreRecordsOfEither, IsHeader, header_fields, scale_fields}
+use Rattle.dataset.specs.TakenAs.{IsScaleAs, ReportsEnd}
 use Rattle.files.specs.FirstFault.{ReportsFault}
 use Rattle.files.proofs.KindsRead.{word_is}
 use Rattle.files.proofs.Unlike.{other}
 use Rattle.dataset.proofs.LetterFault.{some_word}
 use Rattle.files.proofs.RecordsLeft.{not_advanced}
 
-pub no_header : (fields : List (List ℕ)) → is_header fields ≡ false → reported_header fields ≡ Some fault.NoHeader
-no_header fields e = rw e refl
+pub no_header : (fields : List (List ℕ)) → header_format fields ≡ None → reported_header fields ≡ Some fault.NoHeader
+no_header fields e = ap (λ (f : Option Format). numbers_fault f fields) e
 
-pub not_five : (fields : List (List ℕ)) → length fields ≢ 5 → is_header fields ≡ false
+pub not_five : (fields : List (List ℕ)) → length fields ≢ 5 → header_format fields ≡ None
 not_five fields apart = let no : (length fields == 5) ≡ false = grind (arith, nat_tests, apart) in rw no refl
 
 -- words that do not differ
@@ -59,66 +66,173 @@ not_word (field ∷ rest) known other_word word after read some utf8 apart = oth
     apart (ap (λ (p : List ℕ × FieldsView). p.0) is ∙ e))
 
 pub other_name : (left : List (List ℕ)) (known : Option FaultKind) (word : List ℕ) (after : FieldsView) → length left ≡ 5
-    → ◌≡◌ {A = List ℕ × FieldsView} (word, after) (next_read word_read [] left known) → (word ≡ codes "TPCC" → ⊥) → is_header left ≡ false
+    → ◌≡◌ {A = List ℕ × FieldsView} (word, after) (next_read word_read [] left known) → (word ≡ codes "TPCC" → ⊥) → header_format left ≡ None
 other_name left known word after five read apart =
     let no = not_word left known (codes "TPCC") word after read (omega arith) (utf8_words (codes "TPCC") refl) apart in
-    rw no (and_right (length left == 5) false refl)
+    rw (no, and_right (length left == 5) false refl) refl
 
-pub other_version : (left mid : List (List ℕ)) (known : Option FaultKind) (name word : List ℕ) (after : FieldsView) → length left ≡ 5 → left ≡ name ∷ mid
-    → ◌≡◌ {A = List ℕ × FieldsView} (word, after) (next_read word_read [] mid known) → (word ≡ codes "1" → ⊥) → is_header left ≡ false
-other_version left mid known name word after five is read apart =
+-- a condition between a format and itself
+same_either : (b : Bool) (f : Option Format) → (if b then f else f) ≡ f
+same_either true f = refl
+same_either false f = refl
+
+pub other_format : (left mid : List (List ℕ)) (known : Option FaultKind) (name word : List ℕ) (after : FieldsView) → length left ≡ 5 → left ≡ name ∷ mid
+    → ◌≡◌ {A = List ℕ × FieldsView} (word, after) (next_read word_read [] mid known) → (word ≡ codes "1" → ⊥) → (word ≡ codes "2" → ⊥) → header_format left ≡ None
+other_format left mid known name word after five is read not_one not_two =
     let some : length mid ≢ 0 = λ none. let all = ap length is in omega (arith, all, five, none) in
-    let no = ap (λ l. bytes_eq (get_or l 1 []) (codes "1")) is ∙ not_word mid known (codes "1") word after read some (utf8_words (codes "1") refl) apart in
-    rw (no, and_right (bytes_eq (get_or left 0 []) (codes "TPCC")) false refl) (and_right (length left == 5) false refl)
+    let one = ap (λ l. bytes_eq (get_or l 1 []) (codes "1")) is ∙ not_word mid known (codes "1") word after read some (utf8_words (codes "1") refl) not_one in
+    let two = ap (λ l. bytes_eq (get_or l 1 []) (codes "2")) is ∙ not_word mid known (codes "2") word after read some (utf8_words (codes "2") refl) not_two in
+    let no : format_of (get_or left 1 []) ≡ None = rw (one, two) refl in
+    ap (λ (f : Option Format). if length left == 5 && bytes_eq (get_or left 0 []) (codes "TPCC") then f else None) no ∙ same_either (length left == 5 && bytes_eq (get_or left 0 []) (codes "TPCC")) None
 
--- a header of five fields
-pub header_reported : (old mid next last : Fields) (name version : List ℕ) (end : Option FaultKind) → fault_of old ≡ None → length (fields_left old) ≡ 5
+-- the limits of the format are those of tables, or less
+pub some_within : (format : Format) → 1 ≤ most_warehouses format
+some_within One = omega arith
+some_within Two = omega arith
+
+pub most_within : (format : Format) → most_warehouses format ≤ MOST_WAREHOUSES
+most_within One = omega arith
+most_within Two = omega arith
+
+pub most_lines_within : (format : Format) → most_lines format ≤ LAST_LINE
+most_lines_within One = omega arith
+most_lines_within Two = omega arith
+
+pub some_lines_within : (format : Format) → 1 ≤ most_lines format
+some_lines_within One = omega arith
+some_lines_within Two = omega arith
+
+-- the number of the format as a word
+abbrev pub format_word : Format → List ℕ
+format_word One = codes "1"
+format_word Two = codes "2"
+
+number_word : (format : Format) → decimal (format_number format) ≡ format_word format
+number_word One = decimal_digit 1 (lit< tt)
+number_word Two = decimal_digit 2 (lit< tt)
+
+some_format : (format : Format) → length (format_word format) ≡ 1
+some_format One = refl
+some_format Two = refl
+
+format_is : (format : Format) (numbers : List (List ℕ)) → length numbers ≡ 3 → header_format (codes "TPCC" ∷ format_word format ∷ numbers) ≡ Some format
+format_is One numbers three = let long : (length (codes "TPCC" ∷ codes "1" ∷ numbers) == 5) ≡ true = grind (arith, nat_tests, three) in rw long refl
+format_is Two numbers three = let long : (length (codes "TPCC" ∷ codes "2" ∷ numbers) == 5) ≡ true = grind (arith, nat_tests, three) in rw long refl
+
+pub word_of_format : (format : Format) (word : List ℕ) → format_of word ≡ Some format → word ≡ format_word format
+word_of_format format word e = by (bytes_eq word (codes "1")) refl
+  where
+    two : bytes_eq word (codes "1") ≡ false → (b : Bool) → bytes_eq word (codes "2") ≡ b → word ≡ format_word format
+    two other_than true equal =
+        let read : format_of word ≡ Some Two = rw (other_than, equal) refl in
+        let is : Some Two ≡ Some format = sym read ∙ e in
+        let same : Two ≡ format = ap (λ (f : Option Format). unwrap_or f One) is in
+        (bytes_decides word (codes "2")).0 equal ∙ ap format_word same
+    two other_than false neither =
+        let read : format_of word ≡ None = rw (other_than, neither) refl in
+        let clash : None ≡ Some format = sym read ∙ e in
+        absurd cc
+
+    by : (b : Bool) → bytes_eq word (codes "1") ≡ b → word ≡ format_word format
+    by true equal =
+        let read : format_of word ≡ Some One = rw equal refl in
+        let is : Some One ≡ Some format = sym read ∙ e in
+        let same : One ≡ format = ap (λ (f : Option Format). unwrap_or f One) is in
+        (bytes_decides word (codes "1")).0 equal ∙ ap format_word same
+    by false other_than = two other_than (bytes_eq word (codes "2")) refl
+
+no_format : (word : List ℕ) → format_of word ≡ None → (word ≡ codes "1" → ⊥) × (word ≡ codes "2" → ⊥)
+no_format word e = (
+  λ is. let clash : Some One ≡ None = sym (ap format_of is) ∙ e in cc,
+  λ is. let clash : Some Two ≡ None = sym (ap format_of is) ∙ e in cc,
+)
+
+pub unknown_format : (left mid : List (List ℕ)) (known : Option FaultKind) (name word : List ℕ) (after : FieldsView) → length left ≡ 5 → left ≡ name ∷ mid
+    → ◌≡◌ {A = List ℕ × FieldsView} (word, after) (next_read word_read [] mid known) → format_of word ≡ None → header_format left ≡ None
+unknown_format left mid known name word after five is read none =
+    let no = no_format word none in
+    other_format left mid known name word after five is read no.0 no.1
+
+-- the name and the number of the format were taken
+pub record IsBegun (format : Format) (old next : Fields) : Type 0 where
+  pub are : fields_left old ≡ codes "TPCC" ∷ format_word format ∷ fields_left next
+  pub fault : fault_of next ≡ fault_of old
+  pub reported : reported_header (fields_left old) ≡ columns_fault (header_columns format) (fields_left next)
+
+pub header_begun : (format : Format) (old mid next : Fields) (name version : List ℕ) → length (fields_left old) ≡ 5
     → name ≡ codes "TPCC" → ◌≡◌ {A = List ℕ × FieldsView} (name, fields_view mid) (field_read word_read [] (fields_view old))
-    → version ≡ codes "1" → ◌≡◌ {A = List ℕ × FieldsView} (version, fields_view next) (field_read word_read [] (fields_view mid))
-    → fields_view last ≡ take_columns header_columns (fields_view next) → end ≡ at_end (fields_left last) (fault_of last) → end ≡ reported_header (fields_left old)
-header_reported old mid next last name version end none five is_name read_name is_version read_version took ended =
+    → version ≡ format_word format → ◌≡◌ {A = List ℕ × FieldsView} (version, fields_view next) (field_read word_read [] (fields_view mid)) → IsBegun format old next
+header_begun format old mid next name version five is_name read_name is_version read_version =
     let one = some_word (codes "TPCC") 3 name (fields_left old) (fault_of old) (fields_view mid) refl is_name read_name in
-    let two = some_word (codes "1") 0 version (fields_left mid) (fault_of mid) (fields_view next) refl is_version read_version in
-    let all : fields_left old ≡ codes "TPCC" ∷ codes "1" ∷ fields_left next = one.left ∙ ap (λ l. codes "TPCC" ∷ l) two.left in
+    let two = some_word (format_word format) 0 version (fields_left mid) (fault_of mid) (fields_view next) (some_format format) is_version read_version in
+    let all : fields_left old ≡ codes "TPCC" ∷ format_word format ∷ fields_left next = one.left ∙ ap (λ l. codes "TPCC" ∷ l) two.left in
     let three : length (fields_left next) ≡ 3 = let e = ap length all in omega (arith, e, five) in
-    let start : fields_view next ≡ record { left = fields_left next; fault = None } = ap (λ (f : Option FaultKind). record { left = fields_left next; fault = f }) (two.fault ∙ one.fault ∙ none) in
-    let long : (length (codes "TPCC" ∷ codes "1" ∷ fields_left next) == 5) ≡ true = grind (arith, nat_tests, three) in
-    let reported : reported_header (codes "TPCC" ∷ codes "1" ∷ fields_left next) ≡ columns_fault header_columns (fields_left next) = rw long refl in
-    ended ∙ ap (λ (t : FieldsView). at_end t.left t.fault) (took ∙ ap (take_columns header_columns) start) ∙ sym reported ∙ ap reported_header (sym all)
+    record {
+      are = all;
+      fault = two.fault ∙ one.fault;
+      reported = ap reported_header all ∙ ap (λ (f : Option Format). numbers_fault f (codes "TPCC" ∷ format_word format ∷ fields_left next)) (format_is format (fields_left next) three);
+    }
 
-pub header_made : (result : Result Scale FaultKind) (made : Option Scale) (kind : FaultKind) (fields : List (List ℕ)) → result ≡ ok_or made kind → IsSome made → reported_header fields ≡ None → IsHeaderAs result fields
-header_made result (Some scale) kind fields is some none = subst (λ r. IsHeaderAs r fields) (sym is) none
-header_made result None kind fields is some none = let clash : true ≡ false = sym some in absurd cc
+-- the header whose numbers were read
+pub is_header : (format : Format) (scale : Scale) (old next : Fields) → IsBegun format old next → scale.warehouses ≤ most_warehouses format → AreSpelt (scale_fields scale) (fields_left next)
+    → IsHeader format scale (fields_left old)
+is_header format scale old next begun within spelt = record {
+  within = within;
+  is_spelt = subst (AreSpelt (header_fields format scale)) (sym begun.are) (refl, (sym (number_word format), spelt));
+}
 
--- the sizes that a header spells
-pub sizes_spelt : (scale : Scale) (fields : List (List ℕ)) → AreSpelt (header_fields scale) fields → sizes scale ≡ header_sizes fields
-sizes_spelt scale (name ∷ version ∷ w ∷ i ∷ c ∷ []) spelt =
+-- the three numbers, taken
+pub numbers_taken : (format : Format) (old last : Fields) (end : Option FaultKind) → fault_of old ≡ None → fields_view last ≡ take_columns (header_columns format) (fields_view old)
+    → end ≡ at_end (fields_left last) (fault_of last) → columns_fault (header_columns format) (fields_left old) ≡ end
+numbers_taken format old last end none took ended =
+    let start : fields_view old ≡ record { left = fields_left old; fault = None } = ap (λ (f : Option FaultKind). record { left = fields_left old; fault = f }) none in
+    sym (ended ∙ ap (λ (t : FieldsView). at_end t.left t.fault) (took ∙ ap (take_columns (header_columns format)) start))
+
+pub scale_made : (format : Format) (result : Result Scale FaultKind) (made : Option Scale) (kind : FaultKind) (fields : List (List ℕ)) → result ≡ ok_or made kind → IsSome made
+    → columns_fault (header_columns format) fields ≡ None → IfSome made (λ scale. (scale.warehouses ≤ most_warehouses format) × AreSpelt (scale_fields scale) fields) → IsScaleAs format result fields
+scale_made format result (Some scale) kind fields is some none made = subst (λ r. IsScaleAs format r fields) (sym is) (none, made.0, made.1)
+scale_made format result None kind fields is some none made = let clash : true ≡ false = sym some in absurd cc
+
+-- the format and the sizes that a header spells
+pub format_spelt : (format : Format) (scale : Scale) (fields : List (List ℕ)) → AreSpelt (header_fields format scale) fields → header_format fields ≡ Some format
+format_spelt format scale (name ∷ version ∷ w ∷ i ∷ c ∷ []) spelt =
+    (λ j. header_format (spelt.0 j ∷ (spelt.1.0 ∙ number_word format) j ∷ w ∷ i ∷ c ∷ [])) ∙ format_is format (w ∷ i ∷ c ∷ []) refl
+format_spelt format scale [] spelt = absurd spelt
+format_spelt format scale (a ∷ []) spelt = absurd spelt.1
+format_spelt format scale (a ∷ b ∷ []) spelt = absurd spelt.1.1
+format_spelt format scale (a ∷ b ∷ c ∷ []) spelt = absurd spelt.1.1.1
+format_spelt format scale (a ∷ b ∷ c ∷ d ∷ []) spelt = absurd spelt.1.1.1.1
+format_spelt format scale (a ∷ b ∷ c ∷ d ∷ e ∷ f ∷ rest) spelt = absurd spelt.1.1.1.1.1
+
+pub sizes_spelt : (format : Format) (scale : Scale) (fields : List (List ℕ)) → AreSpelt (header_fields format scale) fields → sizes format scale ≡ header_sizes fields
+sizes_spelt format scale (name ∷ version ∷ w ∷ i ∷ c ∷ []) spelt =
     let limits = scale.limits in
     let most_w = limits.most_warehouses in
     let most_i = limits.most_items in
     let most_c = limits.most_customers in
+    let ef : unwrap_or (header_format (name ∷ version ∷ w ∷ i ∷ c ∷ [])) One ≡ format = ap (λ (f : Option Format). unwrap_or f One) (format_spelt format scale (name ∷ version ∷ w ∷ i ∷ c ∷ []) spelt) in
     let ew : digits_value 10 w ≡ scale.warehouses = ap (digits_value 10) spelt.1.1.0 ∙ (decimal_is_IsNumeral scale.warehouses (omega (arith, most_w))).1 in
     let ei : digits_value 10 i ≡ scale.items = ap (digits_value 10) spelt.1.1.1.0 ∙ (decimal_is_IsNumeral scale.items (omega (arith, most_i))).1 in
     let ec : digits_value 10 c ≡ scale.customers = ap (digits_value 10) spelt.1.1.1.1.0 ∙ (decimal_is_IsNumeral scale.customers (omega (arith, most_c))).1 in
-    λ j. record { warehouses = sym ew j; items = sym ei j; customers = sym ec j }
-sizes_spelt scale [] spelt = absurd spelt
-sizes_spelt scale (a ∷ []) spelt = absurd spelt.1
-sizes_spelt scale (a ∷ b ∷ []) spelt = absurd spelt.1.1
-sizes_spelt scale (a ∷ b ∷ c ∷ []) spelt = absurd spelt.1.1.1
-sizes_spelt scale (a ∷ b ∷ c ∷ d ∷ []) spelt = absurd spelt.1.1.1.1
-sizes_spelt scale (a ∷ b ∷ c ∷ d ∷ e ∷ f ∷ rest) spelt = absurd spelt.1.1.1.1.1
+    λ j. record { format = sym ef j; warehouses = sym ew j; items = sym ei j; customers = sym ec j }
+sizes_spelt format scale [] spelt = absurd spelt
+sizes_spelt format scale (a ∷ []) spelt = absurd spelt.1
+sizes_spelt format scale (a ∷ b ∷ []) spelt = absurd spelt.1.1
+sizes_spelt format scale (a ∷ b ∷ c ∷ []) spelt = absurd spelt.1.1.1
+sizes_spelt format scale (a ∷ b ∷ c ∷ d ∷ []) spelt = absurd spelt.1.1.1.1
+sizes_spelt format scale (a ∷ b ∷ c ∷ d ∷ e ∷ f ∷ rest) spelt = absurd spelt.1.1.1.1.1
 
 -- ---- the first record
 
 short_header : (fields : List (List ℕ)) → record_size fields ≤ 65536 → header_fault fields ≡ reported_header fields
 short_header fields short = let no : nat_lt 65536 (record_size fields) ≡ false = grind (arith, nat_tests) in rw no refl
 
-pub header_passes : (scale : Scale) (header : List (List ℕ)) (more : List (List (List ℕ))) → record_size header ≤ 65536 → reported_header header ≡ None → AreSpelt (header_fields scale) header
-    → first_fault (header ∷ more) ≡ rows_fault (sizes scale) (header ∷ []) more
+pub header_passes : (format : Format) (scale : Scale) (header : List (List ℕ)) (more : List (List (List ℕ))) → record_size header ≤ 65536 → reported_header header ≡ None → AreSpelt (header_fields format scale) header
+    → first_fault (header ∷ more) ≡ rows_fault (sizes format scale) (header ∷ []) more
 unfolding first_fault
-header_passes scale header more short none spelt =
+header_passes format scale header more short none spelt =
     let pass : first_fault (header ∷ more) ≡ rows_fault (header_sizes header) (header ∷ []) more = rw (short_header header short ∙ none) refl in
-    pass ∙ ap (λ s. rows_fault s (header ∷ []) more) (sym (sizes_spelt scale header spelt))
+    pass ∙ ap (λ s. rows_fault s (header ∷ []) more) (sym (sizes_spelt format scale header spelt))
 
 pub header_fails : (kind : FaultKind) (header : List (List ℕ)) (more : List (List (List ℕ))) → record_size header ≤ 65536 → reported_header header ≡ Some kind → header_first (header ∷ more) ≡ Some (fault_at kind 1)
 header_fails kind header more short reported = rw (short_header header short ∙ reported) refl
@@ -173,4 +287,4 @@ reports_end (File f) l rows before more end number loaded are counted is (inr h)
     let read : rows ≡ before ++ (end ∷ []) = are ∙ ap (λ m. before ++ (end ∷ m)) h.0 in
     let all : number ≡ length rows = let long = ap length read in let parts = length-append before (end ∷ []) in omega (arith, long, parts, counted) in
     subst (λ o. MatchOption o ((f ≡ fault_at fault.ScaleBroken (length rows)) × HasNoTables rows) (λ x. f ≡ x)) (sym (is ∙ ap (behind_end number) h.0))
-    (h.1 ∙ ap (λ n. fault_at fault.ScaleBroken n) all, λ t within range records. h.2 t before end within range loaded (subst (AreRecords t) read records))
+    (h.1 ∙ ap (λ n. fault_at fault.ScaleBroken n) all, λ t within range records. h.2 t before end within range loaded (subst (AreRecordsOfEither t) read records))

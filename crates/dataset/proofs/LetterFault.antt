@@ -13,7 +13,9 @@ use Rattle.files.proofs.KindsRead.{word_is, no_word}
 use Rattle.dataset.specs.declared.loader.Loader.{Loader}
 use Rattle.dataset.specs.declared.loader.Taken.TheVariants.{Row, End}
 use Rattle.files.specs.Columns.{Column, Count, at_end, take_columns}
-use Rattle.dataset.specs.Columns.{Of, Table, Items, fields_fault, kind_fault, kind_of, letter, sizes}
+use Rattle.dataset.specs.declared.format.Format.{Format}
+use Rattle.dataset.specs.declared.format.Format.TheVariants.{One}
+use Rattle.dataset.specs.Columns.{Of, Table, Items, Lines, fields_fault, kind_fault, kind_of, letter, line_kind, sizes}
 use Rattle.dataset.specs.Order.{place_numbers}
 use Rattle.dataset.specs.Records.{AreSpelt}
 use Rattle.dataset.specs.TakenAs.{HasRow, IsDone, IsRowOf, IsTakenAs}
@@ -46,9 +48,14 @@ some_word letter n word (field ∷ rest) known new some is e = by (is_utf8 field
         let clash : suc n ≡ 0 = sym some ∙ ap length (sym is ∙ none) in
         absurd cc
 
-pub kind_of_letter : (table : Table) → kind_of (letter table) ≡ Some (Of table)
-kind_of_letter Items = refl
-kind_of_letter table = refl
+-- the format has records of the table: only format 1 has those of ORDER-LINE
+abbrev pub HasTable : Format → Table → Type 0
+HasTable format Lines = format ≡ One
+HasTable format table = Unit {0}
+
+pub kind_of_letter : (format : Format) (table : Table) → HasTable format table → kind_of format (letter table) ≡ Some (Of table)
+kind_of_letter format Lines one = ap line_kind one
+kind_of_letter format table has = refl
 
 pub letter_is_not_end : (table : Table) → bytes_eq (letter table) (codes "END") ≡ false
 letter_is_not_end Items = refl
@@ -75,17 +82,19 @@ some_bytes known n word old new some is took =
     ] refl
 
 -- a row's record, behind its letter
-pub row_is : (table : Table) (l m : Loader) (old mid new : Fields) (word : List ℕ) → word ≡ letter table
+pub row_is : (table : Table) (l m : Loader) (old mid new : Fields) (word : List ℕ) → HasTable l.format table → word ≡ letter table
     → TookBytes word old mid → (fault_of mid ≡ None → IsRowOf table l m mid new)
     → fault_of old ≡ None → IsTakenAs Row l m old new
-row_is table l m old mid new word is took taken none =
+row_is table l m old mid new word there is took taken none =
+    let s = sizes l.format l.scale in
+    let kind = kind_of_letter l.format table there in
     let read = some_bytes (letter table) 0 word old mid (one_letter table) is took in
     let row = taken (read.fault ∙ none) in
     record {
-      fault = λ few. row.fault ∙ sym (ap (λ fields. fields_fault (sizes l.scale) (place_numbers l.last) (table_counts l.rows) fields) read.left
-          ∙ ap (λ kind. kind_fault (sizes l.scale) (place_numbers l.last) (table_counts l.rows) kind (fields_left mid)) (kind_of_letter table));
+      fault = λ few. row.fault ∙ sym (ap (λ fields. fields_fault s (place_numbers l.last) (table_counts l.rows) fields) read.left
+          ∙ ap (λ k. kind_fault s (place_numbers l.last) (table_counts l.rows) k (fields_left mid)) kind);
       done = λ free.
-          let has : HasRow l m (letter table) (fields_left mid) = record { table = table; is_letter = refl; none = sym row.fault ∙ free; added = row.added free } in
+          let has : HasRow l m (letter table) (fields_left mid) = record { table = table; is_letter = refl; is_kind = kind; none = sym row.fault ∙ free; added = row.added free } in
           subst (IsDone Row l m) (sym read.left) has;
     }
 
@@ -105,7 +114,7 @@ end_is l old mid checked new word is took counted takes ended none =
     let columns : List Column = map (λ count. Count count) (table_counts l.rows) in
     record {
       fault = λ few. ended ∙ ap (λ (t : FieldsView). at_end t.left t.fault) (counted few ∙ ap (take_columns columns) start)
-          ∙ sym (ap (λ fields. fields_fault (sizes l.scale) (place_numbers l.last) (table_counts l.rows) fields) read.left);
+          ∙ sym (ap (λ fields. fields_fault (sizes l.format l.scale) (place_numbers l.last) (table_counts l.rows) fields) read.left);
       done = λ free.
           let whole = end_none (fields_left checked) (fault_of checked) (sym ended ∙ free) in
           let counts = takes whole.1 in

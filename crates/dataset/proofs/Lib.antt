@@ -15,12 +15,16 @@ pub mod TableEntries
 pub mod Reported
 pub mod ColumnRanges
 pub mod Bounds
+pub mod OrderLines
 pub mod AllRows
 pub mod Short
 pub mod LetterFault
 pub mod RowsFault
 pub mod HeaderFault
 pub mod RowTaken
+pub mod FieldsLeft
+pub mod LinesTaken
+pub mod LinesPut
 pub mod ColumnFields
 pub mod RowFields
 pub mod Contents

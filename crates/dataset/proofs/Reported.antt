@@ -1,5 +1,5 @@
--- Tables within their scale and the ranges of their columns are determined by their records.
-use Rattle.std.proofs.Common.{◌≡◌, ◌==◌, ℕ, Bool, true, false, List, [], ◌∷◌, ◌++◌, map, refl, sym, ap, subst, ◌∙◌, arith}
+-- Tables within their scale and the ranges of their columns are determined by their records, in each format.
+use Rattle.std.proofs.Common.{◌≡◌, ◌==◌, ℕ, Bool, true, false, List, [], ◌∷◌, ◌++◌, map, codes, lit<, refl, sym, ap, subst, ◌∙◌, arith}
 use Rattle.std.specs.Prelude.{if◌then◌else◌}
 use Rattle.std.specs.List.{AllByRecursion, AllZip, flat_map}
 use Rattle.std.specs.List.Sorted.{IsStrictlySortedBy}
@@ -7,12 +7,18 @@ use Rattle.std.specs.Map.{keys_of}
 use Rattle.std.specs.declared.cmp.Ordering.TheVariants.{Less}
 use Rattle.std.specs.FinMap.{entries, same_entries_map}
 use Rattle.std.proofs.lemmas.Cmp.{tied_itself}
-use Rattle.std.proofs.lemmas.Fmt.{decimal_injective}
+use Rattle.std.specs.Str.{bytes_eq}
+use Rattle.std.proofs.lemmas.Fmt.{decimal_digit, decimal_injective}
 use Rattle.std.proofs.lemmas.List.{append-nil}
 use Rattle.std.proofs.lemmas.Slice.Zip.{AllZip-long}
 use mathlib.Core.HLevel.{Σ_prop_path}
 use native.Mathlib.Bridge.{le_prop}
 use Rattle.rows.specs.declared.keys.DistrictKey.{DistrictKey}
+use Rattle.rows.specs.declared.keys.OrderKey.{OrderKey}
+use Rattle.rows.specs.declared.keys.OrderLineKey.{OrderLineKey}
+use Rattle.rows.specs.declared.records.Order.{Order}
+use Rattle.rows.specs.declared.records.OrderLine.{OrderLine}
+use Rattle.schema.specs.Consistency.{lines_of}
 use Rattle.rows.specs.declared.records.History.{History}
 use Rattle.rows.specs.Keys.{district_cmp}
 use Rattle.schema.specs.declared.scale.Scale.{Scale}
@@ -21,31 +27,36 @@ use Rattle.schema.specs.Scale.{has_district}
 use Rattle.schema.specs.Database.{Database, IsWithinScale}
 use Rattle.schema.proofs.KeyOrders.{districts_total, districts_exact}
 use Rattle.schema.proofs.EachRows.{keys_ascend}
+use Rattle.dataset.specs.declared.format.Format.{Format}
+use Rattle.dataset.specs.declared.format.Format.TheVariants.{One, Two}
+use Rattle.dataset.specs.Formats.{IsWithinFormat}
 use Rattle.dataset.specs.Columns.{Table, Items, Warehouses, Districts, Stocks, Customers, Histories, Orders, NewOrders, Lines, sizes, table_number}
 use Rattle.dataset.specs.Ranges.{InRange}
 use Rattle.dataset.specs.RecordLaws.{RecordsReportTables}
-use Rattle.dataset.specs.Records.{IsSpelt, AreSpelt, AreRecords, records, records_by_table, header_fields, end_fields}
+use Rattle.dataset.specs.Records.{IsSpelt, AreSpelt, AreRecordsIn, records, records_by_table, header_fields, end_fields, lines_in_order}
 use Rattle.dataset.specs.TableRow.{TableRow, RowFits, kind_rows, record_rows, row_fields, rows_read}
 use Rattle.dataset.proofs.AllRows.{all_records, all_rows, entries_at, records_of_rows, rows_at, rows_fit, rows_of}
-use Rattle.dataset.proofs.Contents.{entries_of, of_entries, of_table, with_row}
+use Rattle.dataset.proofs.Contents.{entries_of, lines_of_format, of_entries, of_table, with_row}
 use Rattle.dataset.proofs.EachTable.{EntryOf, all_tables, get_made, make, number_made, number_of_row}
 use Rattle.dataset.proofs.Keys.{all-weaker}
-use Rattle.dataset.proofs.LetterFault.{kind_of_letter}
+use Rattle.dataset.proofs.OrderLines.{lines_grouped}
 use Rattle.dataset.proofs.Payments.{all-payments, payments_of}
 use Rattle.dataset.proofs.RowFields.{row_reads}
 use Rattle.dataset.proofs.TableEntries.{same_keys}
 
 -- ---- what the rows of tables are read as
 
-pub read_all : (scale : Scale) (rows : List TableRow) (texts : List (List (List ℕ))) → AllByRecursion (RowFits scale) rows → AllZip AreSpelt (map row_fields rows) texts → rows_read (sizes scale) texts ≡ rows
-read_all scale [] [] fit spelt = refl
-read_all scale [] (text ∷ texts) fit spelt = absurd spelt
-read_all scale (row ∷ rows) [] fit spelt = absurd spelt
-read_all scale (row ∷ rows) (text ∷ texts) fit spelt =
-    let r = row_reads scale row text fit.0 spelt.0 in
-    let first : record_rows (sizes scale) text ≡ row ∷ [] =
-    ap (record_rows (sizes scale)) r.are ∙ ap (λ k. kind_rows (sizes scale) k r.fields) (kind_of_letter r.table) ∙ ap (λ x. x ∷ []) r.is_row in
-    ap (λ l. l ++ rows_read (sizes scale) texts) first ∙ ap (λ l. row ∷ l) (read_all scale rows texts fit.1 spelt.1)
+pub read_all : (format : Format) (scale : Scale) (rows : List TableRow) (texts : List (List (List ℕ))) → AllByRecursion (RowFits format scale) rows → AllZip AreSpelt (map row_fields rows) texts
+    → rows_read (sizes format scale) texts ≡ rows
+read_all format scale [] [] fit spelt = refl
+read_all format scale [] (text ∷ texts) fit spelt = absurd spelt
+read_all format scale (row ∷ rows) [] fit spelt = absurd spelt
+read_all format scale (row ∷ rows) (text ∷ texts) fit spelt =
+    let s = sizes format scale in
+    let r = row_reads format scale row text fit.0 spelt.0 in
+    let first : record_rows s text ≡ row ∷ [] =
+    ap (record_rows s) r.are ∙ ap (λ k. kind_rows s k r.fields) r.is_kind ∙ ap (λ x. x ∷ []) r.is_row in
+    ap (λ l. l ++ rows_read s texts) first ∙ ap (λ l. row ∷ l) (read_all format scale rows texts fit.1 spelt.1)
 
 -- ---- what each table has of all rows
 
@@ -73,23 +84,23 @@ entries_made : (table : Table) (es : List (EntryOf table)) → entries_of table 
 entries_made table [] = refl
 entries_made table (e ∷ es) = rw (get_made table e) (ap (λ l. e ∷ l) (entries_made table es))
 
-module _ (t : Database) where
+module _ (format : Format) (t : Database) where
   -- among all rows
-  own_rows : (table : Table) → of_table (table_number table) (all_rows t) ≡ rows_at t table
+  own_rows : (table : Table) → of_table (table_number table) (all_rows format t) ≡ rows_at format t table
   unfolding all_rows
   own_rows table =
-      of_parts (table_number table) (rows_at t) all_tables
-      ∙ (λ i. flat_map (λ other. of_part (table_number table) other (table_number other == table_number table) refl (entries_at other t) i) all_tables)
+      of_parts (table_number table) (rows_at format t) all_tables
+      ∙ (λ i. flat_map (λ other. of_part (table_number table) other (table_number other == table_number table) refl (entries_at format other t) i) all_tables)
       ∙ only_one table
     where
-      only_one : (table : Table) → flat_map (λ other. if table_number other == table_number table then rows_at t other else []) all_tables ≡ rows_at t table
-      only_one Items = append-nil (rows_at t Items)
-      only_one table = append-nil (rows_at t table)
+      only_one : (table : Table) → flat_map (λ other. if table_number other == table_number table then rows_at format t other else []) all_tables ≡ rows_at format t table
+      only_one Items = append-nil (rows_at format t Items)
+      only_one table = append-nil (rows_at format t table)
 
-  pub entries_in_all : (table : Table) → entries_of table (all_rows t) ≡ entries_at table t
+  pub entries_in_all : (table : Table) → entries_of table (all_rows format t) ≡ entries_at format table t
   entries_in_all table =
-      sym (entries_made table (entries_of table (all_rows t))) ∙ ap (entries_of table) (sym (of_entries table (all_rows t)) ∙ own_rows table)
-      ∙ entries_made table (entries_at table t)
+      sym (entries_made table (entries_of table (all_rows format t))) ∙ ap (entries_of table) (sym (of_entries table (all_rows format t)) ∙ own_rows table)
+      ∙ entries_made table (entries_at format table t)
 
 -- ---- the payments of districts
 
@@ -137,15 +148,28 @@ same_scale s r w i c =
     Σ_prop_path (λ p. hlevel le_prop) (λ n. (w n, (i n, c n))) in
     λ n. record { warehouses = (pairs n).0.0; items = (pairs n).0.1.0; customers = (pairs n).0.1.1; limits = (pairs n).1 }
 
-pub scale_reported : (s r : Scale) (texts : List (List ℕ)) → AreSpelt (header_fields s) texts → AreSpelt (header_fields r) texts → s ≡ r
-scale_reported s r (a ∷ b ∷ c ∷ d ∷ e ∷ []) h g =
+-- the format and the scale of a header
+pub format_reported : (f g : Format) (s r : Scale) (texts : List (List ℕ)) → AreSpelt (header_fields f s) texts → AreSpelt (header_fields g r) texts → f ≡ g
+format_reported One One s r texts h g = refl
+format_reported Two Two s r texts h g = refl
+format_reported One Two s r (a ∷ b ∷ texts) h g =
+    let clash : true ≡ false = ap (λ w. bytes_eq w (codes "1")) (sym (h.1.0 ∙ decimal_digit 1 (lit< tt)) ∙ g.1.0 ∙ decimal_digit 2 (lit< tt)) in cc
+format_reported Two One s r (a ∷ b ∷ texts) h g =
+    let clash : true ≡ false = ap (λ w. bytes_eq w (codes "2")) (sym (h.1.0 ∙ decimal_digit 2 (lit< tt)) ∙ g.1.0 ∙ decimal_digit 1 (lit< tt)) in cc
+format_reported One Two s r [] h g = absurd h
+format_reported One Two s r (a ∷ []) h g = absurd h.1
+format_reported Two One s r [] h g = absurd h
+format_reported Two One s r (a ∷ []) h g = absurd h.1
+
+pub scale_reported : (f g : Format) (s r : Scale) (texts : List (List ℕ)) → AreSpelt (header_fields f s) texts → AreSpelt (header_fields g r) texts → s ≡ r
+scale_reported f g s r (a ∷ b ∷ c ∷ d ∷ e ∷ []) h g_spelt =
     let limits = s.limits in
     let others = r.limits in
-    let w = decimal_injective s.warehouses r.warehouses (omega (arith, limits.most_warehouses)) (omega (arith, others.most_warehouses)) (sym h.1.1.0 ∙ g.1.1.0) in
-    let i = decimal_injective s.items r.items (omega (arith, limits.most_items)) (omega (arith, others.most_items)) (sym h.1.1.1.0 ∙ g.1.1.1.0) in
-    let n = decimal_injective s.customers r.customers (omega (arith, limits.most_customers)) (omega (arith, others.most_customers)) (sym h.1.1.1.1.0 ∙ g.1.1.1.1.0) in
+    let w = decimal_injective s.warehouses r.warehouses (omega (arith, limits.most_warehouses)) (omega (arith, others.most_warehouses)) (sym h.1.1.0 ∙ g_spelt.1.1.0) in
+    let i = decimal_injective s.items r.items (omega (arith, limits.most_items)) (omega (arith, others.most_items)) (sym h.1.1.1.0 ∙ g_spelt.1.1.1.0) in
+    let n = decimal_injective s.customers r.customers (omega (arith, limits.most_customers)) (omega (arith, others.most_customers)) (sym h.1.1.1.1.0 ∙ g_spelt.1.1.1.1.0) in
     same_scale s r w i n
-scale_reported s r texts h g = let long = AllZip-long IsSpelt (header_fields s) texts h in absurd (omega arith)
+scale_reported f g s r texts h g_spelt = let long = AllZip-long IsSpelt (header_fields f s) texts h in absurd (omega arith)
 
 -- ---- all tables
 
@@ -172,23 +196,40 @@ spelt_init R (w ∷ v ∷ xs) x (y ∷ []) h = absurd h.1
 spelt_init R (w ∷ xs) x (y ∷ z ∷ ys) h = (h.0, spelt_init R xs x (z ∷ ys) h.1)
 
 -- the rows of the records after the header, without the last record
-pub rows_reported : (t : Database) → IsWithinScale t → InRange t → (header : List (List ℕ)) (body : List (List (List ℕ))) → AreRecords t (header ∷ body)
-    → AreSpelt (header_fields t.scale) header × (rows_read (sizes t.scale) (init body) ≡ all_rows t)
-unfolding AreRecords records
-rows_reported t within range header body h =
-    let spelt : AllZip AreSpelt (all_records t) (init body) = spelt_init AreSpelt (all_records t) (end_fields (records_by_table t)) body h.1 in
-    (h.0, read_all t.scale (all_rows t) (init body) (rows_fit t within range) (subst (λ fields. AllZip AreSpelt fields (init body)) (sym (records_of_rows t)) spelt))
+pub rows_reported : (format : Format) (t : Database) → IsWithinScale t → InRange t → (header : List (List ℕ)) (body : List (List (List ℕ))) → AreRecordsIn format t (header ∷ body)
+    → AreSpelt (header_fields format t.scale) header × (rows_read (sizes format t.scale) (init body) ≡ all_rows format t)
+unfolding AreRecordsIn records
+rows_reported format t within range header body h =
+    let spelt : AllZip AreSpelt (all_records format t) (init body) = spelt_init AreSpelt (all_records format t) (end_fields (records_by_table One t)) body h.1.1 in
+    (h.1.0, read_all format t.scale (all_rows format t) (init body) (rows_fit format t h.0 within range) (subst (λ fields. AllZip AreSpelt fields (init body)) (sym (records_of_rows format t)) spelt))
 
-pub records_report_tables : RecordsReportTables
-unfolding AreRecords records
-records_report_tables t u w v h g [] s r = absurd s
-records_report_tables t u w v h g (header ∷ body) s r =
-    let one = rows_reported t w h header body s in
-    let other = rows_reported u v g header body r in
-    let scale = scale_reported t.scale u.scale header one.0 other.0 in
-    let same : all_rows t ≡ all_rows u = sym one.1 ∙ ap (λ (c : Scale). rows_read (sizes c) (init body)) scale ∙ other.1 in
-    let reported : (table : Table) → entries_at table t ≡ entries_at table u = λ table.
-    sym (entries_in_all t table) ∙ ap (entries_of table) same ∙ entries_in_all u table in
+-- orders without the lines of their records
+orders_alone : (format : Format) (t : Database) (es : List (OrderKey × Order)) → map (λ (e : OrderKey × (Order × List (OrderLineKey × OrderLine))). (e.0, e.1.0)) (map (λ e. (e.0, (e.1, lines_in_order format t e.0))) es) ≡ es
+orders_alone format t [] = refl
+orders_alone format t (e ∷ es) = ap (λ l. e ∷ l) (orders_alone format t es)
+
+pub orders_at : (format : Format) (t : Database) → map (λ (e : EntryOf Orders). (e.0, e.1.0)) (entries_at format Orders t) ≡ entries t.orders
+orders_at format t = orders_alone format t (entries t.orders)
+
+-- the lines of all orders
+lines_together : (t : Database) (es : List (OrderKey × Order)) → flat_map (λ (e : OrderKey × (Order × List (OrderLineKey × OrderLine))). e.1.1) (map (λ e. (e.0, (e.1, lines_of t e.0))) es) ≡ flat_map (λ e. lines_of t e.0) es
+lines_together t [] = refl
+lines_together t (e ∷ es) = ap (λ l. lines_of t e.0 ++ l) (lines_together t es)
+
+pub lines_in_all : (format : Format) (t : Database) → IsWithinScale t → lines_of_format format (all_rows format t) ≡ entries t.lines
+lines_in_all One t within = entries_in_all One t Lines
+lines_in_all Two t within = ap (flat_map (λ (e : EntryOf Orders). e.1.1)) (entries_in_all Two t Orders) ∙ lines_together t (entries t.orders) ∙ lines_grouped t within
+
+records_tell : (format : Format) (t u : Database) → IsWithinScale t → IsWithinScale u → InRange t → InRange u → (rows : List (List (List ℕ))) → AreRecordsIn format t rows → AreRecordsIn format u rows → t ≡ u
+unfolding AreRecordsIn records
+records_tell format t u w v h g [] s r = absurd s.1
+records_tell format t u w v h g (header ∷ body) s r =
+    let one = rows_reported format t w h header body s in
+    let other = rows_reported format u v g header body r in
+    let scale = scale_reported format format t.scale u.scale header one.0 other.0 in
+    let same : all_rows format t ≡ all_rows format u = sym one.1 ∙ ap (λ (c : Scale). rows_read (sizes format c) (init body)) scale ∙ other.1 in
+    let reported : (table : Table) → entries_at format table t ≡ entries_at format table u = λ table.
+    sym (entries_in_all format t table) ∙ ap (entries_of table) same ∙ entries_in_all format u table in
     let items = same_entries_map t.items u.items (reported Items) in
     let warehouses = same_entries_map t.warehouses u.warehouses (reported Warehouses) in
     let districts = same_entries_map t.districts u.districts (reported Districts) in
@@ -197,9 +238,9 @@ records_report_tables t u w v h g (header ∷ body) s r =
     let homes = same_keys districts_total districts_exact t.histories u.histories (λ q. w.histories q ∙ ap (λ (l : Scale). has_district l q) scale ∙ sym (v.histories q)) in
     let lists = same_lists (entries t.histories) (entries u.histories) homes (keys_ascend _ t.histories) (reported Histories) in
     let histories = same_entries_map t.histories u.histories lists in
-    let orders = same_entries_map t.orders u.orders (reported Orders) in
+    let orders = same_entries_map t.orders u.orders (sym (orders_at format t) ∙ ap (map (λ (e : EntryOf Orders). (e.0, e.1.0))) (reported Orders) ∙ orders_at format u) in
     let new_orders = same_entries_map t.new_orders u.new_orders (reported NewOrders) in
-    let lines = same_entries_map t.lines u.lines (reported Lines) in
+    let lines = same_entries_map t.lines u.lines (sym (lines_in_all format t w) ∙ ap (lines_of_format format) same ∙ lines_in_all format u v) in
     λ i. record {
       scale = scale i;
       items = items i;
@@ -212,3 +253,13 @@ records_report_tables t u w v h g (header ∷ body) s r =
       new_orders = new_orders i;
       lines = lines i;
     }
+
+-- records of one format are those of no other
+pub same_format : (f g : Format) (t u : Database) (rows : List (List (List ℕ))) → AreRecordsIn f t rows → AreRecordsIn g u rows → f ≡ g
+unfolding AreRecordsIn records
+same_format f g t u [] h k = absurd h.1
+same_format f g t u (header ∷ body) h k = format_reported f g t.scale u.scale header h.1.0 k.1.0
+
+pub records_report_tables : RecordsReportTables
+records_report_tables t u w v h g one other rows s r =
+    records_tell other t u w v h g rows (subst (λ f. AreRecordsIn f t rows) (same_format one other t u rows s r) s) r

@@ -14,11 +14,11 @@ use Rattle.std.specs.BTreeSet.{BTreeSet}
 use Rattle.schema.proofs.EachRows.{keys_ascend}
 use Rattle.dataset.proofs.Order.{turned}
 
-all-both : {X : Type 0} (P Q S : X → Type 0) → ((x : X) → P x → Q x → S x) → (xs : List X) → AllByRecursion P xs → AllByRecursion Q xs → AllByRecursion S xs
+pub all-both : {X : Type 0} (P Q S : X → Type 0) → ((x : X) → P x → Q x → S x) → (xs : List X) → AllByRecursion P xs → AllByRecursion Q xs → AllByRecursion S xs
 all-both P Q S f [] h g = tt
 all-both P Q S f (x ∷ xs) h g = (f x h.0 g.0, all-both P Q S f xs h.1 g.1)
 
-all-of_values : {K X : Type 0} (P : X → Type 0) (es : List (K × X)) → AllByRecursion P (map (λ e. e.1) es) → AllByRecursion (λ e. P e.1) es
+pub all-of_values : {K X : Type 0} (P : X → Type 0) (es : List (K × X)) → AllByRecursion P (map (λ e. e.1) es) → AllByRecursion (λ e. P e.1) es
 all-of_values P [] h = tt
 all-of_values P (e ∷ es) h = (h.0, all-of_values P es h.1)
 

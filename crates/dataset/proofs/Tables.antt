@@ -10,12 +10,16 @@ use Rattle.std.proofs.lemmas.List.{length-append, length-map}
 use Rattle.std.proofs.lemmas.List.Sums.{sum-map, sum_by-cons}
 use Rattle.std.proofs.lemmas.Slice.Zip.{firsts-zip, length-zip}
 use Rattle.rows.specs.declared.keys.DistrictKey.{DistrictKey}
+use Rattle.rows.specs.declared.keys.OrderKey.{OrderKey}
+use Rattle.rows.specs.declared.keys.OrderLineKey.{OrderLineKey}
 use Rattle.rows.specs.declared.records.Item.{Item}
 use Rattle.rows.specs.declared.records.Warehouse.{Warehouse}
 use Rattle.rows.specs.declared.records.District.{District}
 use Rattle.rows.specs.declared.records.Stock.{Stock}
 use Rattle.rows.specs.declared.records.Customer.{Customer}
 use Rattle.rows.specs.declared.records.History.{History}
+use Rattle.rows.specs.declared.records.Order.{Order}
+use Rattle.rows.specs.declared.records.OrderLine.{OrderLine}
 use Rattle.rows.specs.Keys.{order_cmp, line_cmp}
 use Rattle.schema.specs.declared.scale.Scale.{Scale}
 use Rattle.schema.specs.declared.table_rows.TableRows.{TableRows}
@@ -24,8 +28,11 @@ use Rattle.schema.specs.Rows.{database, HasCounts}
 use Rattle.schema.proofs.KeyOrders.{orders_total, lines_total}
 use Rattle.schema.proofs.OrderedParts.{entries-ordered}
 use Rattle.schema.proofs.ScalePlaces.{length-item_ids, length-warehouse_ids, length-district_keys, length-stock_keys, length-customer_keys}
-use Rattle.dataset.specs.Records.{Field, Words, Number, AreSpelt, AreRecords, row_records, table_records, payment_records, records, records_by_table, end_fields, header_fields, item_fields, warehouse_fields, district_fields, stock_fields, customer_fields, history_fields, order_fields, new_order_fields, line_fields}
-use Rattle.dataset.specs.Writing.{count_fields}
+use Rattle.dataset.specs.declared.format.Format.{Format}
+use Rattle.dataset.specs.declared.format.Format.TheVariants.{One, Two}
+use Rattle.dataset.specs.Formats.{IsWithinFormat}
+use Rattle.dataset.specs.Records.{Field, Words, Number, AreSpelt, AreRecordsIn, order_records, line_records, row_records, table_records, payment_records, records, records_by_table, end_fields, header_fields, item_fields, warehouse_fields, district_fields, stock_fields, customer_fields, history_fields, order_fields, new_order_fields, line_fields}
+use Rattle.dataset.specs.Writing.{count_fields, records_with}
 use Rattle.dataset.proofs.Keys.{AreScaleKeys, customers_of_scale, districts_of_scale, items_of_scale, stocks_of_scale, warehouses_of_scale}
 
 -- the entries of a table whose rows are in key order
@@ -66,28 +73,39 @@ customers_of scale customers = row_records customer_fields (zip (customer_keys s
 abbrev pub histories_of : Scale → List (List History) → List (List Field)
 histories_of scale lists = payment_records (zip (district_keys scale) lists)
 
+-- the records of orders that are rows of a format, with those of these lines that are their own in format 2
+abbrev pub orders_of : Format → List (OrderLineKey × OrderLine) → List (OrderKey × Order) → List (List Field)
+orders_of One lines orders = row_records order_fields orders
+orders_of Two lines orders = records_with lines orders
+
+-- the records of the lines, which format 2 does not have
+abbrev pub lines_apart : Format → List (OrderLineKey × OrderLine) → List (List Field)
+lines_apart One lines = row_records line_fields lines
+lines_apart Two lines = []
+
+-- the records of six tables, whose rows are in key order, followed by others
+abbrev dense_then : Scale → TableRows → List (List (List Field)) → List (List (List Field))
+dense_then scale rows others =
+    items_of scale rows.items.items ∷ warehouses_of scale rows.warehouses.items ∷ districts_of scale rows.districts.items
+    ∷ stocks_of scale rows.stocks.items ∷ customers_of scale rows.customers.items ∷ histories_of scale rows.histories.items ∷ others
+
+-- the records of these rows in a format, table by table
+abbrev pub rows_by_table : Format → Scale → TableRows → List (List (List Field))
+rows_by_table format scale rows =
+    dense_then scale rows
+    (orders_of format rows.lines rows.orders.entries ∷ row_records new_order_fields rows.new_orders.entries ∷ lines_apart format rows.lines ∷ [])
+
+-- the records of the three other tables, by ascending keys
+abbrev pub ordered_by_table : Format → Scale → TableRows → List (List (List Field))
+ordered_by_table format scale rows =
+    order_records format (database scale rows) ∷ table_records new_order_fields (database scale rows).new_orders
+    ∷ line_records format (database scale rows) ∷ []
+
+-- those of the six and of the three
+abbrev pub sorted_by_table : Format → Scale → TableRows → List (List (List Field))
+sorted_by_table format scale rows = dense_then scale rows (ordered_by_table format scale rows)
+
 module _ (scale : Scale) (rows : TableRows) where
-  -- the records of six tables, whose rows are in key order, followed by others
-  abbrev dense_then : List (List (List Field)) → List (List (List Field))
-  dense_then others =
-      items_of scale rows.items.items ∷ warehouses_of scale rows.warehouses.items ∷ districts_of scale rows.districts.items
-      ∷ stocks_of scale rows.stocks.items ∷ customers_of scale rows.customers.items ∷ histories_of scale rows.histories.items ∷ others
-
-  -- the records of these rows, table by table
-  abbrev pub rows_by_table : List (List (List Field))
-  rows_by_table =
-      dense_then (row_records order_fields rows.orders.entries ∷ row_records new_order_fields rows.new_orders.entries ∷ row_records line_fields rows.lines ∷ [])
-
-  -- the records of the three other tables, by ascending keys
-  abbrev pub ordered_by_table : List (List (List Field))
-  ordered_by_table =
-      table_records order_fields (database scale rows).orders ∷ table_records new_order_fields (database scale rows).new_orders
-      ∷ table_records line_fields (database scale rows).lines ∷ []
-
-  -- those of the six and of the three
-  abbrev pub sorted_by_table : List (List (List Field))
-  sorted_by_table = dense_then ordered_by_table
-
   module _ (counts : HasCounts scale rows) where
     pub item_count : length rows.items.items ≡ length (item_ids scale)
     item_count = counts.items ∙ sym (length-item_ids scale)
@@ -110,7 +128,7 @@ module _ (scale : Scale) (rows : TableRows) where
     zip_count : {K X : Type 0} (fields : K → X → List Field) (ks : List K) (xs : List X) → length xs ≡ length ks → length (row_records fields (zip ks xs)) ≡ length xs
     zip_count fields ks xs even = omega (arith, length-map (zip ks xs) (λ e. fields e.0 e.1), length-zip ks xs, even)
 
-    counted : end_fields rows_by_table ≡ count_fields rows
+    counted : end_fields (rows_by_table One scale rows) ≡ count_fields rows
     counted i =
         Words (codes "END") ∷ Number (zip_count item_fields (item_ids scale) rows.items.items item_count i)
         ∷ Number (zip_count warehouse_fields (warehouse_ids scale) rows.warehouses.items warehouse_count i)
@@ -122,41 +140,49 @@ module _ (scale : Scale) (rows : TableRows) where
         ∷ Number (length-map rows.new_orders.entries (λ e. new_order_fields e.0 e.1) i)
         ∷ Number (length-map rows.lines (λ e. line_fields e.0 e.1) i) ∷ []
 
-    sorted : records_by_table (database scale rows) ≡ sorted_by_table
+    sorted : (format : Format) → records_by_table format (database scale rows) ≡ sorted_by_table format scale rows
     unfolding records_by_table
-    sorted i =
+    sorted format i =
         row_records item_fields (dense (items_of_scale scale) rows.items.items item_count i)
         ∷ row_records warehouse_fields (dense (warehouses_of_scale scale) rows.warehouses.items warehouse_count i)
         ∷ row_records district_fields (dense (districts_of_scale scale) rows.districts.items district_count i)
         ∷ row_records stock_fields (dense (stocks_of_scale scale) rows.stocks.items stock_count i)
         ∷ row_records customer_fields (dense (customers_of_scale scale) rows.customers.items customer_count i)
         ∷ payment_records (dense (districts_of_scale scale) rows.histories.items history_count i)
-        ∷ ordered_by_table
+        ∷ ordered_by_table format scale rows
 
     -- the tables' records are the header, those, and the end
-    pub records-sorted : records (database scale rows) ≡ (header_fields scale ∷ []) ++ (flat_map (λ part. part) sorted_by_table ++ (end_fields (records_by_table (database scale rows)) ∷ []))
+    pub records-sorted : (format : Format) → records format (database scale rows)
+        ≡ (header_fields format scale ∷ []) ++ (flat_map (λ part. part) (sorted_by_table format scale rows) ++ (end_fields (records_by_table One (database scale rows)) ∷ []))
     unfolding records
-    records-sorted = ap (λ parts. (header_fields scale ∷ []) ++ (flat_map (λ part. part) parts ++ (end_fields (records_by_table (database scale rows)) ∷ []))) sorted
+    records-sorted format =
+        ap (λ parts. (header_fields format scale ∷ []) ++ (flat_map (λ part. part) parts ++ (end_fields (records_by_table One (database scale rows)) ∷ []))) (sorted format)
 
     module _ (orders : IsOrdered order_cmp rows.orders) (new_orders : IsOrdered order_cmp rows.new_orders) (lines : IsStrictlySortedBy line_cmp (keys_of rows.lines)) where
-      by_table : records_by_table (database scale rows) ≡ rows_by_table
-      by_table =
-          sorted
-          ∙ ap dense_then (λ i.
-          row_records order_fields (entries-ordered orders_total rows.orders.entries orders i)
-          ∷ row_records new_order_fields (entries-ordered orders_total rows.new_orders.entries new_orders i)
-          ∷ row_records line_fields (entries-ordered lines_total rows.lines lines i) ∷ [])
+      by_order : (format : Format) → order_records format (database scale rows) ≡ orders_of format rows.lines rows.orders.entries
+      by_order One = ap (row_records order_fields) (entries-ordered orders_total rows.orders.entries orders)
+      by_order Two = ap (records_with rows.lines) (entries-ordered orders_total rows.orders.entries orders)
+
+      by_line : (format : Format) → line_records format (database scale rows) ≡ lines_apart format rows.lines
+      by_line One = ap (row_records line_fields) (entries-ordered lines_total rows.lines lines)
+      by_line Two = refl
+
+      by_table : (format : Format) → records_by_table format (database scale rows) ≡ rows_by_table format scale rows
+      by_table format =
+          sorted format
+          ∙ ap (dense_then scale rows) (λ i.
+          by_order format i ∷ row_records new_order_fields (entries-ordered orders_total rows.new_orders.entries new_orders i) ∷ by_line format i ∷ [])
 
       -- the end is that of the rows
-      pub end-counts : end_fields (records_by_table (database scale rows)) ≡ count_fields rows
-      end-counts = ap end_fields by_table ∙ counted
+      pub end-counts : end_fields (records_by_table One (database scale rows)) ≡ count_fields rows
+      end-counts = ap end_fields (by_table One) ∙ counted
 
       -- so what was written for the rows is the tables' records
-      pub are-records : (written : List (List (List ℕ)))
-          → AllZip AreSpelt ((header_fields scale ∷ flat_map (λ part. part) rows_by_table) ++ (count_fields rows ∷ [])) written → AreRecords (database scale rows) written
-      unfolding records AreRecords
-      are-records written spelt =
-          let all : records (database scale rows) ≡ (header_fields scale ∷ flat_map (λ part. part) rows_by_table) ++ (count_fields rows ∷ []) =
-          ap (λ parts. (header_fields scale ∷ flat_map (λ part. part) parts) ++ (end_fields parts ∷ [])) by_table
-          ∙ ap (λ end. (header_fields scale ∷ flat_map (λ part. part) rows_by_table) ++ (end ∷ [])) counted in
-          subst (λ fields. AllZip AreSpelt fields written) (sym all) spelt
+      pub are-records : (format : Format) → IsWithinFormat format (database scale rows) → (written : List (List (List ℕ)))
+          → AllZip AreSpelt ((header_fields format scale ∷ flat_map (λ part. part) (rows_by_table format scale rows)) ++ (count_fields rows ∷ [])) written
+          → AreRecordsIn format (database scale rows) written
+      unfolding records AreRecordsIn
+      are-records format within written spelt =
+          let all : records format (database scale rows) ≡ (header_fields format scale ∷ flat_map (λ part. part) (rows_by_table format scale rows)) ++ (count_fields rows ∷ []) =
+          (λ i. (header_fields format scale ∷ flat_map (λ part. part) (by_table format i)) ++ (end-counts i ∷ [])) in
+          (within, subst (λ fields. AllZip AreSpelt fields written) (sym all) spelt)

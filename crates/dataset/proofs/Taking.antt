@@ -1,14 +1,12 @@
 -- The fields of a record, some more taken at a time.
-use Rattle.std.proofs.Common.{◌≡◌, ℕ, ◌==◌, Bool, true, false, not, List, [], ◌∷◌, ◌++◌, Option, None, Some, Result, IfOk, codes, IfSome, refl, sym, ap, subst, ◌∙◌, append_assoc}
+use Rattle.std.proofs.Common.{◌≡◌, ◌≤◌, ℕ, ◌==◌, Bool, true, false, not, List, [], ◌∷◌, ◌++◌, Option, None, Some, Result, Ok, Err, OnOk, IfSome, refl, sym, ap, subst, ◌∙◌, append_assoc}
 use Rattle.std.specs.Fmt.{decimal}
 use Rattle.std.proofs.lemmas.List.{append-nil}
 use Rattle.std.specs.Cmp.Lexicographic.{pointwise, bytes_decides}
-use Rattle.std.specs.Option.{ok_or}
 use Rattle.schema.specs.declared.scale.Scale.{Scale}
-use Rattle.files.specs.declared.fault.FaultKind.{FaultKind}
 use Rattle.files.specs.declared.fields.Fields.{Fields}
 use Rattle.files.specs.Taken.{Takes, TakesWell, fault_of, fields_left}
-use Rattle.dataset.specs.Records.{Field, Words, Number, header_fields, IsSpelt, AreSpelt}
+use Rattle.dataset.specs.Records.{Field, Number, scale_fields, IsSpelt, AreSpelt}
 use Rattle.dataset.proofs.Texts.{all_zip-append}
 
 -- texts were taken that spell these fields: a record, by which the fields are found
@@ -50,22 +48,28 @@ not_false false h = absurd cc
 pub same_word : (word other : List ℕ) (differs : Bool) → differs ≡ not (pointwise ◌==◌ word other) → differs ≡ false → word ≡ other
 same_word word other differs is h = (bytes_decides word other).0 (not_false (pointwise ◌==◌ word other) (sym is ∙ h))
 
--- the header of a scale that was made of these numbers
-pub header_spelt : (result : Result Scale FaultKind) (made : Option Scale) (kind : FaultKind) (warehouses items customers : ℕ) (texts : List (List ℕ)) → result ≡ ok_or made kind
-    → IfSome made (λ scale. scale.warehouses ≡ warehouses) → IfSome made (λ scale. scale.items ≡ items) → IfSome made (λ scale. scale.customers ≡ customers)
-    → AreSpelt (Words (codes "TPCC") ∷ Number 1 ∷ Number warehouses ∷ Number items ∷ Number customers ∷ []) texts → IfOk result (λ scale. AreSpelt (header_fields scale) texts)
-header_spelt result (Some scale) kind warehouses items customers texts is w i n spelt =
-    let fields : List Field = header_fields scale in
-    let same : Words (codes "TPCC") ∷ Number 1 ∷ Number warehouses ∷ Number items ∷ Number customers ∷ [] ≡ fields =
-    λ j. Words (codes "TPCC") ∷ Number 1 ∷ Number (sym w j) ∷ Number (sym i j) ∷ Number (sym n j) ∷ [] in
-    subst (λ r. IfOk r (λ scale. AreSpelt (header_fields scale) texts)) (sym is) (subst (λ l. AreSpelt l texts) same spelt)
-header_spelt result None kind warehouses items customers texts is w i n spelt = subst (λ r. IfOk r (λ scale. AreSpelt (header_fields scale) texts)) (sym is) tt
+-- the scale that was made of these numbers
+pub scale_spelt : (made : Option Scale) (warehouses items customers most : ℕ) (texts : List (List ℕ))
+    → IfSome made (λ scale. scale.warehouses ≡ warehouses) → IfSome made (λ scale. scale.items ≡ items) → IfSome made (λ scale. scale.customers ≡ customers) → warehouses ≤ most
+    → AreSpelt (Number warehouses ∷ Number items ∷ Number customers ∷ []) texts → IfSome made (λ scale. (scale.warehouses ≤ most) × AreSpelt (scale_fields scale) texts)
+scale_spelt (Some scale) warehouses items customers most texts w i n within spelt =
+    let same : Number warehouses ∷ Number items ∷ Number customers ∷ [] ≡ scale_fields scale = λ j. Number (sym w j) ∷ Number (sym i j) ∷ Number (sym n j) ∷ [] in
+    (subst (λ x. x ≤ most) (sym w) within, subst (λ l. AreSpelt l texts) same spelt)
+scale_spelt None warehouses items customers most texts w i n within spelt = tt
 
 -- where no field is left, what was taken is the whole
 pub all_spelt : {fields : List Field} (old new : Fields) → TakesFields fields old new → fault_of new ≡ None → fields_left new ≡ [] → AreSpelt fields (fields_left old)
 all_spelt {fields} old new takes faultless none =
     let took = takes.well faultless in
     subst (AreSpelt fields) (sym (took.left ∙ ap (λ l. took.texts ++ l) none ∙ append-nil took.texts)) took.are_said
+
+-- and there was no fault before
+pub none_before : {fields : List Field} (old new : Fields) → TakesFields fields old new → fault_of new ≡ None → fault_of old ≡ None
+none_before old new takes faultless = (takes.well faultless).faultless
+
+pub on_any_ok : {T E P : Type 0} (r : Result T E) → P → OnOk r P
+on_any_ok (Ok t) p = p
+on_any_ok (Err e) p = tt
 
 -- a count, by the number that was expected
 pub takes-counted : {old : Fields} (count expected : ℕ) (new : Fields) → expected ≡ count → TakesWell old new (decimal expected) → TakesFields (Number count ∷ []) old new

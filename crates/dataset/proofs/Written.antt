@@ -8,7 +8,8 @@ use Rattle.files.specs.Sending.{Begins, BeginsToWrite, Sends, Writes}
 use Rattle.files.specs.Written.{record_text, csv_text}
 use Rattle.files.proofs.Sent.{begins_none, sends_none, sends_on}
 use Rattle.files.proofs.Texts.{begins-end, csv_text-append, sent-end}
-use Rattle.dataset.specs.Records.{Field, AreSpelt, AreRecords, AreFirstRecords, records}
+use Rattle.dataset.specs.declared.format.Format.TheVariants.{Two}
+use Rattle.dataset.specs.Records.{Field, AreSpelt, AreFirstRecords2, AreRecords2, AreRecordsIn, records}
 use Rattle.dataset.specs.Writing.{Adds, Puts, StopsIn}
 use Rattle.dataset.proofs.Texts.{all_zip-append}
 
@@ -147,26 +148,26 @@ module _ {all : List (List Field)} {before mid : Option (List ℕ)} {old left : 
 -- ---- the records of tables, where no text was gathered before
 
 module _ (t : Database) (before mid : Option (List ℕ)) (old : List ℕ) (none : old ≡ []) where
-  spelt-records : (rows : List (List (List ℕ))) → AllZip AreSpelt (records t) rows → AreRecords t rows
-  unfolding AreRecords
-  spelt-records rows spelt = spelt
+  spelt-records : (rows : List (List (List ℕ))) → AllZip AreSpelt (records Two t) rows → AreRecords2 t rows
+  unfolding AreRecordsIn
+  spelt-records rows spelt = (tt, spelt)
 
   -- the first of them were written
-  pub begun-records : StopsIn before mid old (records t) → BeginsToWrite before mid (AreFirstRecords t)
+  pub begun-records : StopsIn before mid old (records Two t) → BeginsToWrite before mid (AreFirstRecords2 t)
   begun-records h =
-      let cut : take (length h.first) (records t) ≡ h.first = ap (take (length h.first)) h.parts ∙ take-append_seam h.first h.others in
+      let cut : take (length h.first) (records Two t) ≡ h.first = ap (take (length h.first)) h.parts ∙ take-append_seam h.first h.others in
       (h.rows, (length h.first, subst (λ l. AllZip AreSpelt l h.rows) (sym cut) h.are_spelt), subst (λ l. Begins before mid (l ++ csv_text h.rows)) none h.begins)
 
-  module _ (left : List ℕ) (h : Puts before mid old left (records t)) (after : Option (List ℕ)) where
+  module _ (left : List ℕ) (h : Puts before mid old left (records Two t)) (after : Option (List ℕ)) where
     sends : Sends before mid (csv_text h.rows) left
     sends = subst (λ l. Sends before mid (l ++ csv_text h.rows) left) none h.sends
 
     -- all of them, since what was gathered was sent too
-    pub written-records : Sends mid after left [] → Writes before after (AreRecords t)
+    pub written-records : Sends mid after left [] → Writes before after (AreRecords2 t)
     written-records rest = (h.rows, spelt-records h.rows h.are_spelt, sent-end before mid after h.rows left sends rest)
 
     -- a beginning, since a beginning of what was gathered was sent
-    pub begun-last : Begins mid after left → BeginsToWrite before after (AreFirstRecords t)
+    pub begun-last : Begins mid after left → BeginsToWrite before after (AreFirstRecords2 t)
     begun-last begun =
-        let cut : take (length (records t)) (records t) ≡ records t = take-length (records t) in
-        (h.rows, (length (records t), subst (λ l. AllZip AreSpelt l h.rows) (sym cut) h.are_spelt), begins-end before mid after h.rows left sends begun)
+        let cut : take (length (records Two t)) (records Two t) ≡ records Two t = take-length (records Two t) in
+        (h.rows, (length (records Two t), subst (λ l. AllZip AreSpelt l h.rows) (sym cut) h.are_spelt), begins-end before mid after h.rows left sends begun)

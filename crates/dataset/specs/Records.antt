@@ -1,5 +1,5 @@
 -- The records of a dataset: its header, the rows of the nine tables, and its end.
-use Rattle.std.specs.Prelude.{◌≡◌, ℕ, ℤ, List, [], ◌∷◌, ◌++◌, length, map, Option, Some, None, codes, if◌then◌else◌}
+use Rattle.std.specs.Prelude.{◌≡◌, ◌≤◌, ◌⊎◌, ℕ, ℤ, List, [], ◌∷◌, ◌++◌, length, map, Option, Some, None, codes, if◌then◌else◌}
 use Rattle.std.specs.Fmt.{decimal, signed_decimal}
 use Rattle.std.specs.List.{flat_map, AllZip}
 use Rattle.std.specs.declared.cmp.Ordering.{Ordering}
@@ -21,6 +21,10 @@ use Rattle.rows.specs.declared.records.NewOrder.{NewOrder}
 use Rattle.rows.specs.declared.records.OrderLine.{OrderLine}
 use Rattle.schema.specs.declared.scale.Scale.{Scale}
 use Rattle.schema.specs.Database.{Database}
+use Rattle.schema.specs.Consistency.{lines_of}
+use Rattle.dataset.specs.declared.format.Format.{Format}
+use Rattle.dataset.specs.declared.format.Format.TheVariants.{One, Two}
+use Rattle.dataset.specs.Formats.{IsWithinFormat, format_number, most_warehouses}
 use Rattle.files.specs.MomentText.{IsMomentText}
 use Rattle.files.specs.Place.{Rows}
 use Rattle.files.specs.Sending.{OfFirst}
@@ -147,7 +151,7 @@ customer_fields key row = Words (codes "C") ∷ customer_key_fields key ++ custo
 abbrev pub history_fields : DistrictKey → History → List Field
 history_fields home row = Words (codes "H") ∷ district_key_fields home ++ history_columns row
 
--- ORDER, by O_W_ID, O_D_ID and O_ID
+-- ORDER, by O_W_ID, O_D_ID and O_ID, without lines
 abbrev pub order_fields : OrderKey → Order → List Field
 order_fields key row = Words (codes "O") ∷ order_key_fields key ++ order_columns row
 
@@ -160,12 +164,23 @@ abbrev pub line_fields : OrderLineKey → OrderLine → List Field
 line_fields key row =
     Words (codes "L") ∷ Number key.w_id ∷ Number key.d_id ∷ Number key.o_id ∷ Number key.number ∷ line_columns row
 
+-- the lines of an order in its record, each OL_NUMBER and the columns of ORDER-LINE
+abbrev pub lines_fields : List (OrderLineKey × OrderLine) → List Field
+lines_fields lines = flat_map (λ e. Number e.0.number ∷ line_columns e.1) lines
+
+-- ORDER with lines
+abbrev pub order_record : OrderKey → Order → List (OrderLineKey × OrderLine) → List Field
+order_record key row lines = order_fields key row ++ lines_fields lines
+
 -- ---- all records
 
+-- the three numbers of a scale
+abbrev pub scale_fields : Scale → List Field
+scale_fields scale = Number scale.warehouses ∷ Number scale.items ∷ Number scale.customers ∷ []
+
 -- the name and number of the format, and the scale
-abbrev pub header_fields : Scale → List Field
-header_fields scale =
-    Words (codes "TPCC") ∷ Number 1 ∷ Number scale.warehouses ∷ Number scale.items ∷ Number scale.customers ∷ []
+abbrev pub header_fields : Format → Scale → List Field
+header_fields format scale = Words (codes "TPCC") ∷ Number (format_number format) ∷ scale_fields scale
 
 -- one record for each row
 abbrev pub row_records : {K X : Type 0} → (K → X → List Field) → List (K × X) → List (List Field)
@@ -179,22 +194,38 @@ table_records fields rows = row_records fields (table.entries rows)
 abbrev pub payment_records : List (DistrictKey × List History) → List (List Field)
 payment_records lists = flat_map (λ e. map (history_fields e.0) e.1) lists
 
+-- the lines in the record of an order: none in format 1, all of the order in format 2
+abbrev pub lines_in_order : Format → Database → OrderKey → List (OrderLineKey × OrderLine)
+lines_in_order One t key = []
+lines_in_order Two t key = lines_of t key
+
+-- the records of the orders, by ascending keys
+abbrev pub order_records : Format → Database → List (List Field)
+order_records format t = row_records (λ key row. order_record key row (lines_in_order format t key)) (table.entries t.orders)
+
+-- the records of the lines, by ascending keys, which format 2 does not have
+abbrev pub line_records : Format → Database → List (List Field)
+line_records One t = table_records line_fields t.lines
+line_records Two t = []
+
 -- the records of the nine tables, table by table
-unfoldable pub records_by_table : Database → List (List (List Field))
-records_by_table t =
+unfoldable pub records_by_table : Format → Database → List (List (List Field))
+records_by_table format t =
     table_records item_fields t.items ∷ table_records warehouse_fields t.warehouses
     ∷ table_records district_fields t.districts ∷ table_records stock_fields t.stocks
     ∷ table_records customer_fields t.customers ∷ payment_records (table.entries t.histories)
-    ∷ table_records order_fields t.orders ∷ table_records new_order_fields t.new_orders
-    ∷ table_records line_fields t.lines ∷ []
+    ∷ order_records format t ∷ table_records new_order_fields t.new_orders ∷ line_records format t ∷ []
 
 -- END, and the number of records of each table
 abbrev pub end_fields : List (List (List Field)) → List Field
 end_fields tables = Words (codes "END") ∷ map (λ records. Number (length records)) tables
 
--- the header, the records of all tables, and the end
-unfoldable pub records : Database → List (List Field)
-records t = header_fields t.scale ∷ flat_map (λ records. records) (records_by_table t) ++ end_fields (records_by_table t) ∷ []
+-- the header, the records of all tables, and the end; in both formats, the end counts the rows of each table, which are
+-- as many as its records in format 1
+unfoldable pub records : Format → Database → List (List Field)
+records format t =
+    header_fields format t.scale ∷ flat_map (λ records. records) (records_by_table format t)
+    ++ end_fields (records_by_table One t) ∷ []
 
 -- ---- as texts
 
@@ -202,10 +233,27 @@ records t = header_fields t.scale ∷ flat_map (λ records. records) (records_by
 abbrev pub AreSpelt : List Field → List (List ℕ) → Type 0
 AreSpelt fields texts = AllZip IsSpelt fields texts
 
--- these are the records of the tables, each a list of texts
-unfoldable pub AreRecords : Database → Rows → Type 0
-AreRecords t rows = AllZip AreSpelt (records t) rows
+-- the texts are a header of that format and scale
+pub record IsHeader (format : Format) (scale : Scale) (header : List (List ℕ)) : Type 0 where
+  pub within : scale.warehouses ≤ most_warehouses format
+  pub is_spelt : AreSpelt (header_fields format scale) header
 
--- these are the first records of the tables, some number of them
-abbrev pub AreFirstRecords : Database → Rows → Type 0
-AreFirstRecords t rows = OfFirst (λ (first : List (List Field)). AllZip AreSpelt first) (records t) rows
+-- the tables are within the limits of the format, and these are their records in it, each a list of texts
+unfoldable pub AreRecordsIn : Format → Database → Rows → Type 0
+AreRecordsIn format t rows = IsWithinFormat format t × AllZip AreSpelt (records format t) rows
+
+-- these are the records of the tables in format 1
+abbrev pub AreRecords1 : Database → Rows → Type 0
+AreRecords1 t rows = AreRecordsIn One t rows
+
+-- these are the records of the tables in format 2
+abbrev pub AreRecords2 : Database → Rows → Type 0
+AreRecords2 t rows = AreRecordsIn Two t rows
+
+-- these are the records of the tables in either format
+abbrev pub AreRecordsOfEither : Database → Rows → Type 0
+AreRecordsOfEither t rows = AreRecords1 t rows ⊎ AreRecords2 t rows
+
+-- these are the first records of the tables in format 2, some number of them
+abbrev pub AreFirstRecords2 : Database → Rows → Type 0
+AreFirstRecords2 t rows = OfFirst (λ (first : List (List Field)). AllZip AreSpelt first) (records Two t) rows

@@ -1,13 +1,19 @@
 -- The rows of all tables, with their keys.
-use Rattle.std.specs.Prelude.{◌≡◌, ℕ, List, [], ◌∷◌, ◌++◌, ◌==◌, Option, None, Some, IsTrue}
-use Rattle.std.specs.List.{flat_map}
+use Rattle.std.specs.Prelude.{◌≡◌, ◌≤◌, ◌-◌, ℕ, zero, suc, List, [], ◌∷◌, ◌++◌, ◌==◌, Bool, true, ◌&&◌, length, map, Option, None, Some, IsTrue}
+use Rattle.std.specs.List.{AllByRecursion, flat_map}
 use Rattle.std.specs.BTreeMap.{insert_entry}
-use Rattle.rows.specs.Keys.{order_cmp, line_cmp}
+use Rattle.rows.specs.Keys.{order_cmp, line_cmp, order_of_line}
 use Rattle.rows.specs.declared.records.Address.{Address}
 use Rattle.schema.specs.declared.table_rows.TableRows.{TableRows}
+use Rattle.schema.specs.Database.{is_line_number}
 use Rattle.schema.specs.Scale.{district_slot}
+use Rattle.schema.specs.OrderRows.{line_key}
 use Rattle.dataset.specs.declared.loader.Loader.{Loader}
-use Rattle.dataset.specs.Columns.{Sizes, Table, Items, Warehouses, Districts, Stocks, Customers, Histories, Orders, NewOrders, Lines, Kind, Of, Ending, address_columns, customer_key, district_key, info_columns, kind_of, order_key, record_columns}
+use Rattle.dataset.specs.Columns.{Sizes, Table, Items, Warehouses, Districts, Stocks, Customers, Histories, Orders, NewOrders, Lines, Kind, Of, Ending, address_columns, ascend_from, customer_key, district_key, info_columns, kind_of, line_row_columns, lines_columns, order_key, record_columns}
+use Rattle.dataset.specs.Order.{follows}
+use Rattle.dataset.specs.declared.format.Format.{Format}
+use Rattle.dataset.specs.declared.format.Format.TheVariants.{One, Two}
+use Rattle.dataset.specs.Formats.{line_count, most_lines}
 use Rattle.dataset.specs.Payments.{Pays}
 use Rattle.files.specs.Columns.{Values, read_columns}
 use Rattle.rows.specs.declared.keys.DistrictKey.{DistrictKey}
@@ -29,9 +35,9 @@ use Rattle.schema.specs.Scale.{has_item, has_warehouse, has_district, has_stock,
 use Rattle.dataset.specs.declared.place.Place.{Place}
 use Rattle.dataset.specs.declared.place.Place.TheVariants as at
 use Rattle.dataset.specs.Ranges.{ItemInRange, WarehouseInRange, DistrictInRange, StockInRange, CustomerInRange, IsPayment, IsOrderKey, IsOrder, IsLineKey, IsLine}
-use Rattle.dataset.specs.Records.{Field, item_fields, warehouse_fields, district_fields, stock_fields, customer_fields, history_fields, order_fields, new_order_fields, line_fields}
+use Rattle.dataset.specs.Records.{Field, item_fields, warehouse_fields, district_fields, stock_fields, customer_fields, history_fields, order_record, new_order_fields, line_fields}
 
--- a row of any of the nine tables, with its key
+-- a row of any of the nine tables, with its key; an order has the lines that its record contains
 pub data TableRow : Type 0 where
   OfItem : ℕ → Item → TableRow
   OfWarehouse : ℕ → Warehouse → TableRow
@@ -39,7 +45,7 @@ pub data TableRow : Type 0 where
   OfStock : StockKey → Stock → TableRow
   OfCustomer : CustomerKey → Customer → TableRow
   OfHistory : DistrictKey → History → TableRow
-  OfOrder : OrderKey → Order → TableRow
+  OfOrder : OrderKey → Order → List (OrderLineKey × OrderLine) → TableRow
   OfNewOrder : OrderKey → NewOrder → TableRow
   OfLine : OrderLineKey → OrderLine → TableRow
 
@@ -51,7 +57,7 @@ row_fields (OfDistrict key row) = district_fields key row
 row_fields (OfStock key row) = stock_fields key row
 row_fields (OfCustomer key row) = customer_fields key row
 row_fields (OfHistory key row) = history_fields key row
-row_fields (OfOrder key row) = order_fields key row
+row_fields (OfOrder key row lines) = order_record key row lines
 row_fields (OfNewOrder key row) = new_order_fields key row
 row_fields (OfLine key row) = line_fields key row
 
@@ -63,35 +69,67 @@ row_place (OfDistrict key row) = at.District key
 row_place (OfStock key row) = at.Stock key
 row_place (OfCustomer key row) = at.Customer key
 row_place (OfHistory key row) = at.History key
-row_place (OfOrder key row) = at.Order key
+row_place (OfOrder key row lines) = at.Order key
 row_place (OfNewOrder key row) = at.NewOrder key
 row_place (OfLine key row) = at.Line key
 
--- the row's key and the rows that it refers to are within the scale, and its columns are in their ranges
-abbrev pub RowFits : Scale → TableRow → Type 0
-RowFits scale (OfItem key row) = IsTrue (has_item scale key) × ItemInRange row
-RowFits scale (OfWarehouse key row) = IsTrue (has_warehouse scale key) × WarehouseInRange row
-RowFits scale (OfDistrict key row) = IsTrue (has_district scale key) × DistrictInRange row
-RowFits scale (OfStock key row) = IsTrue (has_stock scale key) × StockInRange row
-RowFits scale (OfCustomer key row) = IsTrue (has_customer scale key) × CustomerInRange row
-RowFits scale (OfHistory key row) = IsTrue (has_district scale key) × IsPayment scale row
-RowFits scale (OfOrder key row) = IsOrderKey scale key × IsOrder scale row
-RowFits scale (OfNewOrder key row) = IsOrderKey scale key × Unit {0}
-RowFits scale (OfLine key row) = IsLineKey scale key × IsLine scale row
+-- the numbers of lines
+abbrev pub numbers_of : List (OrderLineKey × OrderLine) → List ℕ
+numbers_of lines = map (λ e. e.0.number) lines
+
+-- whether the numbers of the lines in the row's record, if there are any, ascend
+abbrev pub has_rising_lines : TableRow → Bool
+has_rising_lines (OfOrder key row lines) = ascend_from 0 (numbers_of lines)
+has_rising_lines row = true
+
+-- whether the row's record may directly follow one at the place last
+abbrev pub row_follows : TableRow → Place → Bool
+row_follows row last = has_rising_lines row && follows (row_place row) last
+
+-- the line is of that order and fits the scale, and its number is within the format
+pub record LineFits (format : Format) (scale : Scale) (order : OrderKey) (e : OrderLineKey × OrderLine) : Type 0 where
+  pub of_order : order_of_line e.0 ≡ order
+  pub number : IsTrue (is_line_number e.0.number)
+  pub few : e.0.number ≤ most_lines format
+  pub row : IsLine scale e.1
+
+-- the lines in the record of an order: none in format 1; in format 2 lines that fit, by ascending numbers
+abbrev pub LinesFit : Format → Scale → OrderKey → List (OrderLineKey × OrderLine) → Type 0
+LinesFit One scale order lines = lines ≡ []
+LinesFit Two scale order lines = AllByRecursion (LineFits Two scale order) lines × IsTrue (ascend_from 0 (numbers_of lines))
+
+-- the row is one of ORDER-LINE that has a record in the format
+abbrev pub FormatHasLine : Format → OrderLineKey → Type 0
+FormatHasLine One key = key.number ≤ most_lines One
+FormatHasLine Two key = ⊥
+
+-- the row's key and the rows that it refers to are within the scale, and its columns are in their ranges, as the format
+-- has them
+abbrev pub RowFits : Format → Scale → TableRow → Type 0
+RowFits format scale (OfItem key row) = IsTrue (has_item scale key) × ItemInRange row
+RowFits format scale (OfWarehouse key row) = IsTrue (has_warehouse scale key) × WarehouseInRange row
+RowFits format scale (OfDistrict key row) = IsTrue (has_district scale key) × DistrictInRange row
+RowFits format scale (OfStock key row) = IsTrue (has_stock scale key) × StockInRange row
+RowFits format scale (OfCustomer key row) = IsTrue (has_customer scale key) × CustomerInRange row
+RowFits format scale (OfHistory key row) = IsTrue (has_district scale key) × IsPayment scale row
+RowFits format scale (OfOrder key row lines) =
+    IsOrderKey scale key × IsOrder scale row × (row.ol_cnt ≤ most_lines format) × LinesFit format scale key lines
+RowFits format scale (OfNewOrder key row) = IsOrderKey scale key × Unit {0}
+RowFits format scale (OfLine key row) = IsLineKey scale key × IsLine scale row × FormatHasLine format key
 
 -- ---- a row that is read
 
 -- W_ID and D_ID
-abbrev pub district_key_of : (scale : Sizes) → Values (district_key scale) → DistrictKey
-district_key_of scale v = record { w_id = v.0; d_id = v.1.0 }
+abbrev pub district_key_of : (warehouses : ℕ) → Values (district_key warehouses) → DistrictKey
+district_key_of warehouses v = record { w_id = v.0; d_id = v.1.0 }
 
 -- W_ID, D_ID and C_ID
-abbrev pub customer_key_of : (scale : Sizes) → Values (customer_key scale) → CustomerKey
-customer_key_of scale v = record { w_id = v.0; d_id = v.1.0; c_id = v.1.1.0 }
+abbrev pub customer_key_of : (warehouses customers : ℕ) → Values (customer_key warehouses customers) → CustomerKey
+customer_key_of warehouses customers v = record { w_id = v.0; d_id = v.1.0; c_id = v.1.1.0 }
 
 -- W_ID, D_ID and O_ID
-abbrev pub order_key_of : (scale : Sizes) → Values (order_key scale) → OrderKey
-order_key_of scale v = record { w_id = v.0; d_id = v.1.0; o_id = v.1.1.0 }
+abbrev pub order_key_of : (warehouses : ℕ) → Values (order_key warehouses) → OrderKey
+order_key_of warehouses v = record { w_id = v.0; d_id = v.1.0; o_id = v.1.1.0 }
 
 -- street_1, street_2, city, state and zip
 abbrev pub address_of : Values address_columns → Address
@@ -103,17 +141,31 @@ infos_of v =
     v.0 ∷ v.1.0 ∷ v.1.1.0 ∷ v.1.1.1.0 ∷ v.1.1.1.1.0 ∷ v.1.1.1.1.1.0 ∷ v.1.1.1.1.1.1.0 ∷ v.1.1.1.1.1.1.1.0
     ∷ v.1.1.1.1.1.1.1.1.0 ∷ v.1.1.1.1.1.1.1.1.1.0 ∷ []
 
--- the row, with its key, made from the values of the fields after the letter
-abbrev pub row_of : (scale : Sizes) (table : Table) → Values (record_columns scale table) → TableRow
-row_of scale Items (i_id, (im_id, (name, (price, (words, _))))) = OfItem i_id (record { im_id = im_id; name = name; price = price; «data» = words })
-row_of scale Warehouses (w_id, (name, (street_1, (street_2, (city, (state, (zip, (tax, (ytd, _))))))))) =
+-- the columns of ORDER-LINE after its key
+abbrev pub line_row_of : (items warehouses : ℕ) → Values (line_row_columns items warehouses) → OrderLine
+line_row_of items warehouses (i_id, (supply_w_id, (delivery_d, (quantity, (amount, (dist_info, _)))))) =
+    record { i_id = i_id; supply_w_id = supply_w_id; delivery_d = delivery_d; quantity = quantity; amount = amount; dist_info = dist_info }
+
+-- so many lines of the order
+abbrev pub lines_made : (scale : Sizes) → OrderKey → (n : ℕ) → Values (lines_columns scale n) → List (OrderLineKey × OrderLine)
+lines_made scale order zero v = []
+lines_made scale order (suc n) (number, (i_id, (supply_w_id, (delivery_d, (quantity, (amount, (dist_info, rest))))))) = (
+  line_key order number,
+  record { i_id = i_id; supply_w_id = supply_w_id; delivery_d = delivery_d; quantity = quantity; amount = amount; dist_info = dist_info },
+)
+    ∷ lines_made scale order n rest
+
+-- the row, with its key, made from the values of the fields after the letter, of which there are so many
+abbrev pub row_of : (scale : Sizes) (table : Table) (count : ℕ) → Values (record_columns scale table count) → TableRow
+row_of scale Items count (i_id, (im_id, (name, (price, (words, _))))) = OfItem i_id (record { im_id = im_id; name = name; price = price; «data» = words })
+row_of scale Warehouses count (w_id, (name, (street_1, (street_2, (city, (state, (zip, (tax, (ytd, _))))))))) =
     OfWarehouse w_id (record {
       name = name;
       address = record { street_1 = street_1; street_2 = street_2; city = city; state = state; zip = zip };
       tax = tax;
       ytd = ytd;
     })
-row_of scale Districts (w_id, (d_id, (name, (street_1, (street_2, (city, (state, (zip, (tax, (ytd, (next_o_id, _))))))))))) =
+row_of scale Districts count (w_id, (d_id, (name, (street_1, (street_2, (city, (state, (zip, (tax, (ytd, (next_o_id, _))))))))))) =
     OfDistrict (record { w_id = w_id; d_id = d_id }) (record {
       name = name;
       address = record { street_1 = street_1; street_2 = street_2; city = city; state = state; zip = zip };
@@ -121,7 +173,7 @@ row_of scale Districts (w_id, (d_id, (name, (street_1, (street_2, (city, (state,
       ytd = ytd;
       next_o_id = next_o_id;
     })
-row_of scale Stocks (w_id, (i_id, (quantity, (a, (b, (c, (d, (e, (f, (g, (h, (i, (j, (ytd, (order_cnt, (remote_cnt, (words, _))))))))))))))))) =
+row_of scale Stocks count (w_id, (i_id, (quantity, (a, (b, (c, (d, (e, (f, (g, (h, (i, (j, (ytd, (order_cnt, (remote_cnt, (words, _))))))))))))))))) =
     OfStock (record { w_id = w_id; i_id = i_id }) (record {
       quantity = quantity;
       dist = a ∷ b ∷ c ∷ d ∷ e ∷ f ∷ g ∷ h ∷ i ∷ j ∷ [];
@@ -130,7 +182,7 @@ row_of scale Stocks (w_id, (i_id, (quantity, (a, (b, (c, (d, (e, (f, (g, (h, (i,
       remote_cnt = remote_cnt;
       «data» = words;
     })
-row_of scale Customers (w_id, (d_id, (c_id, (first, (middle, (last, (street_1, (street_2, (city, (state, (zip, (phone, (since, (credit, (credit_lim, (discount, (balance, (ytd_payment, (payment_cnt, (delivery_cnt, (words, _))))))))))))))))))))) =
+row_of scale Customers count (w_id, (d_id, (c_id, (first, (middle, (last, (street_1, (street_2, (city, (state, (zip, (phone, (since, (credit, (credit_lim, (discount, (balance, (ytd_payment, (payment_cnt, (delivery_cnt, (words, _))))))))))))))))))))) =
     OfCustomer (record { w_id = w_id; d_id = d_id; c_id = c_id }) (record {
       first = first;
       middle = middle;
@@ -147,17 +199,19 @@ row_of scale Customers (w_id, (d_id, (c_id, (first, (middle, (last, (street_1, (
       delivery_cnt = delivery_cnt;
       «data» = words;
     })
-row_of scale Histories (w_id, (d_id, (c_w_id, (c_d_id, (c_id, (date, (amount, (words, _)))))))) =
+row_of scale Histories count (w_id, (d_id, (c_w_id, (c_d_id, (c_id, (date, (amount, (words, _)))))))) =
     OfHistory (record { w_id = w_id; d_id = d_id }) (record {
       customer = record { w_id = c_w_id; d_id = c_d_id; c_id = c_id };
       date = date;
       amount = amount;
       «data» = words;
     })
-row_of scale Orders (w_id, (d_id, (o_id, (c_id, (entry_d, (carrier_id, (ol_cnt, (all_local, _)))))))) =
-    OfOrder (record { w_id = w_id; d_id = d_id; o_id = o_id }) (record { c_id = c_id; entry_d = entry_d; carrier_id = carrier_id; ol_cnt = ol_cnt; all_local = all_local == 1 })
-row_of scale NewOrders (w_id, (d_id, (o_id, _))) = OfNewOrder (record { w_id = w_id; d_id = d_id; o_id = o_id }) (record {})
-row_of scale Lines (w_id, (d_id, (o_id, (number, (i_id, (supply_w_id, (delivery_d, (quantity, (amount, (dist_info, _)))))))))) =
+row_of scale Orders count (w_id, (d_id, (o_id, (c_id, (entry_d, (carrier_id, (ol_cnt, (all_local, lines)))))))) =
+    let key : OrderKey = record { w_id = w_id; d_id = d_id; o_id = o_id } in
+    OfOrder key (record { c_id = c_id; entry_d = entry_d; carrier_id = carrier_id; ol_cnt = ol_cnt; all_local = all_local == 1 })
+    (lines_made scale key (line_count scale.format (count - 8)) lines)
+row_of scale NewOrders count (w_id, (d_id, (o_id, _))) = OfNewOrder (record { w_id = w_id; d_id = d_id; o_id = o_id }) (record {})
+row_of scale Lines count (w_id, (d_id, (o_id, (number, (i_id, (supply_w_id, (delivery_d, (quantity, (amount, (dist_info, _)))))))))) =
     OfLine (record { w_id = w_id; d_id = d_id; o_id = o_id; number = number }) (record {
       i_id = i_id;
       supply_w_id = supply_w_id;
@@ -169,7 +223,9 @@ row_of scale Lines (w_id, (d_id, (o_id, (number, (i_id, (supply_w_id, (delivery_
 
 -- the same from the fields themselves; the value of a faulty field is irrelevant
 abbrev pub row_read : (scale : Sizes) (table : Table) → List (List ℕ) → TableRow
-row_read scale table fields = row_of scale table (read_columns (record_columns scale table) (record { left = fields; fault = None })).0
+row_read scale table fields =
+    let count = length fields in
+    row_of scale table count (read_columns (record_columns scale table count) (record { left = fields; fault = None })).0
 
 -- the row of a record of that kind, if it has one
 abbrev pub kind_rows : Sizes → Option Kind → List (List ℕ) → List TableRow
@@ -179,13 +235,18 @@ kind_rows scale (Some (Of table)) fields = row_read scale table fields ∷ []
 
 abbrev pub record_rows : Sizes → List (List ℕ) → List TableRow
 record_rows scale [] = []
-record_rows scale (word ∷ fields) = kind_rows scale (kind_of word) fields
+record_rows scale (word ∷ fields) = kind_rows scale (kind_of scale.format word) fields
 
 -- the rows of these records, in order
 abbrev pub rows_read : Sizes → List (List (List ℕ)) → List TableRow
 rows_read scale records = flat_map (record_rows scale) records
 
 -- ---- a row that is added
+
+-- the lines with others, each stored under its key
+abbrev pub insert_lines : List (OrderLineKey × OrderLine) → List (OrderLineKey × OrderLine) → List (OrderLineKey × OrderLine)
+insert_lines old [] = old
+insert_lines old (e ∷ lines) = insert_lines (insert_entry line_cmp old e.0 e.1) lines
 
 -- new consists of old and the row: at the end of its table, under its key, or at the end of its district's list
 abbrev pub AddsRow : Scale → TableRow → TableRows → TableRows → Type 0
@@ -195,12 +256,15 @@ AddsRow scale (OfDistrict key row) old new = (new ≡ record old { districts = n
 AddsRow scale (OfStock key row) old new = (new ≡ record old { stocks = new.stocks }) × (new.stocks.items ≡ old.stocks.items ++ row ∷ [])
 AddsRow scale (OfCustomer key row) old new = (new ≡ record old { customers = new.customers }) × (new.customers.items ≡ old.customers.items ++ row ∷ [])
 AddsRow scale (OfHistory key row) old new = (new ≡ record old { histories = new.histories }) × Pays (district_slot scale key) row old.histories.items new.histories.items
-AddsRow scale (OfOrder key row) old new = (new ≡ record old { orders = new.orders }) × (new.orders.entries ≡ insert_entry order_cmp old.orders.entries key row)
+AddsRow scale (OfOrder key row lines) old new =
+    (new ≡ record old { orders = new.orders; lines = new.lines }) × (new.orders.entries ≡ insert_entry order_cmp old.orders.entries key row)
+    × (new.lines ≡ insert_lines old.lines lines)
 AddsRow scale (OfNewOrder key row) old new = (new ≡ record old { new_orders = new.new_orders }) × (new.new_orders.entries ≡ insert_entry order_cmp old.new_orders.entries key row)
 AddsRow scale (OfLine key row) old new = (new ≡ record old { lines = new.lines }) × (new.lines ≡ insert_entry line_cmp old.lines key row)
 
 -- the row was added to the loader, which is at the place of its record
 pub record IsAdded (row : TableRow) (l m : Loader) : Type 0 where
+  pub format : m.format ≡ l.format
   pub scale : m.scale ≡ l.scale
   pub last : m.last ≡ row_place row
   pub rows : AddsRow l.scale row l.rows m.rows

@@ -6,7 +6,13 @@ use Rattle.files.specs.Written.{csv_text}
 use Rattle.schema.specs.declared.table_rows.TableRows.{TableRows}
 use Rattle.files.specs.Columns.{Column, Count}
 use Rattle.dataset.specs.Payments.{payment_count}
-use Rattle.dataset.specs.Records.{Field, Words, Number, AreSpelt}
+use Rattle.rows.specs.declared.keys.OrderKey.{OrderKey}
+use Rattle.rows.specs.declared.keys.OrderLineKey.{OrderLineKey}
+use Rattle.rows.specs.declared.records.Order.{Order}
+use Rattle.rows.specs.declared.records.OrderLine.{OrderLine}
+use Rattle.schema.specs.Database.{rows_where, is_of_order}
+use Rattle.schema.specs.OrderRows.{line_table}
+use Rattle.dataset.specs.Records.{Field, Words, Number, AreSpelt, order_record, row_records}
 
 -- texts that spell these fields were appended to a record
 pub record Adds (fields : List Field) (old new : List (List ℕ)) : Type 0 where
@@ -32,6 +38,10 @@ count_columns rows = map (λ count. Count count) (table_counts rows)
 -- the end record of these rows
 abbrev pub count_fields : TableRows → List Field
 count_fields rows = Words (codes "END") ∷ row_counts rows
+
+-- the records of orders in format 2, each with those of these lines that are its own
+abbrev pub records_with : List (OrderLineKey × OrderLine) → List (OrderKey × Order) → List (List Field)
+records_with lines orders = row_records (λ key row. order_record key row (rows_where (is_of_order key) (line_table lines))) orders
 
 -- The effect on a sink if records are written: the text gathered before, followed by that of the records, was sent,
 -- except for new, which is still gathered.

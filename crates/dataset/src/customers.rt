@@ -1,7 +1,7 @@
 ghost use Rattle.std.specs.Prelude.{OnOk};
 ghost use Rattle.schema.specs.Scale.{customer_keys};
 ghost use Rattle.dataset.specs.Records.{customer_key_fields, customer_fields, account_fields};
-ghost use Rattle.dataset.specs.Columns.{Customers, customer_key, sizes};
+ghost use Rattle.dataset.specs.Columns.{Customers, customer_key};
 ghost use Rattle.dataset.specs.TableRow.{customer_key_of};
 ghost use Rattle.dataset.specs.TakenAs.{TakesRow};
 ghost use Rattle.files.specs.Columns.{Reads};
@@ -46,8 +46,8 @@ pub fn take(loader: &mut Loader, fields: &mut Fields) -> Result<(), NoMemory>
 
 /// Takes the three fields of a customer's key.
 pub fn key(fields: &mut Fields, scale: Scale) -> CustomerKey
-    ensures { Reads (customer_key (sizes scale)) (customer_key_of (sizes scale))
-        result fields.old fields.new }
+    ensures { Reads (customer_key scale.warehouses scale.customers)
+        (customer_key_of scale.warehouses scale.customers) result fields.old fields.new }
 {
     CustomerKey {
         w_id: fields.whole(1, scale.warehouses),

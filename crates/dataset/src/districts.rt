@@ -1,7 +1,7 @@
 ghost use Rattle.std.specs.Prelude.{IsTrue, OnOk};
 ghost use Rattle.schema.specs.Scale.{has_district, district_keys};
 ghost use Rattle.dataset.specs.Records.{district_key_fields, district_fields};
-ghost use Rattle.dataset.specs.Columns.{Districts, district_key, sizes};
+ghost use Rattle.dataset.specs.Columns.{Districts, district_key};
 ghost use Rattle.dataset.specs.TableRow.{district_key_of};
 ghost use Rattle.dataset.specs.TakenAs.{TakesRow};
 ghost use Rattle.files.specs.Columns.{Reads};
@@ -37,7 +37,7 @@ pub fn take(loader: &mut Loader, fields: &mut Fields) -> Result<(), NoMemory>
 /// Takes the two fields of a district's key.
 pub fn key(fields: &mut Fields, scale: Scale) -> DistrictKey
     ensures known { IsTrue (has_district scale result) }
-    ensures reads { Reads (district_key (sizes scale)) (district_key_of (sizes scale))
+    ensures reads { Reads (district_key scale.warehouses) (district_key_of scale.warehouses)
         result fields.old fields.new }
 {
     DistrictKey {

@@ -1,4 +1,4 @@
-ghost use Rattle.std.specs.Prelude.{◌≡◌, List, ℕ, [], ◌∷◌, ◌++◌, None, is_none, IfOk, IsOk};
+ghost use Rattle.std.specs.Prelude.{◌≡◌, ◌&&◌, List, ℕ, [], ◌∷◌, ◌++◌, None, is_none, IfOk, IsOk};
 ghost use Rattle.files.specs.Columns.{at_end};
 ghost use Rattle.files.specs.Place.{Rows};
 ghost use Rattle.files.specs.Taken.{fields_left, fault_of};
@@ -7,9 +7,11 @@ ghost use Rattle.dataset.specs.Columns.{or_order};
 ghost use Rattle.dataset.specs.Loading.{HasLoaded, HasReadTables};
 ghost use Rattle.dataset.specs.Order.{follows};
 ghost use Rattle.dataset.specs.Ranges.{InRange};
-ghost use Rattle.dataset.specs.Records.{AreRecords, AreSpelt, header_fields};
+ghost use Rattle.dataset.specs.Records.{AreRecordsOfEither, IsHeader};
 ghost use Rattle.dataset.specs.TakenAs.{IsTakenAs};
 
+use crate::format::Format;
+use crate::header::Header;
 use crate::place::Place;
 use crate::{
     customers, districts, end, histories, items, lines, new_orders, orders, stocks, warehouses,
@@ -25,10 +27,12 @@ pub enum Taken {
     End,
 }
 
-/// The rows of a dataset that have been read so far. A record with a fault adds none.
+/// The rows of a dataset that have been read so far. A record with a fault ends the reading; it adds no
+/// row, except for lines of its order.
 #[derive(Drop)]
 pub struct Loader {
     pub(crate) alloc: Global,
+    pub(crate) format: Format,
     pub(crate) scale: Scale,
     pub(crate) rows: TableRows,
     // The place of the last record.
@@ -36,15 +40,17 @@ pub struct Loader {
 }
 
 impl Loader {
-    /// No rows, after a header record with that scale.
-    pub fn new(alloc: Global, scale: Scale) -> Self
-        ensures scale { result.scale ≡ scale }
-        ensures loads { (header : List (List ℕ)) → AreSpelt (header_fields scale) header
-            → HasLoaded result (header ∷ []) }
+    /// No rows, after that header record.
+    pub fn new(alloc: Global, header: Header) -> Self
+        ensures format { result.format ≡ header.format }
+        ensures scale { result.scale ≡ header.scale }
+        ensures loads { (fields : List (List ℕ)) → IsHeader header.format header.scale fields
+            → HasLoaded result (fields ∷ []) }
     {
         Loader {
             alloc,
-            scale,
+            format: header.format,
+            scale: header.scale,
             rows: TableRows::new(alloc),
             last: Place::Header,
         }
@@ -65,7 +71,10 @@ impl Loader {
             b"H" => histories::take(self, fields)?,
             b"O" => orders::take(self, fields)?,
             b"N" => new_orders::take(self, fields)?,
-            b"L" => lines::take(self, fields)?,
+            b"L" => match self.format {
+                Format::One => lines::take(self, fields)?,
+                Format::Two => fields.note(FaultKind::WrongShape),
+            },
             b"END" => {
                 end::check(fields, &self.rows);
                 let _ = fields.finish();
@@ -85,7 +94,23 @@ impl Loader {
         ensures free { result ≡ is_none (fault_of fields.new) }
         ensures same { self.new ≡ record self.old { last = place } }
     {
-        if fields.finish().is_none() && !place.follows(self.last) {
+        self.stand_in_order(place, true, fields)
+    }
+
+    /// The same. The record is also out of order if its lines do not ascend.
+    pub(crate) fn stand_in_order(
+        &mut self,
+        place: Place,
+        lines_ascend: bool,
+        fields: &mut Fields,
+    ) -> bool
+        ensures fault { fault_of fields.new
+            ≡ or_order (at_end (fields_left fields.old) (fault_of fields.old))
+            (lines_ascend && follows place self.old.last) }
+        ensures free { result ≡ is_none (fault_of fields.new) }
+        ensures same { self.new ≡ record self.old { last = place } }
+    {
+        if fields.finish().is_none() && !(lines_ascend && place.follows(self.last)) {
             fields.note(FaultKind::OutOfOrder);
         }
         self.last = place;
@@ -98,7 +123,7 @@ impl Loader {
         ensures tables { IfOk result (λ checked. IfOk checked (HasReadTables self)) }
         ensures completes { IfOk result (λ checked.
             (t : Database) (read : Rows) (end : List (List ℕ)) → IsWithinScale t → InRange t
-            → HasLoaded self read → AreRecords t (read ++ end ∷ []) → IsOk checked) }
+            → HasLoaded self read → AreRecordsOfEither t (read ++ end ∷ []) → IsOk checked) }
     {
         let districts = self.scale.warehouses as usize * 10;
         histories::open(self.alloc, &mut self.rows.histories, districts)?;

@@ -8,16 +8,16 @@ ghost use Rattle.dataset.specs.TakenAs.{BeginsDataset, IsDone, IsReadAs, Reaches
 ghost use Rattle.files.specs.FirstFault.{ReportsFault};
 ghost use Rattle.dataset.specs.Loading.{HasLoaded, HasEnded, HasReadHeader};
 ghost use Rattle.dataset.specs.Payments.{AreCountable};
-ghost use Rattle.dataset.specs.Records.{AreRecords};
+ghost use Rattle.dataset.specs.Records.{AreRecordsIn, AreRecordsOfEither};
 ghost use Rattle.dataset.specs.FirstRecord.{BeginsWithHeader, HasNoHeader};
 
-use crate::header;
+use crate::header::{self, Header};
 use crate::loader::{Loader, Taken};
 use files::{FaultKind, FileError, FileFault, Input, Records};
 use schema::{Scale, Tables};
 use std::alloc::Global;
 
-/// Reads the tables of the dataset in `source`.
+/// Reads the tables of the dataset in `source`, which is of either format.
 ///
 /// Returns a fault, with the number of its record, only if no tables have the records of the text. It
 /// is the first fault of the text: that of the first faulty record, and of its faults the least. The
@@ -28,9 +28,9 @@ use std::alloc::Global;
 /// number of the current record, if a read of `source` fails, and only then. Neither implies anything
 /// about the text. After any error, no tables are returned, and it is not specified how far `source`
 /// was read. Memory is allocated row by row. The numbers of the header determine only how many empty
-/// lists of payments are allocated: one for each district, at most 640.
+/// lists of payments are allocated: one for each district, at most 2,560.
 pub fn read<R: Input + Drop>(alloc: Global, source: R) -> Result<Tables, FileError>
-    ensures tables { IfOk result (λ tables. Gives (R.remaining source) (AreRecords tables)) }
+    ensures tables { IfOk result (λ tables. Gives (R.remaining source) (AreRecordsOfEither tables)) }
     ensures first { ForRecords (R.remaining source) (λ rows. length rows < 2 ^ 64 - 1
         → MatchResult result (λ _. first_fault rows ≡ None) (λ error. Reports rows error)) }
     ensures fault { IfErr result (λ error. IsFault error
@@ -38,8 +38,8 @@ pub fn read<R: Input + Drop>(alloc: Global, source: R) -> Result<Tables, FileErr
     ensures lasts { R.lasts source → IfErr result IsOfText }
 {
     let mut records = Records::new(alloc, source);
-    let scale = read_header(&mut records)?;
-    let mut loader = Loader::new(alloc, scale);
+    let header = read_header(&mut records)?;
+    let mut loader = Loader::new(alloc, header);
     read_rows(&mut records, &mut loader)?;
     finish(records, loader)
 }
@@ -61,24 +61,25 @@ pub fn read_scale<R: Input + Drop>(alloc: Global, source: R) -> Result<Scale, Fi
     ensures lasts { R.lasts source → IfErr result IsOfText }
 {
     let mut records = Records::new(alloc, source);
-    read_header(&mut records)
+    let header = read_header(&mut records)?;
+    Ok(header.scale)
 }
 
-// Reads the header, which is the first record, and returns its scale.
-fn read_header<R: Input + Drop>(records: &mut Records<R>) -> Result<Scale, FileError>
+// Reads the header, which is the first record.
+fn read_header<R: Input + Drop>(records: &mut Records<R>) -> Result<Header, FileError>
     ensures first { (rows : Rows) → record_number records.old ≡ 0
         → HasLeft R.remaining rows records.old
-        → MatchResult result (λ scale. BeginsDataset R.remaining scale rows records.new)
+        → MatchResult result (λ header. BeginsDataset R.remaining header rows records.new)
         (λ error. ReportsFault error (header_first rows)) }
-    ensures read { IfOk result (λ scale. (text : List ℕ) → HasRead R.remaining text [] records.old
-        → HasReadHeader R.remaining text scale records.new) }
+    ensures read { IfOk result (λ header. (text : List ℕ) → HasRead R.remaining text [] records.old
+        → HasReadHeader R.remaining text header records.new) }
     ensures lasts { LastsThrough R.lasts (input records.old) (input records.new) result IsOfText }
 {
     if !records.advance()? {
         return Err(records.fault(FaultKind::NoHeader));
     }
     match header::parse(&mut records.fields()) {
-        Ok(scale) => Ok(scale),
+        Ok(header) => Ok(header),
         Err(kind) => Err(records.fault(kind)),
     }
 }
@@ -91,8 +92,8 @@ fn read_rows<R: Input + Drop>(
     ensures first { (read rows : Rows) → length read + length rows < 2 ^ 64 - 1
         → HasLoaded loader.old read → record_number records.old ≡ length read
         → HasLeft R.remaining rows records.old → MatchResult result
-        (λ _. ReachesEnd R.remaining (sizes loader.old.scale) read rows loader.new records.new)
-        (λ error. ReportsFault error (rows_fault (sizes loader.old.scale) read rows)) }
+        (λ _. ReachesEnd R.remaining (sizes loader.old.format loader.old.scale) read rows loader.new records.new)
+        (λ error. ReportsFault error (rows_fault (sizes loader.old.format loader.old.scale) read rows)) }
     ensures read { OnOk result ((text : List ℕ) (read : Rows)
         → HasRead R.remaining text read records.old → HasLoaded loader.old read
         → HasEnded R.remaining text loader.new records.new) }
@@ -138,7 +139,7 @@ fn finish<R: Input + Drop>(mut records: Records<R>, loader: Loader) -> Result<Ta
         → ReportsEnd error loader more (record_number records)) }
     ensures tables { IfOk result (λ tables. (text : List ℕ)
         → HasEnded R.remaining text loader records
-        → (rows : Rows) × IsCsv text rows × AreRecords tables rows) }
+        → (rows : Rows) × IsCsv text rows × AreRecordsIn loader.format tables rows) }
     ensures lasts { R.lasts (input records) → IfErr result IsOfText }
 {
     let end = records.number();

@@ -4,26 +4,27 @@ ghost use Rattle.std.specs.List.{zip};
 ghost use Rattle.files.specs.Failure.{IsOfWriting};
 ghost use Rattle.files.specs.Sending.{BeginsToWrite, Writes};
 ghost use Rattle.dataset.specs.Entries.{GivesEntries};
-ghost use Rattle.dataset.specs.Records.{AreFirstRecords, AreRecords, records, row_records};
+ghost use Rattle.dataset.specs.declared.format.Format.TheVariants.{Two};
+ghost use Rattle.dataset.specs.Records.{AreFirstRecords2, AreRecords2, records, row_records};
 ghost use Rattle.dataset.specs.Writing.{Puts, StopsIn};
 
 use crate::recorded::{Dense, Recorded, write_row};
-use crate::{end, header, histories};
+use crate::{end, header, histories, orders};
 use files::{FileError, NewRecord, RecordWriter};
 use schema::{Entries, Scale, Tables};
 use std::alloc::Global;
 use std::io::Write;
 
-/// Writes the dataset of the tables to the sink.
+/// Writes the dataset of the tables, in format 2, to the sink.
 ///
 /// Returns `NoMemory` if an allocation for a record fails. Returns `Failed`, with the number of the
 /// current record, if the sink fails; since records are gathered before they are sent, the record that
 /// was not taken may be an earlier one. After an error, the sink has received a prefix of the text.
 pub fn write<W: Write>(alloc: Global, sink: &mut W, tables: &Tables) -> Result<(), FileError>
     ensures written { OnOk result
-        (Writes (W.contents sink.old) (W.contents sink.new) (AreRecords tables.now)) }
+        (Writes (W.contents sink.old) (W.contents sink.new) (AreRecords2 tables.now)) }
     ensures begun { OnErr result
-        (BeginsToWrite (W.contents sink.old) (W.contents sink.new) (AreFirstRecords tables.now)) }
+        (BeginsToWrite (W.contents sink.old) (W.contents sink.new) (AreFirstRecords2 tables.now)) }
     ensures failed { IfErr result IsOfWriting }
 {
     let mut writer = RecordWriter::new(alloc);
@@ -40,10 +41,10 @@ fn put_tables<W: Write>(
 ) -> Result<(), FileError>
     ensures written { OnOk result
         (Puts (W.contents sink.old) (W.contents sink.new) writer.old.text writer.new.text
-        (records tables.now)) }
+        (records Two tables.now)) }
     ensures begun { OnErr result
         (StopsIn (W.contents sink.old) (W.contents sink.new) writer.old.text
-        (records tables.now)) }
+        (records Two tables.now)) }
     ensures failed { IfErr result IsOfWriting }
 {
     let scale = tables.scale();
@@ -58,10 +59,11 @@ fn put_tables<W: Write>(
     write_dense(writer, sink, &mut out, scale, &rows.customers)?;
     histories::write(writer, sink, &mut out, scale, &rows.histories)?;
     let orders = Entries::of_map(rows.orders.range(..));
-    write_ordered(writer, sink, &mut out, orders)?;
+    orders::write(writer, sink, &mut out, orders, &rows.lines)?;
+    // Called for its postcondition: the lines are in key order.
+    let _ = rows.lines.len();
     let new_orders = Entries::of_map(rows.new_orders.range(..));
     write_ordered(writer, sink, &mut out, new_orders)?;
-    write_ordered(writer, sink, &mut out, rows.lines.entries())?;
     out.clear();
     end::put(&mut out, rows)?;
     writer.write(sink, &out)

@@ -6,7 +6,7 @@ use Rattle.commit_log.specs.declared.entry.Entry.{Entry}
 use Rattle.commit_log.specs.declared.verdict.Replay.{Replay}
 use Rattle.commit_log.specs.declared.verdict.Replay.TheVariants.{Equal, Differs}
 use Rattle.commit_log.specs.Replay.{IsReplayOf}
-use Rattle.dataset.specs.Records.{AreRecords}
+use Rattle.dataset.specs.Records.{AreRecordsOfEither}
 use Rattle.terminals.specs.LogRecord.{IsLog}
 use Rattle.tpcc.specs.declared.command_fault.CommandFault.{CommandFault}
 use Rattle.command_line.specs.declared.settings.replay.ReplaySettings.{ReplaySettings}
@@ -20,7 +20,7 @@ use Rattle.tpcc.specs.Replay.{ReportsReplay, ReplayEnds, ReplaysSome, ReplayStre
 use Rattle.tpcc.proofs.EarlyTellings.{ends_early}
 
 module _ {F : Type 0} (contents : F → Option (List ℕ)) (s : ReplaySettings) (streams : ReplayStreams F) (output : CommandOutput) (reported : Change (Option (List CommandFault))) where
-  pub replay_ends : (opening : Database) (entries : List Entry) (replay : Replay) (ended : Status) → Gives streams.«data».remaining (AreRecords opening) → Gives streams.log.remaining (IsLog entries) → IsReplayOf opening entries replay
+  pub replay_ends : (opening : Database) (entries : List Entry) (replay : Replay) (ended : Status) → Gives streams.«data».remaining (AreRecordsOfEither opening) → Gives streams.log.remaining (IsLog entries) → IsReplayOf opening entries replay
       → ReportsReplay contents streams.tables output entries replay ended → reported.after ≡ reported.before → ReplayEnds contents s streams output reported ended
   replay_ends opening entries (Equal last) ended is_dataset is_log is_replay reports same =
       subst (ReplayEnds contents s streams output reported) (sym reports.0)

@@ -5,7 +5,7 @@ use Rattle.std.specs.Io.KnownBytes.{Appends}
 use Rattle.files.specs.Sending.{Begins}
 use Rattle.schema.specs.Database.{Database}
 use Rattle.consistency.specs.Conditions.{AreExact}
-use Rattle.dataset.specs.Records.{AreRecords}
+use Rattle.dataset.specs.Records.{AreRecordsOfEither}
 use Rattle.tpcc.specs.declared.command_fault.CommandFault.{CommandFault}
 use Rattle.command_line.specs.declared.status.Status.{Status}
 use Rattle.command_line.specs.declared.status.Status.TheVariants as status
@@ -20,7 +20,7 @@ use Rattle.tpcc.specs.Faults.{EndsEarly}
 -- the source gives tables, and `answers` contains for each condition whether they meet it
 pub record IsChecked («data» : Option (List ℕ)) (answers : List Bool) : Type 0 where
   pub tables : Database
-  pub is_dataset : Gives «data» (AreRecords tables)
+  pub is_dataset : Gives «data» (AreRecordsOfEither tables)
   pub exact : AreExact tables answers
 
 module _ (fresh : Bool) where

@@ -7,7 +7,7 @@ use Rattle.schema.specs.Database.{Database}
 use Rattle.schema.specs.Consistency.{Consistent}
 use Rattle.consistency.specs.Broken.{BreaksFirst}
 use Rattle.dataset.specs.FirstFault.{IsFaultOf}
-use Rattle.dataset.specs.Records.{AreRecords}
+use Rattle.dataset.specs.Records.{AreRecordsOfEither}
 use Rattle.engine.specs.Faults.{AreWithin, IsFirstBad}
 use Rattle.range_moves.specs.declared.order.MoveOrder.{MoveOrder}
 use Rattle.requests.specs.declared.script.Part.{Part}
@@ -21,6 +21,7 @@ use Rattle.world.specs.declared.world.GatherFault.TheVariants as gather
 use Rattle.tpcc.specs.declared.command_fault.CommandFault.{CommandFault}
 use Rattle.tpcc.specs.declared.command_fault.CommandFault.TheVariants as fault
 use Rattle.command_line.specs.declared.settings.check.CheckSettings.{CheckSettings}
+use Rattle.command_line.specs.declared.settings.migrate.MigrateSettings.{MigrateSettings}
 use Rattle.command_line.specs.declared.settings.replay.ReplaySettings.{ReplaySettings}
 use Rattle.command_line.specs.declared.settings.run.RunSettings.{RunSettings}
 use Rattle.command_line.specs.declared.settings.sim.SimSettings.{SimSettings}
@@ -32,7 +33,7 @@ use Rattle.tpcc.specs.Sim.{IsSimulation, SimInputs, setup_of}
 
 -- the source gives tables
 abbrev pub GivesTables : Option (List ℕ) → Type 0
-GivesTables source = (tables : Database) × Gives source (AreRecords tables)
+GivesTables source = (tables : Database) × Gives source (AreRecordsOfEither tables)
 
 -- ---- check
 
@@ -40,6 +41,14 @@ GivesTables source = (tables : Database) × Gives source (AreRecords tables)
 abbrev pub IsOfChecking : CheckSettings → Source → CommandFault → Type 0
 IsOfChecking s «data» of =
     IsOfReading s.«data».now «data».remaining «data».lasts IsFaultOf of ⊎ IsOfWriting standard_output of
+
+-- ---- migrate
+
+-- a fault of the dataset; or of the file that is written, and the dataset gives tables
+abbrev pub IsOfMigrating : MigrateSettings → Source → CommandFault → Type 0
+IsOfMigrating s «data» of =
+    IsOfReading s.«data».now «data».remaining «data».lasts IsFaultOf of
+    ⊎ (GivesTables «data».remaining × IsOfWriting s.file.now of)
 
 -- ---- replay
 
@@ -94,7 +103,7 @@ IsOfAnswering s of = IsOfWritingSome s.log of ⊎ IsOfWriting standard_output of
 -- these sources give tables and moves of which `Are` holds
 abbrev pub OfServed : Option (List ℕ) → Option (Option (List ℕ)) → (Database → List MoveOrder → Type 0) → Type 0
 OfServed source moving Are =
-    (tables : Database) × (moves : List MoveOrder) × Gives source (AreRecords tables) × GivesMoves moving moves × Are tables moves
+    (tables : Database) × (moves : List MoveOrder) × Gives source (AreRecordsOfEither tables) × GivesMoves moving moves × Are tables moves
 
 -- The faults of serving the source's tables and moves with that many executors. NoMemory: always possible. BadMove: the move at this place is
 -- the first impossible one. NotConsistent: all moves are possible, and this condition is the first that the tables break. NoThread and
@@ -127,7 +136,7 @@ IsOfGathering asked gathered _ = ⊥
 -- tables were asked for, and a transaction is active or a move outstanding at the end of the simulation.
 abbrev pub IsOfPlaying : Option (List ℕ) → Option (List ℕ) → Setup → Bool → CommandFault → Type 0
 IsOfPlaying «data» source setup asked fault.NoMemory = Unit {0}
-IsOfPlaying «data» source setup asked (fault.NotConsistent condition) = (tables : Database) × Gives «data» (AreRecords tables) × BreaksFirst tables condition
+IsOfPlaying «data» source setup asked (fault.NotConsistent condition) = (tables : Database) × Gives «data» (AreRecordsOfEither tables) × BreaksFirst tables condition
 IsOfPlaying «data» source setup asked fault.NotIdle =
     (asked ≡ true)
     × ((schedule : List Scheduled) × (simulation : Simulation) × IsSimulation «data» source setup schedule simulation × (simulation.tables ≡ Err gather.NotIdle))

@@ -9,6 +9,7 @@ pub mod Faults
 pub mod EarlyEnds
 pub mod Verdicts
 pub mod Check
+pub mod Migrate
 pub mod Populate
 pub mod Replay
 pub mod Run

@@ -2,7 +2,7 @@
 use Rattle.std.specs.Prelude.{◌≡◌, ℕ, List, Option}
 use Rattle.schema.specs.Database.{Database}
 use Rattle.population.specs.Population.{IsOpening}
-use Rattle.dataset.specs.Records.{AreRecords}
+use Rattle.dataset.specs.Records.{AreRecords2}
 use Rattle.tpcc.specs.declared.command_fault.CommandFault.{CommandFault}
 use Rattle.command_line.specs.declared.status.Status.{Status}
 use Rattle.command_line.specs.declared.status.Status.TheVariants as status
@@ -20,7 +20,7 @@ module _ {F : Type 0} (contents : F → Option (List ℕ)) (s : PopulateSettings
     pub tables : Database
     pub is_opening : IsOpening s.scale s.seed s.now tables
     pub text : Option (List ℕ)
-    pub written : Writes (contents file) text (AreRecords tables)
+    pub written : Writes (contents file) text (AreRecords2 tables)
     pub shelved : Shelves named.before named.after text
     pub no_fault : reported.after ≡ reported.before
 

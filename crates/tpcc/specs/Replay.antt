@@ -8,7 +8,7 @@ use Rattle.commit_log.specs.declared.entry.Entry.{Entry}
 use Rattle.commit_log.specs.declared.verdict.Replay.{Replay}
 use Rattle.commit_log.specs.declared.verdict.Replay.TheVariants.{Equal, Differs}
 use Rattle.commit_log.specs.Replay.{IsReplayOf}
-use Rattle.dataset.specs.Records.{AreRecords}
+use Rattle.dataset.specs.Records.{AreRecords2, AreRecordsOfEither}
 use Rattle.terminals.specs.LogRecord.{IsLog}
 use Rattle.tpcc.specs.declared.replay.Found.{Found}
 use Rattle.tpcc.specs.declared.replay.Found.TheVariants as found
@@ -43,7 +43,7 @@ module _ {F : Type 0} (contents : F → Option (List ℕ)) (file : Option F) (ou
   ReportsReplay entries (Equal last) ended =
       (ended ≡ status.Success)
       × Appends output.printed.before output.printed.after (found_line (found.Equal (length entries)))
-      × NamesFile contents file output.named.before output.named.after (AreRecords last)
+      × NamesFile contents file output.named.before output.named.after (AreRecords2 last)
   ReportsReplay entries (Differs place) ended =
       (ended ≡ status.NotConsistent)
       × Appends output.printed.before output.printed.after (found_line (found.Differs place))
@@ -52,7 +52,7 @@ module _ {F : Type 0} (contents : F → Option (List ℕ)) (file : Option F) (ou
 -- the log contains these entries, and their replay on the tables that `data` gives has this result
 pub record IsReplayed («data» log : Option (List ℕ)) (entries : List Entry) (replay : Replay) : Type 0 where
   pub opening : Database
-  pub is_dataset : Gives «data» (AreRecords opening)
+  pub is_dataset : Gives «data» (AreRecordsOfEither opening)
   pub is_log : Gives log (IsLog entries)
   pub is_replay : IsReplayOf opening entries replay
 
@@ -89,7 +89,7 @@ module _ {F : Type 0} (contents : F → Option (List ℕ)) (s : ReplaySettings) 
   abbrev pub ReplayEnds : Status → Type 0
   ReplayEnds status.Success =
       (last : Database) × Replays streams.«data».remaining streams.log.remaining output.printed reported (Equal last)
-      × NamesFile contents streams.tables output.named.before output.named.after (AreRecords last)
+      × NamesFile contents streams.tables output.named.before output.named.after (AreRecords2 last)
   ReplayEnds status.NotConsistent =
       (place : ℕ) × Replays streams.«data».remaining streams.log.remaining output.printed reported (Differs place)
       × (output.named.after ≡ output.named.before)

@@ -10,7 +10,7 @@ use Rattle.commit_log.specs.declared.entry.Entry.{Entry}
 use Rattle.range_moves.specs.declared.order.MoveOrder.{MoveOrder}
 use Rattle.engine.specs.Faults.{AreWithin}
 use Rattle.engine.specs.Outcome.{IsOutcome}
-use Rattle.dataset.specs.Records.{AreRecords}
+use Rattle.dataset.specs.Records.{AreRecords2, AreRecordsOfEither}
 use Rattle.terminals.specs.LogRecord.{IsLog}
 use Rattle.terminals.specs.Moves.{AreMoves}
 use Rattle.terminals.specs.Script.{IsScript}
@@ -87,7 +87,7 @@ run_outputs log tables = record { log = log; tables = tables }
 -- these last tables and these answers. All moves are possible.
 pub record AreServed (settings : RunSettings) (texts : RunTexts) (log : List Entry) (last : Database) (answers : List (List (Result ℕ Refusal))) : Type 0 where
   pub opening : Database
-  pub is_dataset : Gives texts.«data» (AreRecords opening)
+  pub is_dataset : Gives texts.«data» (AreRecordsOfEither opening)
   pub consistent : Consistent opening
   pub moves : List MoveOrder
   pub are_moves : GivesMoves texts.moves moves
@@ -103,7 +103,7 @@ module _ {F : Type 0} (contents : F → Option (List ℕ)) (files : RunOutputs F
     pub printed : Writes output.printed.before output.printed.after (AreAllAnswers log scripts 0 answers)
     pub with_log : NamedTexts
     pub logged : NamesFile contents files.log output.named.before with_log (IsLog log)
-    pub left : NamesFile contents files.tables with_log output.named.after (AreRecords last)
+    pub left : NamesFile contents files.tables with_log output.named.after (AreRecords2 last)
 
   -- A beginning of these records was printed, and no file has got its name; or tables are asked for, all records were printed, and the log, if
   -- there is one, has got its name.

@@ -4,8 +4,7 @@ use Rattle.std.specs.List.{All}
 use Rattle.schema.specs.declared.scale.Scale.{Scale}
 use Rattle.schema.specs.Scale.{has_warehouse}
 use Rattle.dataset.specs.FirstFault.{first_fault}
-use Rattle.dataset.specs.FirstRecord.{BeginsWith}
-use Rattle.dataset.specs.Records.{AreSpelt, header_fields}
+use Rattle.dataset.specs.FirstRecord.{BeginsWithHeader}
 use Rattle.workload.specs.declared.sessions.Workload.{Workload}
 use Rattle.workload.specs.Sessions.{script_drawn}
 use Rattle.workload.specs.Within.{AreAccepted}
@@ -20,9 +19,9 @@ use Rattle.tpcc.specs.OutputFiles.{NamedTexts}
 use Rattle.tpcc.specs.Edges.{NamesFile}
 use Rattle.tpcc.specs.Faults.{IsFirst, IsOfReading, IsOfWritingOneOf, EndsEarly}
 
--- if it is known what the source gives, it begins with the header of a dataset of this scale
+-- if it is known what the source gives, it begins with the header of a dataset of this scale, in either format
 abbrev pub GivesScale : Option (List ℕ) → Scale → Type 0
-GivesScale source scale = (text : List ℕ) → source ≡ Some text → (header : List (List ℕ)) × AreSpelt (header_fields scale) header × BeginsWith text header
+GivesScale source scale = (text : List ℕ) → source ≡ Some text → BeginsWithHeader scale text
 
 -- the workload that the settings ask for, at this scale
 pub record IsWorkload (s : ScriptSettings) (at_scale : Scale) (w : Workload) : Type 0 where

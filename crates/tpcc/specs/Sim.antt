@@ -12,7 +12,7 @@ use Rattle.world.specs.declared.setup.Setup.{Setup}
 use Rattle.world.specs.Openings.{Simulates}
 use Rattle.picture.specs.declared.asides.Aside.{Aside}
 use Rattle.picture.specs.Drawing.{drawing_text}
-use Rattle.dataset.specs.Records.{AreRecords}
+use Rattle.dataset.specs.Records.{AreRecords2, AreRecordsOfEither}
 use Rattle.terminals.specs.LogRecord.{IsLog}
 use Rattle.terminals.specs.LockChanges.{AreLines, Line, lines}
 use Rattle.terminals.specs.Schedule.{IsSchedule}
@@ -66,7 +66,7 @@ lines_of simulation = lines 0 simulation.outputs.items simulation.locks.items
 -- the schedule, which `source` gives, was simulated on the tables that `data` gives, in a world set up so, with this result
 pub record IsSimulation («data» source : Option (List ℕ)) (setup : Setup) (schedule : List Scheduled) (simulation : Simulation) : Type 0 where
   pub opening : Database
-  pub is_dataset : Gives «data» (AreRecords opening)
+  pub is_dataset : Gives «data» (AreRecordsOfEither opening)
   pub is_schedule : Gives source (IsSchedule schedule)
   pub simulates : Simulates Brand opening setup schedule simulation
 
@@ -82,7 +82,7 @@ module _ {F : Type 0} (contents : F → Option (List ℕ)) where
   -- the file, if there is one, has got its name with the records of the gathered tables
   abbrev pub NamesTables : Option F → NamedTexts → NamedTexts → Result Database GatherFault → Type 0
   NamesTables None named named' gathered = named' ≡ named
-  NamesTables (Some file) named named' gathered = (last : Database) × (gathered ≡ Ok last) × NamesFile contents (Some file) named named' (AreRecords last)
+  NamesTables (Some file) named named' gathered = (last : Database) × (gathered ≡ Ok last) × NamesFile contents (Some file) named named' (AreRecords2 last)
 
   module _ (setup : Setup) (schedule : List Scheduled) (simulation : Simulation) (files : SimOutputs F) (output : CommandOutput) where
     -- The records of all lines of the simulation were printed. The files, if there are such, have got their names in this order: the log with

@@ -14,6 +14,7 @@ use std::sync::Wait;
 use std::thread::Threads;
 
 mod check;
+mod migrate;
 mod populate;
 mod replay;
 mod run;
@@ -37,6 +38,7 @@ pub fn carry_out<R: Files + AllocGlobal + Clock + Threads + Wait + Sync>(
         Settings::Populate(populate) => populate::carry_out(rt, stderr, populate),
         Settings::Script(script) => script::carry_out(rt, stderr, script),
         Settings::Check(check) => check::carry_out(rt, stdout, stderr, check),
+        Settings::Migrate(migrate) => migrate::carry_out(rt, stderr, migrate),
         Settings::Replay(replay) => replay::carry_out(rt, stdout, stderr, replay),
         Settings::Text(text) => print_text(rt, stdout, stderr, text.as_str()),
     }

@@ -8,6 +8,7 @@ mod escaped;
 mod latencies;
 mod lines;
 mod meaning;
+mod migrate;
 mod opening;
 mod other_name;
 mod output;

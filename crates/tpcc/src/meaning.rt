@@ -216,7 +216,7 @@ fn report_field<W: Write>(sink: &mut W, field: &[u8]) -> io::Result<()> {
 fn meaning(fault: FileFault) -> &'static str {
     match fault.kind {
         FaultKind::NoHeader => {
-            "no header of this format: a dataset begins with TPCC,1, and how many warehouses, items and customers"
+            "no header of a dataset: it begins with TPCC,2, or TPCC,1, and how many warehouses, items and customers"
         }
         FaultKind::WrongShape => {
             "an unknown letter at the front, or a wrong number of fields: docs/FORMATS.md has each record"
@@ -227,7 +227,7 @@ fn meaning(fault: FileFault) -> &'static str {
         FaultKind::OutOfRange =>
             "a value out of its column's range: docs/FORMATS.md has the ranges",
         FaultKind::OutOfOrder => {
-            "a record out of order, or a key twice: keys ascend, and a log's places are 0, 1, 2 and so on"
+            "a record out of order, or a key twice: keys ascend, an order's lines by number, and a log's places are 0, 1, 2 and so on"
         }
         FaultKind::ScaleBroken => {
             "a row is missing or too many for the header's scale, or one refers to a row that is not there"

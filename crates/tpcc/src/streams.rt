@@ -2,7 +2,7 @@
 ghost use Rattle.std.specs.Prelude.{◌≡◌, ◌⊎◌, ◌++◌, ◌∷◌, [], Some, Ok, Err, option_map, is_some, true, IfOk, IfErr, IfSome, OnOk, OnErr, string_bytes};
 ghost use Rattle.std.specs.Io.KnownBytes.{Appends};
 ghost use Rattle.dataset.specs.FirstFault.{IsFaultOf};
-ghost use Rattle.dataset.specs.Records.{AreRecords};
+ghost use Rattle.dataset.specs.Records.{AreRecords2, AreRecordsOfEither};
 ghost use Rattle.files.specs.Sending.{Begins, Writes};
 ghost use Rattle.terminals.specs.LogRecord.{IsLog};
 ghost use Rattle.terminals.specs.Script.{AreAsked};
@@ -25,13 +25,14 @@ use terminals::{write_log, write_script};
 /// The path of the standard output in a fault.
 pub const STANDARD_OUTPUT: &str = "-";
 
-/// Reads the tables of the dataset of that path.
+/// Reads the tables of the dataset of that path, which is of either format.
 pub fn read_tables<'a, D: Input + Drop>(
     alloc: Global,
     path: &'a str,
     data: D,
 ) -> Result<Tables, CommandFault<'a>>
-    ensures tables { IfOk result (λ tables. Gives (D.remaining «data») (AreRecords tables)) }
+    ensures tables { IfOk result
+        (λ tables. Gives (D.remaining «data») (AreRecordsOfEither tables)) }
     ensures fault { IfErr result
         (IsOfReading path.now (D.remaining «data») (D.lasts «data») IsFaultOf) }
 {
@@ -84,7 +85,7 @@ fn whole_log<'a, L: Write + Drop, N: OutputFiles<L>>(
     }
 }
 
-/// Writes the tables to their file, if there is one, and gives it its name. After an error it has not got its name.
+/// Writes the tables in format 2 to their file, if there is one, and gives it its name. After an error it has not got its name.
 pub fn write_tables<'a, T: Write + Drop, N: OutputFiles<T>>(
     alloc: Global,
     path: Option<&'a str>,
@@ -95,7 +96,7 @@ pub fn write_tables<'a, T: Write + Drop, N: OutputFiles<T>>(
     requires { is_some sink ≡ is_some path }
     ensures asked { OnErr result (is_some sink ≡ true) }
     ensures named { OnOk result (NamesFile T.contents sink
-        (N.named output_files.old) (N.named output_files.new) (AreRecords tables.now)) }
+        (N.named output_files.old) (N.named output_files.new) (AreRecords2 tables.now)) }
     ensures err { OnErr result (N.named output_files.new ≡ N.named output_files.old) }
     ensures fault { IfErr result (IsOfWritingSome path.entry) }
 {
@@ -106,7 +107,7 @@ pub fn write_tables<'a, T: Write + Drop, N: OutputFiles<T>>(
     name_tables(alloc, path, sink, tables, output_files)
 }
 
-/// Writes the tables, brings the file to the disk and gives it its name. After an error it has not got its name.
+/// Writes the tables in format 2, brings the file to the disk and gives it its name. After an error it has not got its name.
 pub fn name_tables<'a, T: Write + Drop, N: OutputFiles<T>>(
     alloc: Global,
     path: &'a str,
@@ -115,7 +116,7 @@ pub fn name_tables<'a, T: Write + Drop, N: OutputFiles<T>>(
     output_files: &mut N,
 ) -> Result<(), CommandFault<'a>>
     ensures ok { OnOk result (NamesFile T.contents (Some sink)
-        (N.named output_files.old) (N.named output_files.new) (AreRecords tables.now)) }
+        (N.named output_files.old) (N.named output_files.new) (AreRecords2 tables.now)) }
     ensures err { OnErr result (N.named output_files.new ≡ N.named output_files.old) }
     ensures fault { IfErr result (IsOfWriting path.now) }
 {

@@ -4,28 +4,40 @@ ghost use Rattle.std.specs.Prelude.{◌<◌, IfSome};
 
 use crate::meaning::search::Search;
 use crate::meaning::spelling::Spelling;
-use files::{FaultKind, Fields};
-use rows::{LAST_LINE, MOST_WAREHOUSES};
+use dataset::Format;
+use files::{FaultKind, Fields, parse_whole};
 
 /// What the check of a record of a dataset needs of the records before it.
 #[derive(Clone, Copy, Debug)]
 pub struct Tables {
     // How many rows there are of each table, in the order of a dataset.
     rows: [u64; 9],
-    // The scale in the header.
+    // The format and the scale in the header.
+    format: Format,
     warehouses: u32,
     items: u32,
     customers: u32,
 }
 
-// The first words of the records behind the header.
-const LETTERS: Spelling = Spelling::Said("one of I, W, D, S, C, H, O, N and L, or END");
+// The number of the format in a header.
+const FORMATS: Spelling = Spelling::Said("1 or 2");
+
+// The number of a line that does not ascend.
+const ABOVE: Spelling = Spelling::Said("above that of the line before");
+
+// How many fields the record of an order has behind its letter and before its lines.
+const ORDER_FIELDS: usize = 8;
 
 /// Searches the fields of a header.
 pub fn header(search: &mut Search<'_>) {
     search.field("the word of a dataset", Spelling::Header("TPCC"));
-    search.field("the format", Spelling::Header("1"));
-    search.field("how many warehouses", Spelling::Whole(1, MOST_WAREHOUSES));
+    let name = "the format";
+    let format = Format::named(search.word(name, FORMATS));
+    if format.is_none() {
+        search.refuse(FaultKind::NoHeader, 2, name, FORMATS);
+    }
+    let most = format.unwrap_or(Format::Two).most_warehouses();
+    search.field("how many warehouses", Spelling::Whole(1, most));
     search.field("how many items", Spelling::Whole(1, 100_000));
     search.field(
         "how many customers of a district",
@@ -72,7 +84,8 @@ impl Tables {
     pub fn new() -> Tables {
         Tables {
             rows: [0; 9],
-            warehouses: MOST_WAREHOUSES,
+            format: Format::Two,
+            warehouses: Format::Two.most_warehouses(),
             items: 100_000,
             customers: 3_000,
         }
@@ -82,10 +95,15 @@ impl Tables {
     pub fn pass(&mut self, mut fields: Fields<'_>) {
         let first = fields.word();
         if first == "TPCC" {
-            fields.word();
-            self.warehouses = fields.whole(1, MOST_WAREHOUSES);
+            self.format = Format::named(fields.word()).unwrap_or(Format::Two);
+            self.warehouses = fields.whole(1, self.format.most_warehouses());
             self.items = fields.whole(1, 100_000);
             self.customers = fields.whole(1, 3_000);
+        }
+        if first == "O" {
+            let left = fields.left().saturating_sub(ORDER_FIELDS);
+            let lines = self.format.line_count(left);
+            self.rows[8] = self.rows[8].saturating_add(lines as u64);
         }
         if let Some(table) = table_of(first) {
             self.rows[table] = self.rows[table].saturating_add(1);
@@ -95,7 +113,8 @@ impl Tables {
     /// Searches the fields of a record behind the header, whose first field is that word.
     pub fn search(&self, search: &mut Search<'_>, first: &str) {
         let name = "the letter";
-        search.field(name, LETTERS);
+        let letters = self.letters();
+        search.field(name, letters);
         match first {
             "I" => self.item(search),
             "W" => self.warehouse(search),
@@ -105,9 +124,17 @@ impl Tables {
             "H" => self.history(search),
             "O" => self.order(search),
             "N" => self.order_key(search, "NO_W_ID", "NO_D_ID", "NO_O_ID"),
-            "L" => self.line(search),
+            "L" if self.format == Format::One => self.line(search),
             "END" => self.end(search),
-            _ => search.refuse(FaultKind::WrongShape, 1, name, LETTERS),
+            _ => search.refuse(FaultKind::WrongShape, 1, name, letters),
+        }
+    }
+
+    // The first words of the records behind the header.
+    fn letters(&self) -> Spelling {
+        match self.format {
+            Format::One => Spelling::Said("one of I, W, D, S, C, H, O, N and L, or END"),
+            Format::Two => Spelling::Said("one of I, W, D, S, C, H, O and N, or END"),
         }
     }
 
@@ -210,13 +237,43 @@ impl Tables {
         search.field("O_C_ID", Spelling::Whole(1, self.customers));
         search.field("O_ENTRY_D", Spelling::Moment);
         search.field("O_CARRIER_ID", Spelling::MaybeWhole(1, 10));
-        search.field("O_OL_CNT", Spelling::Whole(1, LAST_LINE));
+        search.field("O_OL_CNT", self.of_lines());
         search.field("O_ALL_LOCAL", Spelling::Whole(0, 1));
+        let mut last = 0;
+        for _ in 0..self.format.line_count(search.left()) {
+            last = self.line_number(search, last);
+            self.line_columns(search);
+        }
     }
 
+    // Searches the number of a line in the record of an order, which is above `last`, and returns it; `last` if it has
+    // a fault.
+    fn line_number(&self, search: &mut Search<'_>, last: u64) -> u64 {
+        let name = "OL_NUMBER";
+        let word = search.word(name, self.of_lines());
+        let place = search.taken();
+        match parse_whole(word, 1, u64::from(self.format.most_lines())) {
+            Ok(number) if number > last => number,
+            Ok(_) => {
+                search.refuse(FaultKind::OutOfOrder, place, name, ABOVE);
+                last
+            }
+            Err(kind) => {
+                search.refuse(kind, place, name, self.of_lines());
+                last
+            }
+        }
+    }
+
+    // Searches the record of a line, as format 1 has it.
     fn line(&self, search: &mut Search<'_>) {
         self.order_key(search, "OL_W_ID", "OL_D_ID", "OL_O_ID");
-        search.field("OL_NUMBER", Spelling::Whole(1, LAST_LINE));
+        search.field("OL_NUMBER", self.of_lines());
+        self.line_columns(search);
+    }
+
+    // Searches the fields of a line behind its number.
+    fn line_columns(&self, search: &mut Search<'_>) {
         search.field("OL_I_ID", Spelling::Whole(1, self.items));
         search.field("OL_SUPPLY_W_ID", self.of_warehouses());
         search.field("OL_DELIVERY_D", Spelling::MaybeMoment);
@@ -235,6 +292,11 @@ impl Tables {
         search.field(warehouse, self.of_warehouses());
         search.field(district, Spelling::Whole(1, 10));
         search.field(order, Spelling::Whole(1, 9_999_999));
+    }
+
+    // How many lines an order has, or the number of one.
+    fn of_lines(&self) -> Spelling {
+        Spelling::Whole(1, self.format.most_lines())
     }
 
     // The number of a warehouse in the header's scale.

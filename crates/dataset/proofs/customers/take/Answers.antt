@@ -1,6 +1,6 @@
 use Rattle.std.proofs.Common.{refl}
 use Rattle.files.specs.Columns.{Cents, Credit, Moment, Whole, Words}
-use Rattle.dataset.specs.Columns.{Customers, address_columns, customer_key, sizes}
+use Rattle.dataset.specs.Columns.{Customers, address_columns, customer_key}
 use Rattle.dataset.specs.TableRow.{TableRow, OfCustomer}
 use Rattle.dataset.proofs.RowTaken.{TakesRow, added_at, none_added, row_taken}
 use Rattle.files.proofs.ColumnValues.{of_reads, read_more, read_none, read_then}
@@ -15,7 +15,7 @@ unfolding row
 takes c =
     let l = c.args.loader.now in
     row_taken Customers l (row c) c.args.fields.now c.text-5.new.self
-    (read_more (customer_key (sizes l.scale)) (of_reads c.key-key.ensures)
+    (read_more (customer_key l.scale.warehouses l.scale.customers) (of_reads c.key-key.ensures)
     (read_then (Words 16) c.text.ensures.field
     (read_then (Words 2) c.text-2.ensures.field
     (read_then (Words 16) c.text-3.ensures.field

@@ -1,6 +1,6 @@
 use Rattle.std.proofs.Common.{refl}
 use Rattle.files.specs.Columns.{Cents, Whole, Words}
-use Rattle.dataset.specs.Columns.{Districts, address_columns, district_key, sizes}
+use Rattle.dataset.specs.Columns.{Districts, address_columns, district_key}
 use Rattle.dataset.specs.TableRow.{TableRow, OfDistrict}
 use Rattle.dataset.proofs.RowTaken.{TakesRow, added_at, none_added, row_taken}
 use Rattle.files.proofs.ColumnValues.{of_reads, read_more, read_none, read_then}
@@ -15,7 +15,7 @@ unfolding row
 takes c =
     let l = c.args.loader.now in
     row_taken Districts l (row c) c.args.fields.now c.ranged.new.self
-    (read_more (district_key (sizes l.scale)) (of_reads c.key-key.ensures.reads)
+    (read_more (district_key l.scale.warehouses) (of_reads c.key-key.ensures.reads)
     (read_then (Words 10) c.text.ensures.field
     (read_more (address_columns) (of_reads c.address.ensures)
     (read_then (Whole 0 9999) c.rate.ensures.field

@@ -1,7 +1,7 @@
 use Rattle.std.proofs.Common.{refl, sym, subst, ◌∙◌}
 use Rattle.std.proofs.lemmas.Result.{on_ok_weaker}
 use Rattle.files.specs.Columns.{Cents, Moment, Words}
-use Rattle.dataset.specs.Columns.{Histories, customer_key, district_key, sizes}
+use Rattle.dataset.specs.Columns.{Histories, customer_key, district_key}
 use Rattle.dataset.specs.Payments.{Pays}
 use Rattle.dataset.specs.TableRow.{TableRow, OfHistory}
 use Rattle.dataset.proofs.RowTaken.{TakesRow, added_at, none_added, row_taken}
@@ -17,8 +17,8 @@ unfolding row
 takes c =
     let l = c.args.loader.now in
     row_taken Histories l (row c) c.args.fields.now c.text.new.self
-    (read_more (district_key (sizes l.scale)) (of_reads c.key-home.ensures.reads)
-    (read_more (customer_key (sizes l.scale)) (of_reads c.key.ensures)
+    (read_more (district_key l.scale.warehouses) (of_reads c.key-home.ensures.reads)
+    (read_more (customer_key l.scale.warehouses l.scale.customers) (of_reads c.key.ensures)
     (read_then (Moment) c.moment.ensures.field
     (read_then (Cents) c.cents.ensures.field
     (read_then (Words 24) c.text.ensures.field read_none)))))

@@ -1,5 +1,5 @@
 use Rattle.std.proofs.Common.{refl}
-use Rattle.dataset.specs.Columns.{NewOrders, order_key, sizes}
+use Rattle.dataset.specs.Columns.{NewOrders, order_key}
 use Rattle.dataset.specs.TableRow.{TableRow, OfNewOrder}
 use Rattle.dataset.proofs.RowTaken.{TakesRow, added_at, none_added, row_taken}
 use Rattle.files.proofs.ColumnValues.{of_reads, read_more, read_none}
@@ -14,7 +14,7 @@ unfolding row
 takes c =
     let l = c.args.loader.now in
     row_taken NewOrders l (row c) c.args.fields.now c.key-key.new.fields
-    (read_more (order_key (sizes l.scale)) (of_reads c.key-key.ensures) read_none)
+    (read_more (order_key l.scale.warehouses) (of_reads c.key-key.ensures) read_none)
     (λ i. OfNewOrder (c.key-key.ensures.value i) (record {}))
 
 pub returns-in_ok-insert : goal.returns-in_ok-insert

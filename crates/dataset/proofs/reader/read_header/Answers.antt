@@ -6,7 +6,7 @@ use Rattle.dataset.proofs.HeaderFault.{header_error, header_fails, header_passes
 use Rattle.files.specs.declared.fault.FaultKind.TheVariants.{NoHeader}
 use Rattle.std.proofs.Common.{◌≡◌, [], Bool, true, rules, subst}
 use Rattle.files.specs.Place.{HasReadOn, record_fields}
-use Rattle.dataset.specs.Records.{AreSpelt, header_fields}
+use Rattle.dataset.specs.Records.{IsHeader}
 use Rattle.files.proofs.RecordsLeft.{no_row}
 use Rattle.std.proofs.Common.{sym, ap, ◌∙◌, arith}
 use Rattle.std.proofs.lemmas.Result.{err_from_is_err_and}
@@ -16,8 +16,8 @@ pub returns-in-Ok-clause-read : goal.returns-in-Ok-clause-read
 returns-in-Ok-clause-read g c = λ text none_read.
     let found : c.in_ok-advance.field-0 ≡ true = search rules in
     let P : Bool → Type 0 = λ b. HasReadOn g.R.Input.remaining text [] b c.advance.new.self in
-    let spelt = subst (AreSpelt (header_fields c.in-Ok.scale)) c.fields.ensures.left c.in-Ok.ensures.spelt in
-    (record_fields c.advance.new.self, spelt, subst P found (c.in_ok-advance.ensures.reads text [] none_read))
+    let is_header = subst (IsHeader c.in-Ok.header.format c.in-Ok.header.scale) c.fields.ensures.left c.in-Ok.ensures.spelt in
+    (record_fields c.advance.new.self, is_header, subst P found (c.in_ok-advance.ensures.reads text [] none_read))
 
 pub returns-in_err-advance-clause-first : goal.returns-in_err-advance-clause-first
 returns-in_err-advance-clause-first g c =
@@ -36,14 +36,14 @@ pub returns-in-Ok-clause-first : goal.returns-in-Ok-clause-first
 returns-in-Ok-clause-first g c = λ rows number left.
     let found : c.in_ok-advance.field-0 ≡ true = search rules in
     let next = next_row g.R.Input.remaining rows c.in_ok-advance.field-0 c.advance.new.self found (c.in_ok-advance.ensures.reads_next rows left) in
-    let spelt = subst (AreSpelt (header_fields c.in-Ok.scale)) c.fields.ensures.left c.in-Ok.ensures.spelt in
+    let is_header = subst (IsHeader c.in-Ok.header.format c.in-Ok.header.scale) c.fields.ensures.left c.in-Ok.ensures.spelt in
     let reported = ap reported_header (sym c.fields.ensures.left) ∙ c.in-Ok.ensures.exact c.fields.ensures.fault in
     record {
-      header = record_fields c.advance.new.self;
+      fields = record_fields c.advance.new.self;
       more = next.0;
       are = next.1;
-      spelt = spelt;
-      fault = ap first_fault next.1 ∙ header_passes c.in-Ok.scale (record_fields c.advance.new.self) next.0 (c.in_ok-advance.ensures.kept found) reported spelt;
+      is_header = is_header;
+      fault = ap first_fault next.1 ∙ header_passes c.in-Ok.header.format c.in-Ok.header.scale (record_fields c.advance.new.self) next.0 (c.in_ok-advance.ensures.kept found) reported is_header.is_spelt;
       left = next.2;
       number = c.advance.ensures.number (omega (arith, number)) ∙ ap (λ n. n + 1) number;
     }

@@ -12,7 +12,7 @@ pub returns-in-Some-clause-exact : goal.returns-in-Some-clause-exact
 returns-in-Some-clause-exact g c = λ small.
     let l = c.args.loader.now in
     let is = c.in_ok-taken.ensures c.fields-fields.ensures.fault in
-    let known : List (List ℕ) → Option FaultKind = fields_fault (sizes l.scale) (place_numbers l.last) (table_counts l.rows) in
+    let known : List (List ℕ) → Option FaultKind = fields_fault (sizes l.format l.scale) (place_numbers l.last) (table_counts l.rows) in
     let reported = ap known (sym c.fields-fields.ensures.left) ∙ sym (is.fault small) ∙ sym c.fault.ensures ∙ c.in-Some.is in
     subst (λ e. ReportsKind e (known (record_fields c.args.records.now)) (record_number c.args.records.now)) (sym c.fault-in-Some.ensures) (reported, refl)
 
@@ -20,7 +20,7 @@ pub returns-in-None-clause-exact : goal.returns-in-None-clause-exact
 returns-in-None-clause-exact g c = λ small.
     let l = c.args.loader.now in
     let is = c.in_ok-taken.ensures c.fields-fields.ensures.fault in
-    let known : List (List ℕ) → Option FaultKind = fields_fault (sizes l.scale) (place_numbers l.last) (table_counts l.rows) in
+    let known : List (List ℕ) → Option FaultKind = fields_fault (sizes l.format l.scale) (place_numbers l.last) (table_counts l.rows) in
     ap known (sym c.fields-fields.ensures.left) ∙ sym (is.fault small) ∙ sym c.fault.ensures ∙ c.in-None.is
 
 pub returns-in-None-clause-done : goal.returns-in-None-clause-done

@@ -39,10 +39,10 @@ loop-preserved g c = (
   λ read rows few at number left.
       let inv = c.loop.invariant.1 read rows few at number left in
       let found : c.in_ok-advance.field-0 ≡ true = search rules in
-      let a = at_record g.R.Input.remaining (sizes c.args.loader.now.scale) read rows c.loop.loader c.loop.records c.advance.new.self c.loop.counter c.in_ok-advance.field-0 few inv found c.in_ok-advance.ensures.reads_next c.advance.ensures.number in
+      let a = at_record g.R.Input.remaining (sizes c.args.loader.now.format c.args.loader.now.scale) read rows c.loop.loader c.loop.records c.advance.new.self c.loop.counter c.in_ok-advance.field-0 few inv found c.in_ok-advance.ensures.reads_next c.advance.ensures.number in
       let none = c.in_ok-read_record.ensures.exact a.few in
       let done = rw c.in-Row.is at c.in_ok-read_record.ensures.done in
-      next_at g.R.Input.remaining (sizes c.args.loader.now.scale) read rows c.loop.loader c.read_record.new.loader c.loop.records c.advance.new.self c.loop.counter inv.same_scale a none done (c.in_ok-advance.ensures.kept found),
+      next_at g.R.Input.remaining (sizes c.args.loader.now.format c.args.loader.now.scale) read rows c.loop.loader c.read_record.new.loader c.loop.records c.advance.new.self c.loop.counter inv.same_scale a none done (c.in_ok-advance.ensures.kept found),
   λ fine. c.in_ok-advance.ensures.lasts (c.loop.invariant.2 fine),
 )
 
@@ -53,10 +53,10 @@ pub returns-in-End-clause-first : goal.returns-in-End-clause-first
 returns-in-End-clause-first g c = λ read rows few at number left.
     let inv = c.loop.invariant.1 read rows few at number left in
     let found : c.in_ok-advance.field-0 ≡ true = search rules in
-    let a = at_record g.R.Input.remaining (sizes c.args.loader.now.scale) read rows c.loop.loader c.loop.records c.advance.new.self c.loop.counter c.in_ok-advance.field-0 few inv found c.in_ok-advance.ensures.reads_next c.advance.ensures.number in
+    let a = at_record g.R.Input.remaining (sizes c.args.loader.now.format c.args.loader.now.scale) read rows c.loop.loader c.loop.records c.advance.new.self c.loop.counter c.in_ok-advance.field-0 few inv found c.in_ok-advance.ensures.reads_next c.advance.ensures.number in
     let none = c.in_ok-read_record.ensures.exact a.few in
     let done = rw c.in-End.is at c.in_ok-read_record.ensures.done in
-    end_at g.R.Input.remaining (sizes c.args.loader.now.scale) read rows c.loop.loader c.read_record.new.loader c.loop.records c.advance.new.self c.loop.counter inv.same_scale a none done (c.in_ok-advance.ensures.kept found)
+    end_at g.R.Input.remaining (sizes c.args.loader.now.format c.args.loader.now.scale) read rows c.loop.loader c.read_record.new.loader c.loop.records c.advance.new.self c.loop.counter inv.same_scale a none done (c.in_ok-advance.ensures.kept found)
 
 pub returns-in_err-read_record-clause-first : goal.returns-in_err-read_record-clause-first
 returns-in_err-read_record-clause-first g c =
@@ -64,8 +64,8 @@ returns-in_err-read_record-clause-first g c =
     rw (p.1, p.2) (λ read rows few at number left.
     let inv = c.loop.invariant.1 read rows few at number left in
     let found : c.in_ok-advance.field-0 ≡ true = search rules in
-    let a = at_record g.R.Input.remaining (sizes c.args.loader.now.scale) read rows c.loop.loader c.loop.records c.advance.new.self c.loop.counter c.in_ok-advance.field-0 few inv found c.in_ok-advance.ensures.reads_next c.advance.ensures.number in
-    fault_at_record g.R.Input.remaining (sizes c.args.loader.now.scale) read rows c.loop.loader c.loop.records c.advance.new.self c.loop.counter _ inv.same_scale a (c.in_ok-advance.ensures.kept found) (c.in_err-read_record.ensures.exact a.few))
+    let a = at_record g.R.Input.remaining (sizes c.args.loader.now.format c.args.loader.now.scale) read rows c.loop.loader c.loop.records c.advance.new.self c.loop.counter c.in_ok-advance.field-0 few inv found c.in_ok-advance.ensures.reads_next c.advance.ensures.number in
+    fault_at_record g.R.Input.remaining (sizes c.args.loader.now.format c.args.loader.now.scale) read rows c.loop.loader c.loop.records c.advance.new.self c.loop.counter _ inv.same_scale a (c.in_ok-advance.ensures.kept found) (c.in_err-read_record.ensures.exact a.few))
 
 pub returns-in_err-advance-clause-first : goal.returns-in_err-advance-clause-first
 returns-in_err-advance-clause-first g c =
@@ -73,7 +73,7 @@ returns-in_err-advance-clause-first g c =
     let failed = c.in_err-advance.ensures in
     rw (p.1, p.2) (λ read rows few at number left.
     let inv = c.loop.invariant.1 read rows few at number left in
-    fault_advancing g.R.Input.remaining (sizes c.args.loader.now.scale) read rows c.loop.loader c.loop.records c.advance.new.self c.loop.counter few inv c.advance.ensures.number _ failed.faults failed.too_long)
+    fault_advancing g.R.Input.remaining (sizes c.args.loader.now.format c.args.loader.now.scale) read rows c.loop.loader c.loop.records c.advance.new.self c.loop.counter few inv c.advance.ensures.number _ failed.faults failed.too_long)
 
 pub returns-clause-first : goal.returns-clause-first
 returns-clause-first g c = λ read rows few at number left.
@@ -81,6 +81,6 @@ returns-clause-first g c = λ read rows few at number left.
     elim c.loop-test.branch [
       | else-loop-test w ↦ let bound = inv.counted in let past = w.loop-test.false in absurd (omega (arith, bound, past, few))
       | then-loop-test+in_ok-advance+then-not-branch w ↦
-          fault_at_last g.R.Input.remaining (sizes c.args.loader.now.scale) read rows c.loop.loader c.loop.records w.advance.new.self c.loop.counter few inv w.advance.ensures.number c.fault.result w.in_ok-advance.field-0
+          fault_at_last g.R.Input.remaining (sizes c.args.loader.now.format c.args.loader.now.scale) read rows c.loop.loader c.loop.records w.advance.new.self c.loop.counter few inv w.advance.ensures.number c.fault.result w.in_ok-advance.field-0
           (c.fault.ensures ∙ ap (λ r. file_fault NoEnd (record_number r)) w.records-is) w.if-not-branch.true w.in_ok-advance.ensures.reads_next
     ]
