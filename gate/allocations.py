@@ -33,7 +33,7 @@ ROOT = os.path.dirname(os.path.dirname(os.path.abspath(__file__)))
 POPULATION = ["--warehouses", "1", "--items", "10", "--customers", "3"]
 MOMENT = "2024-05-01T12:00:00"
 # A payment by number, a query of a customer's last order, a payment by last name, a payment that is rolled back, an order whose
-# second line takes from the same row of stock as its first, an order of an unknown item, an order of fifteen lines, and a query of low
+# second line takes from the same row of stock as its first, an order of an unknown item, an order of thirty lines, and a query of low
 # stock.
 REQUESTS = [
     f"P,1,1,1,1,#1,100,{MOMENT}",
@@ -42,7 +42,7 @@ REQUESTS = [
     f"P,1,1,1,1,#9,100,{MOMENT}",
     f"N,1,1,1,{MOMENT},1,1,5,1,1,6,2,1,1,3,1,2,4,1,3",
     f"N,1,1,2,{MOMENT},1,1,5,2,1,6,3,1,1,4,1,2,11,1,3",
-    f"N,1,2,3,{MOMENT},{','.join(f'{line % 10 + 1},1,{line % 7 + 1}' for line in range(15))}",
+    f"N,1,2,3,{MOMENT},{','.join(f'{line % 10 + 1},1,{line % 7 + 1}' for line in range(30))}",
     "L,1,1,20",
 ]
 # A delivery of a warehouse, as in a script, where it is ten requests; and one of a district, as in a schedule.

@@ -3,7 +3,8 @@
 
 Each case has a seed. It plays a schedule of 500 events, or of as many as --events says, by `tpcc sim`: submissions of all five
 kinds, some of them hostile, moves between executors, takes, sends and now and then rounds, with small inboxes, and in some cases
-with a small log. Every 32nd case has 64 warehouses. Every tenth case also serves scripts by `tpcc run`, with moves. In each case
+with a small log. Orders have up to 15 lines, in every fourth case up to 30. Every 32nd case has 256 warehouses. Every tenth case
+also serves scripts by `tpcc run`, with moves. In each case
 
 - `replay` of the log is equal, and gives the tables that were written; `check` of them succeeds. A schedule is also played up to
   each of its rounds, so this is so whenever nothing is active.
@@ -32,7 +33,9 @@ NAMES = ["BARBARBAR", "BARBAROUGHT", "BARBARABLE", "EINGEINGEING"]
 # The scales of the datasets: warehouses, items, customers of a district.
 SCALES = [(1, 5, 1), (2, 10, 3), (3, 70, 5), (4, 30, 3)]
 # The scale with the most warehouses, and how many cases have it: one of so many.
-WIDE, WIDENED = (64, 5, 1), 32
+WIDE, WIDENED = (256, 5, 1), 32
+# How many cases have orders of up to the most lines: one of so many.
+LONG = 4
 # How many cases serve scripts too: one of so many.
 SERVED = 10
 # How many cases there are in a batch, for each processor. A batch ends when its last case does.
@@ -51,6 +54,7 @@ class Draws:
         self.scale = self.random.choice(SCALES)
         if seed % WIDENED == 0:
             self.scale = WIDE
+        self.most_lines = 30 if seed % LONG == 0 else 15
 
     def number(self, most):
         """Returns a number from 1 to `most`, or now and then one that is out of this range."""
@@ -74,7 +78,7 @@ class Draws:
             return f"D,{w}{'' if in_script else f',{d}'},{self.random.randint(1, 10)},{moment}"
         if kind == "L":
             return f"L,{w},{d},{self.random.randint(10, 20)}"
-        lines = [f"{self.number(items)},{self.number(warehouses)},{self.random.randint(1, 10)}" for _ in range(self.random.randint(5, 15))]
+        lines = [f"{self.number(items)},{self.number(warehouses)},{self.random.randint(1, 10)}" for _ in range(self.random.randint(5, self.most_lines))]
         return f"N,{w},{d},{self.number(self.scale[2])},{moment},{','.join(lines)}"
 
     def schedule(self, events):

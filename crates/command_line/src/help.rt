@@ -10,7 +10,7 @@ Files are CSV without a header row, as docs/FORMATS.md tells. Units and ranges:
   money      whole cents, -10^15 to 10^15; the amount of a payment 100 to 500,000
   rates      ten-thousandths, 0 to 9,999
   moments    YYYY-MM-DDTHH:MM:SS, years 1970 to 9999, without a zone
-  scale      1 to 64 warehouses of ten districts, 1 to 100,000 items, 1 to 3,000 customers a district
+  scale      1 to 256 warehouses of ten districts, 1 to 100,000 items, 1 to 3,000 customers a district
   sessions   0 to 63; one log has at most 16,777,216 entries
 
 Exit statuses, with what is told on the standard error:

@@ -6,7 +6,7 @@ use std::collections::LinkedList;
 /// A session's request, and the state of its pass when it made the request: the value on which its pass and the session
 /// agree. Ghost data only; no value of it is made.
 pub struct Asking {
-    /// The number of the request in its session.
+    /// The number of the request, which the ten Deliveries of a record share.
     pub number: u32,
     pub request: Request,
     /// The number of entries that the pass had seen.

@@ -3,11 +3,7 @@ ghost use Rattle.std.specs.Prelude.{◌≡◌, ◌↔◌, IfSome, IsNone};
 ghost use Rattle.rows.specs.declared.limits.TheConstants.{INBOX, MOST_ENTRIES};
 ghost use Rattle.commit_log.specs.Limits.{AreLimits};
 
-use rows::{INBOX, MOST_ENTRIES, Ranged};
-
-const LONGEST_LOG: u32 = MOST_ENTRIES as u32;
-
-const LARGEST_INBOX: u32 = INBOX as u32;
+use rows::{LARGEST_INBOX, LONGEST_LOG, Ranged};
 
 /// A number of entries that a log can be limited to: 1 to 16,777,216.
 pub type LogLimit = Ranged<1, LONGEST_LOG>;

@@ -10,7 +10,7 @@ use std::collections::LinkedList;
 pub struct Item {
     /// The place of the entry in the log, from 0.
     pub place: u32,
-    /// The number of the request in its session.
+    /// The number of the request, which the ten Deliveries of a record share.
     pub number: u32,
     pub request: Request,
     pub reply: Reply,

@@ -1,4 +1,4 @@
-ghost use Rattle.std.specs.Prelude.{◌≡◌, ◌↔◌, ◌^◌, ℤ, pos, replicate, IsTrue, IfOk};
+ghost use Rattle.std.specs.Prelude.{◌≡◌, ◌↔◌, ◌*◌, ◌^◌, ℤ, pos, replicate, IsTrue, IfOk};
 ghost use Rattle.rows.specs.declared.keys.CustomerKey as customer_key;
 ghost use Rattle.schema.specs.Consistency.{delivered, paid, BalancesAreOwed, BalancesArePaid};
 ghost use Rattle.consistency.specs.Totals.{IsWithin};
@@ -49,7 +49,7 @@ pub(crate) fn balances_are_paid(tables: &Tables, deliveries: &[i128]) -> bool
 fn paid_totals(tables: &Tables, alloc: Global) -> Result<Vec<i128>, NoMemory>
     ensures totals { IfOk result
         (λ totals. AreTotals tables.now.scale (paid tables.now) totals.items) }
-    ensures within { IfOk result (λ totals. AreWithin (2 ^ 124) totals.items) }
+    ensures within { IfOk result (λ totals. AreWithin (2 ^ 126) totals.items) }
 {
     let scale = tables.scale();
     let rows = tables.rows();
@@ -70,7 +70,7 @@ pub(crate) fn zeros(count: usize, alloc: Global) -> Result<Vec<i128>, NoMemory>
 // Adds each payment to the total of the customer who made it.
 fn credit_payers(totals: &mut [i128], scale: Scale, payments: &[History])
     requires room { HasRoom scale totals.old }
-    requires within { AreWithin (2 ^ 124) totals.old }
+    requires within { AreWithin (2 ^ 126) totals.old }
     ensures added { (before : customer_key.CustomerKey → ℤ) → AreTotals scale before totals.old
         → AreTotals scale (with_payments payments.now before) totals.new }
     ensures within { GrowsAtMost (2 ^ 114) totals.old totals.new }
@@ -83,7 +83,7 @@ fn credit_payers(totals: &mut [i128], scale: Scale, payments: &[History])
 /// Adds the amount to the customer's total.
 pub(crate) fn credit(totals: &mut [i128], scale: Scale, customer: CustomerKey, amount: i64)
     requires room { HasRoom scale totals.old }
-    requires within { AreWithin (2 ^ 125) totals.old }
+    requires within { AreWithin (3 * 2 ^ 125) totals.old }
     requires amount { IsWithin (2 ^ 50) amount }
     ensures added { (before : customer_key.CustomerKey → ℤ) → AreTotals scale before totals.old
         → AreTotals scale (with_amount customer amount before) totals.new }

@@ -73,11 +73,6 @@ impl<J: ServeNames, G: Gate> Engine<'_, J, G> {
         self.closing.close(rt);
     }
 
-    /// Whether `close` was called.
-    pub fn is_closed(&self) -> bool {
-        self.closing.closed().is_some()
-    }
-
     /// Makes all executors end soon.
     pub fn stop(&self) {
         self.is_stopped.store(true, Ordering::SeqCst);

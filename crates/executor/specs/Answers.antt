@@ -14,7 +14,7 @@ use Rattle.transactions.specs.Acting.{CanAllBeSettled, CanAllBeUndone}
 
 -- ---- the answer
 
--- an answer: the transaction's age, the number of the request in its session, the session's pass, and the place of the
+-- an answer: the transaction's age, the number of the request, the session's pass, and the place of the
 -- transaction's entry in the log, or why it was refused
 pub record AnswerView : Type 0 where
   pub age : ℕ

@@ -19,7 +19,7 @@ use Rattle.transactions.specs.Logged.{is_settled, why_refused}
 use Rattle.executor.specs.Transactions.{TransactionView}
 use Rattle.executor.specs.Answers.{ReleaseView, release_view, returns_view, answer_view}
 
--- a transaction that was carried out: its phase owner, its age, its slot, the number of its request in its session, the request,
+-- a transaction that was carried out: its phase owner, its age, its slot, the number of its request, the request,
 -- the session's pass, the claims of its actions, by place, and the reply
 pub record CommitView : Type 0 where
   pub phase_owner : PhaseOwnerView

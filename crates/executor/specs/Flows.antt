@@ -16,7 +16,7 @@ pub record IsAskedBy (number : ℕ) (request : Request) (pass : PassView) : Type
   pub seen : pass.seen ≡ pass.asks.seen
   pub mine : pass.mine ≡ pass.asks.mine
 
--- a transaction between two phases: its age, its slot, the number of its request in its session, the request, the session's pass,
+-- a transaction between two phases: its age, its slot, the number of its request, the request, the session's pass,
 -- the claims of the actions of its earlier phases, by place, and how far it has come
 pub record FlowView : Type 0 where
   pub age : ℕ

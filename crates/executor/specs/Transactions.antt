@@ -4,7 +4,7 @@ use Rattle.requests.specs.declared.request.Request.{Request}
 use Rattle.commit_log.specs.PassView.{PassView}
 use Rattle.executor.specs.declared.flow.Transaction.{Transaction}
 
--- its age, its slot, the number of its request in its session, the request, and the session's pass
+-- its age, its slot, the number of its request, the request, and the session's pass
 pub record TransactionView : Type 0 where
   pub age : ℕ
   pub slot : ℕ

@@ -19,7 +19,7 @@ use transactions::{HeldClaims, Logged};
 
 /// A transaction that was carried out and is to be logged.
 ///
-/// Contracts see the transaction's age, its slot, the number of its request in its session, the request, the pass, the claims of
+/// Contracts see the transaction's age, its slot, the number of its request, the request, the pass, the claims of
 /// its actions, by place, the reply, and the phase owner. Invariant: its session has asked it with this pass, and the pass is
 /// unchanged since; the check accepts the request; the request was carried out under these claims with this reply; all that was
 /// done under them can be undone; and the phase owner is that of the transaction's slot.
@@ -78,7 +78,7 @@ impl<J: Names> Commit<J> {
         self.transaction.pass.session()
     }
 
-    /// The number of the request in its session.
+    /// The number of the request, which the ten Deliveries of a record share.
     pub fn number(&self) -> u32
         ensures { result ≡ self.now.number }
     {

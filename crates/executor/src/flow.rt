@@ -37,7 +37,7 @@ pub(crate) struct Transaction<J: LogNames + GroupNames> {
 
 /// A transaction between two phases, with its session's pass and the claims of the actions of its earlier phases.
 ///
-/// Contracts see its age, its slot, the number of its request in its session, the request, the pass, those claims by place, and
+/// Contracts see its age, its slot, the number of its request, the request, the pass, those claims by place, and
 /// how far it has come. Invariant: its session has asked the request with this pass, and the pass is unchanged since; the request
 /// has come so far under these claims; and all that was done under them can be undone.
 #[derive(Drop)]

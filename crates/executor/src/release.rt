@@ -19,7 +19,7 @@ use transactions::HeldClaims;
 /// The answer to a session, with the session's pass: the place of the transaction's entry in the log, or why it was refused. The
 /// entry contains the reply.
 ///
-/// Contracts see the transaction's age, the number of the request in its session, the pass, and the answer. Invariant: the pass
+/// Contracts see the transaction's age, the number of the request, the pass, and the answer. Invariant: the pass
 /// has seen and logged what it had when the session asked, and this answer; and a refused request may be refused for this reason.
 #[derive(Drop)]
 pub struct SessionAnswer<J: Names> {
@@ -49,7 +49,7 @@ impl<J: Names> SessionAnswer<J> {
         self.pass.session()
     }
 
-    /// The number of the request in its session.
+    /// The number of the request, which the ten Deliveries of a record share.
     pub fn number(&self) -> u32
         ensures { result ≡ self.now.number }
     {

@@ -22,7 +22,7 @@ use Rattle.machine.specs.NewOrder.{Stocks, stock_key_of, taken_from, quantity_af
 abbrev pub AreQuantities : List OrderedLine → Type 0
 AreQuantities lines = All (λ line. (1 ≤ line.quantity) × (line.quantity ≤ 10)) lines
 
--- the order has 1 to 15 lines, each with a quantity from 1 to 10 (clause 2.4.1)
+-- the order has 1 to MOST_LINES lines, each with a quantity from 1 to 10 (clause 2.4.1)
 pub record IsOrderWithin (n : NewOrder) : Type 0 where
   pub some_line : 1 ≤ length n.lines
   pub most_lines : length n.lines ≤ MOST_LINES

@@ -29,7 +29,7 @@ pub fn stock_level_reply(
 }
 
 /// Returns the item of each line of the district's 20 orders before number `next`, by O_ID and then by OL_NUMBER: at
-/// most 300 items. Returns NoMemory if an allocation fails; nothing is left behind then.
+/// most 600 items. Returns NoMemory if an allocation fails; nothing is left behind then.
 pub fn recent_items<T: Rows>(
     alloc: Global,
     rows: &T,

@@ -11,6 +11,7 @@ use Rattle.rows.specs.declared.keys.OrderKey.{OrderKey}
 use Rattle.rows.specs.declared.keys.OrderLineKey.{OrderLineKey}
 use Rattle.rows.specs.declared.records.Order.{Order}
 use Rattle.rows.specs.declared.records.OrderLine.{OrderLine}
+use Rattle.rows.specs.declared.limits.TheConstants.{LAST_LINE}
 use Rattle.rows.specs.Keys.{order_cmp, line_cmp}
 use Rattle.schema.specs.EachRow.{EachRow}
 use Rattle.schema.specs.MapRows.{map_rows}
@@ -124,7 +125,7 @@ dated_back_more order moments place moment key old mid new is at held one q =
     is ∙ ap (λ k. slice_index_or moments k None) (let k : place ≡ q.number - 1 = omega arith in k)) (get old q)
 
 -- all lines of the order
-pub dated_back_all : (order : OrderKey) (moments : List (Option ℕ)) (number : ℕ) (old new : LineTable) → number ≡ 16 → EachRow (λ key _. is_line_number key.number) old → AreDatedBack order moments number old new
+pub dated_back_all : (order : OrderKey) (moments : List (Option ℕ)) (number : ℕ) (old new : LineTable) → number ≡ LAST_LINE + 1 → EachRow (λ key _. is_line_number key.number) old → AreDatedBack order moments number old new
     → new ≡ map_rows (with_moments_back order moments) old
 dated_back_all order moments number old new e numbered held = same_map lines_total lines_exact new (map_rows (with_moments_back order moments) old) (λ q.
     held q

@@ -29,7 +29,7 @@ pub trait Rows {
         ensures value { result ≡ (tables self.now).scale }
         ensures rows { AreRows (slot self.now) (districts self.now) (tables self.now) };
 
-    /// Returns the number of districts whose rows are here: 10 to 640.
+    /// Returns the number of districts whose rows are here: 10 to 2,560.
     fn district_count(&self) -> u32
         ensures { result ≡ districts self.now };
 
@@ -74,7 +74,7 @@ pub trait Rows {
         ensures fits { length result < 2 ^ 63 };
 
     /// Returns the lines of the district's orders with numbers from `from` up to but excluding `to`, by
-    /// O_ID and then by OL_NUMBER, which is 1 to 15.
+    /// O_ID and then by OL_NUMBER, which is 1 to 30.
     fn lines_of_span(&self, home: DistrictKey, from: u32, to: u32) -> Lines<'_>
         ensures rows { result ≡ rows_where (is_in_span home from to) (tables self.now).lines }
         ensures numbered { LinesNumbered (tables self.now) }

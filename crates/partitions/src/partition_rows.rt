@@ -62,7 +62,7 @@ impl Rows for Partition {
     }
 
     fn lines_of_span(&self, home: DistrictKey, from: u32, to: u32) -> Lines<'_> {
-        // For the contract: the lines of a part are numbered from 1 to 15.
+        // For the contract: the lines of a part are numbered from 1 to 30.
         let _ = self.home();
         Partition::lines_of_span(self, home, from, to)
     }

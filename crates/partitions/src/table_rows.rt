@@ -62,7 +62,7 @@ impl Rows for Tables {
     }
 
     fn lines_of_span(&self, home: DistrictKey, from: u32, to: u32) -> Lines<'_> {
-        // For the contract: within the scale, lines are numbered from 1 to 15.
+        // For the contract: within the scale, lines are numbered from 1 to 30.
         let _ = self.scale();
         self.lines_of_span(home, from, to)
     }

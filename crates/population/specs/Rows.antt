@@ -6,6 +6,7 @@ use Rattle.std.specs.declared.cmp.Ordering.TheVariants.{Less}
 use Rattle.rows.specs.declared.keys.DistrictKey.{DistrictKey}
 use Rattle.rows.specs.declared.keys.OrderKey.{OrderKey}
 use Rattle.rows.specs.declared.keys.OrderLineKey.{OrderLineKey}
+use Rattle.rows.specs.declared.limits.TheConstants.{FEWEST_LINES, MOST_DRAWN_LINES}
 use Rattle.rows.specs.declared.records.Address.{Address}
 use Rattle.rows.specs.declared.records.Item.{Item}
 use Rattle.rows.specs.declared.records.Warehouse.{Warehouse}
@@ -140,7 +141,7 @@ pub record AreOpeningPayments (now : ℕ) (home : DistrictKey) (customers : ℕ)
   pub dates : All (λ row. row.date ≡ now) payments
   pub text : All (λ row. IsDrawnText 12 24 row.«data») payments
 
--- An order is of a customer of its district, entered at the moment, and has 5 to 15 lines, all local. It has no carrier
+-- An order is of a customer of its district, entered at the moment, and has FEWEST_LINES to MOST_DRAWN_LINES lines, all local. It has no carrier
 -- exactly if it is new, else a carrier from 1 to 10 (clause 4.3.3.1).
 pub record IsOpeningOrder (scale : Scale) (now : ℕ) (key : OrderKey) (row : Order) : Type 0 where
   pub number : IsTrue (is_order_id key.o_id)
@@ -148,8 +149,8 @@ pub record IsOpeningOrder (scale : Scale) (now : ℕ) (key : OrderKey) (row : Or
   pub carrier : (row.carrier_id ≡ None) ↔ (delivered_orders scale < key.o_id)
   pub carrier_id : (id : ℕ) → row.carrier_id ≡ Some id → IsFrom 1 10 id
   pub entry_d : row.entry_d ≡ now
-  pub some_lines : 5 ≤ row.ol_cnt
-  pub few_lines : row.ol_cnt ≤ 15
+  pub some_lines : FEWEST_LINES ≤ row.ol_cnt
+  pub few_lines : row.ol_cnt ≤ MOST_DRAWN_LINES
   pub all_local : row.all_local ≡ true
 
 -- A line is of five pieces, from the order's own warehouse. If its order is new, it is not delivered and its amount is

@@ -14,6 +14,7 @@ use crate::append::append;
 use crate::draws::Draws;
 use crate::order_rows::{add_lines, carrier};
 use crate::profile::is_new;
+use rows::{FEWEST_LINES, MOST_DRAWN_LINES};
 use schema::{
     DistrictKey, LineCount, Moment, NewOrder, NoMemory, Order, OrderKey, OrderLines, Scale,
 };
@@ -89,7 +90,7 @@ impl OrderBook {
         ensures book { OnOk result (IsBookOf scale now self.new) }
     {
         let carrier_id = carrier(draws, scale, key.o_id);
-        let ol_cnt = LineCount::new(draws.random(5, 15));
+        let ol_cnt = LineCount::new(draws.random(FEWEST_LINES as u32, MOST_DRAWN_LINES));
         let row = Order {
             c_id: customer,
             entry_d: now,

@@ -133,7 +133,7 @@ pub record IsPlacementOf (executors : ℕ) (placement : Placement) : Type 0 wher
   pub there : comes_to placement.place < executors
   pub notes : length placement.notes ≡ 16
 
--- There are 1 to 16 executors and at most 64 warehouses, and every placement is valid for these executors.
+-- There are 1 to 16 executors and at most MOST_WAREHOUSES warehouses, and every placement is valid for these executors.
 pub record AreKept (h : PlacementsView) : Type 0 where
   pub some : 1 ≤ h.executors
   pub most : h.executors ≤ 16

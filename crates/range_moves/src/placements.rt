@@ -156,7 +156,7 @@ impl Placements {
         1 <= self.awaited
     }
 
-    /// Establishes for contracts the invariant: there are at most 16 executors and 64 warehouses; each slice is at one
+    /// Establishes for contracts the invariant: there are at most 16 executors and 256 warehouses; each slice is at one
     /// of the executors, or on its way to one; and each placement has 16 notes.
     pub fn are_kept(&self)
         ensures { AreKept self.now }

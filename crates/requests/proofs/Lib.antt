@@ -1,5 +1,6 @@
 pub mod Found
 pub mod ScriptParts
+pub mod PartsDiffer
 pub mod Checked
 pub mod NewOrderReplies
 pub mod PaymentReplies

@@ -30,7 +30,7 @@ pub use payment::{Payment, PaymentReply};
 pub use refusal::Refusal;
 pub use reply::{Fault, Reply, Shown};
 pub use request::{Choice, Request};
-pub use script::{MOST_REQUESTS, Part, Script};
+pub use script::{MOST_REQUESTS, Part, Script, parts_of_records_differ};
 pub use shown_data::ShownData;
 pub use stock_level::{StockLevel, StockLevelReply};
 pub use terminal_request::{TerminalRequest, WarehouseDelivery};

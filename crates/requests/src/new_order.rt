@@ -25,7 +25,7 @@ pub struct NewOrder {
     pub c_id: u32,
     /// O_ENTRY_D, which the request contains.
     pub moment: Moment,
-    /// By OL_NUMBER: 5 to 15 lines.
+    /// By OL_NUMBER: 5 to 30 lines.
     pub lines: Lines<OrderedLine>,
 }
 

@@ -1,15 +1,15 @@
 ghost use Rattle.std.specs.Prelude.{◌≡◌, ◌↔◌, ◌≤◌, [], ◌∷◌, ◌++◌, length, IsSome, IfOk, IfSome, OnOk};
-ghost use Rattle.requests.specs.Script.{part, parts_from, parts_of};
+ghost use Rattle.requests.specs.Script.{PartsOfRecordsDiffer, part, parts_from, parts_of};
 
 use crate::{Request, TerminalRequest, WarehouseDelivery};
 use schema::NoMemory;
 use std::alloc::Global;
 use std::marker::Model;
 
-/// The maximum number of requests in a script, so that a `u32` numbers each.
+/// The maximum number of requests in a script, so that a `u32` numbers each record.
 pub const MOST_REQUESTS: usize = 4_294_967_296;
 
-/// One request of a script, which is of a record of it.
+/// One request of a script: a record of it, or one of the ten Deliveries of a record.
 #[derive(Debug, PartialEq, Eq, Drop)]
 pub struct Part {
     /// The number of its record in the script, from 0, which answers and log entries show.
@@ -17,7 +17,8 @@ pub struct Part {
     pub request: Request,
 }
 
-/// The requests of one session, submitted in turn.
+/// The requests of one session, submitted in turn: the parts of its records. The ten Deliveries of a record share
+/// its number.
 #[derive(Drop)]
 pub struct Script {
     parts: Vec<Part>,
@@ -77,6 +78,12 @@ impl Script {
         self.parts.as_slice()
     }
 }
+
+/// A law (proved, no effect at run time): the parts of a script made from records differ from each other, by their
+/// numbers or by the districts of their Deliveries.
+pub fn parts_of_records_differ()
+    ensures { PartsOfRecordsDiffer }
+{}
 
 // Adds the parts of the record with this number.
 fn push_parts(parts: &mut Vec<Part>, number: u32, asked: TerminalRequest) -> Result<(), NoMemory>

@@ -15,8 +15,8 @@ mod text;
 
 pub use keys::{CustomerKey, DistrictKey, OrderKey, OrderLineKey, StockKey};
 pub use limits::{
-    FEWEST_LINES, INBOX, LAST_LINE, MOST_ENTRIES, MOST_LINES, MOST_WAREHOUSES, RECENT_LINES,
-    SESSIONS, STOCK_GROUPS,
+    FEWEST_LINES, INBOX, LARGEST_INBOX, LAST_LINE, LONGEST_LOG, MOST_DRAWN_LINES, MOST_ENTRIES,
+    MOST_LINES, MOST_WAREHOUSES, RECENT_LINES, SESSIONS, STOCK_GROUPS,
 };
 pub use moment::Moment;
 pub use names::last_name;

@@ -98,7 +98,7 @@ customer_of_order key row = record { w_id = key.w_id; d_id = key.d_id; c_id = ro
 abbrev pub is_order_id : ℕ → Bool
 is_order_id number = is_between 1 9999999 number
 
--- whether OL_NUMBER is from 1 to 15
+-- whether OL_NUMBER is from 1 to LAST_LINE
 abbrev pub is_line_number : ℕ → Bool
 is_line_number number = is_between 1 LAST_LINE number
 

@@ -7,7 +7,7 @@ use rows::{CustomerKey, DistrictKey, MOST_WAREHOUSES, StockKey};
 /// warehouse has ten districts.
 #[derive(Clone, Copy, Debug, PartialEq, Eq)]
 pub struct Scale {
-    /// Number of warehouses, 1 to 64.
+    /// Number of warehouses, 1 to 256.
     pub warehouses: u32,
     /// Number of items, 1 to 100,000.
     pub items: u32,

@@ -1,3 +1,4 @@
+use rows::LAST_LINE;
 use thiserror::Error;
 
 /// The rule of the scale that rows break.
@@ -25,7 +26,7 @@ pub enum ScaleFault {
     NewOrderOrder,
     #[error("OL_W_ID, OL_D_ID and OL_O_ID name no order")]
     LineOrder,
-    #[error("OL_NUMBER is not 1 to 15")]
+    #[error("OL_NUMBER is not 1 to {last}", last = LAST_LINE)]
     LineNumber,
     #[error("OL_I_ID names no item")]
     LineItem,

@@ -73,7 +73,7 @@ abbrev pub AreNamesAt : Database → CustomerKey → customer.Customer → Type 
 AreNamesAt t key row = AreNamesOf (table.get t.customers key) row
 
 -- The precondition of adding an order to a warehouse's rows: it is of the warehouse, with a number in its range and a
--- customer of the scale, and it has at most 15 lines, with items and suppliers of the scale.
+-- customer of the scale, and it has at most MOST_LINES lines, with items and suppliers of the scale.
 pub record IsOrderFor (p : Part) (key : OrderKey) (row : order.Order) (rows : List OrderLine) : Type 0 where
   pub home : key.w_id ≡ p.home
   pub number : IsTrue (is_order_id key.o_id)

@@ -55,7 +55,7 @@ pub enum Progress {
     CountLow(StockLevel, Items),
 }
 
-/// The items of the lines of 20 orders, each as often as it is in a line: 300 at most. Contracts see them as a list.
+/// The items of the lines of 20 orders, each as often as it is in a line: 600 at most. Contracts see them as a list.
 #[derive(Drop)]
 pub struct Items {
     ids: Vec<u32>,
@@ -184,7 +184,7 @@ pub fn read_next<J: GroupNames>(
     }
 }
 
-/// Reads the item of each line of the district's 20 orders before this number: 300 at most. Changes nothing, and allocates only
+/// Reads the item of each line of the district's 20 orders before this number: 600 at most. Changes nothing, and allocates only
 /// for the items.
 pub fn read_items<J: GroupNames>(
     alloc: Global,

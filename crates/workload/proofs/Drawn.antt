@@ -3,6 +3,7 @@ use Rattle.std.proofs.Common.{◌≡◌, ℕ, zero, suc, ◌+◌, ◌-◌, ◌<�
 use Rattle.std.specs.Prelude.{All, min}
 use Rattle.std.proofs.lemmas.List.Elements.{All-nil, All-cons}
 use Rattle.rand_pcg.specs.Lcg.{Lcg}
+use Rattle.rows.specs.declared.limits.TheConstants.{FEWEST_LINES, MOST_DRAWN_LINES}
 use Rattle.rows.specs.Ranged.{is_between}
 use Rattle.rows.specs.LastName.{last_name_of}
 use Rattle.schema.specs.declared.scale.Scale.{Scale}
@@ -43,9 +44,9 @@ new_order-accepted : (terminal : Terminal) (moment : ℕ) (generator : Lcg) → 
 unfolding request_drawn new_order_drawn
 new_order-accepted terminal moment generator there =
     let back = rolls_back generator in
-    let count = random_of 5 15 (beyond 3 generator) in
+    let count = random_of FEWEST_LINES MOST_DRAWN_LINES (beyond 3 generator) in
     let lines = (lines_drawn terminal back count (beyond 5 generator)).0 in
-    let many : is_between 5 15 (length lines) ≡ true = ap (is_between 5 15) (lines-count terminal back count (beyond 5 generator)) ∙ random-between 5 15 (beyond 3 generator) (omega arith) in
+    let many : is_between FEWEST_LINES MOST_DRAWN_LINES (length lines) ≡ true = ap (is_between FEWEST_LINES MOST_DRAWN_LINES) (lines-count terminal back count (beyond 5 generator)) ∙ random-between FEWEST_LINES MOST_DRAWN_LINES (beyond 3 generator) (omega arith) in
     accepted-alone terminal.scale _ (accepted-new_order terminal.scale (new_order_drawn terminal moment generator).0 there.warehouse (random-between 1 10 generator (omega arith)) many
     (lines-quantities terminal back count (beyond 5 generator)) (lines-suppliers terminal back count (beyond 5 generator) there))
 
@@ -58,8 +59,8 @@ new_order-within : (terminal : Terminal) (moment : ℕ) (generator : Lcg) → Is
 unfolding request_drawn new_order_drawn
 new_order-within terminal moment generator =
     let back = rolls_back generator in
-    let count = random_of 5 15 (beyond 3 generator) in
-    let bounds = rest_between 5 15 (word (beyond 3 generator)) (omega arith) in (
+    let count = random_of FEWEST_LINES MOST_DRAWN_LINES (beyond 3 generator) in
+    let bounds = rest_between FEWEST_LINES MOST_DRAWN_LINES (word (beyond 3 generator)) (omega arith) in (
       refl,
       nu_rand-between 1023 500 1 terminal.scale.customers (beyond 1 generator) (omega arith),
       some-items terminal back count (beyond 5 generator) (omega arith),

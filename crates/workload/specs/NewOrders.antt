@@ -1,6 +1,7 @@
 -- How a New-Order is drawn (clause 2.4.1). Each definition gives the drawn value and the generator after it.
 use Rattle.std.specs.Prelude.{ℕ, zero, suc, ◌+◌, ◌==◌, Bool, ◌&&◌, List, [], ◌∷◌, if◌then◌else◌}
 use Rattle.rand_pcg.specs.Lcg.{Lcg}
+use Rattle.rows.specs.declared.limits.TheConstants.{FEWEST_LINES, MOST_DRAWN_LINES}
 use Rattle.schema.specs.declared.scale.Scale.{Scale}
 use Rattle.requests.specs.declared.new_order.NewOrder.{NewOrder}
 use Rattle.requests.specs.declared.new_order.OrderedLine.{OrderedLine}
@@ -35,10 +36,10 @@ lines_drawn terminal rolls_back (suc left) generator =
 abbrev pub rolls_back : Lcg → Bool
 rolls_back generator = random_of 1 100 (beyond 4 generator) == 1
 
--- the order: the district, the customer, the number of lines, 5 to 15, whether it is to be rolled back, and the lines
+-- the order: the district, the customer, the number of lines, FEWEST_LINES to MOST_DRAWN_LINES, whether it is to be rolled back, and the lines
 unfoldable pub new_order_drawn : Terminal → ℕ → Lcg → NewOrder × Lcg
 new_order_drawn terminal moment generator =
-    let lines = lines_drawn terminal (rolls_back generator) (random_of 5 15 (beyond 3 generator)) (beyond 5 generator) in (
+    let lines = lines_drawn terminal (rolls_back generator) (random_of FEWEST_LINES MOST_DRAWN_LINES (beyond 3 generator)) (beyond 5 generator) in (
       record {
         home = record { w_id = terminal.home.w_id; d_id = random_of 1 10 generator };
         c_id = customer_id terminal.scale (beyond 1 generator);

@@ -6,6 +6,7 @@ use crate::customers::customer_number;
 use crate::warehouses::supplier;
 use number_draws::NumberDraws;
 use requests::{Lines, NewOrder, OrderedLine};
+use rows::{FEWEST_LINES, MOST_DRAWN_LINES};
 use schema::{DistrictKey, Moment, NoMemory, Scale};
 use std::alloc::Global;
 
@@ -29,7 +30,7 @@ pub(crate) fn new_order(
         d_id: draws.random(1, 10),
     };
     let c_id = customer_number(draws, terminal.scale);
-    let count = draws.random(5, 15);
+    let count = draws.random(FEWEST_LINES as u32, MOST_DRAWN_LINES);
     let rolls_back = draws.random(1, 100) == 1;
     let lines = lines(alloc, draws, terminal, count, rolls_back)?;
     Ok(NewOrder {

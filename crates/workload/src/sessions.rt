@@ -20,7 +20,7 @@ pub struct Workload {
     pub start: Moment,
     /// The seed of all draws.
     pub seed: u32,
-    /// The number of requests of each session.
+    /// The number of records in the script of each session, one of which may stand for ten requests (a Delivery).
     pub requests: u32,
     pub ghost of_scale: { ForSome home (λ w_id. IsTrue (has_warehouse scale w_id)) },
 }

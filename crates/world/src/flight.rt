@@ -13,7 +13,7 @@ pub struct Transaction<J: Names> {
     pub age: u64,
     /// Its slot at the desk, 0 to 63.
     pub slot: usize,
-    /// The number of the request within its session.
+    /// The number of the request, as it was submitted.
     pub number: u32,
     pub request: Request,
     pub pass: Pass<J>,

@@ -9,15 +9,8 @@ use crate::paths::are_one;
 use crate::usage::UsageFault;
 use clap::{Arg, ArgAction, ArgMatches, Command};
 use files::{parse_moment, parse_whole};
-use rows::{INBOX, MOST_ENTRIES};
 use schema::Moment;
 use std::alloc::Global;
-
-/// The greatest limit of a log, in entries.
-pub const LONGEST_LOG: u32 = MOST_ENTRIES as u32;
-
-/// The greatest limit of an inbox, in messages.
-pub const LARGEST_INBOX: u32 = INBOX as u32;
 
 /// A command with its help texts, `about` before the arguments and `after` behind them, and no arguments yet.
 pub fn named<'a>(

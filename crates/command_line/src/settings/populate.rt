@@ -60,7 +60,7 @@ pub fn command<'a>(alloc: Global) -> Result<Command<'a>, AllocError>
         .arg(counted(
             alloc,
             "warehouses",
-            "How many warehouses, 1 to 64; 1 by default",
+            "How many warehouses, 1 to 256; 1 by default",
         ))?
         .arg(counted(
             alloc,

@@ -6,13 +6,13 @@ ghost use Rattle.command_line.specs.Settings.{IsRunnable};
 ghost use Rattle.command_line.specs.Words.{AsksToRun};
 
 use crate::settings::arguments::{
-    LARGEST_INBOX, LONGEST_LOG, arguments, counted, data, executors, inbox, log, log_limit, named,
-    number, option, quiet, same, summary, word,
+    arguments, counted, data, executors, inbox, log, log_limit, named, number, option, quiet, same,
+    summary, word,
 };
 use crate::usage::UsageFault;
 use clap::{ArgMatches, Command};
 use routing::MOST_EXECUTORS;
-use rows::SESSIONS;
+use rows::{LARGEST_INBOX, LONGEST_LOG, SESSIONS};
 use std::alloc::{AllocError, Global};
 
 // The most times that a request is tried that died or ran out of memory.

@@ -12,13 +12,13 @@ use crate::settings::arguments::{
 use crate::settings::mix::mix;
 use crate::usage::UsageFault;
 use clap::{ArgMatches, Command};
-use rows::{MOST_ENTRIES, MOST_WAREHOUSES, SESSIONS};
+use rows::{LONGEST_LOG, MOST_WAREHOUSES, SESSIONS};
 use schema::Moment;
 use std::alloc::{AllocError, Global};
 use workload::Mix;
 
 // A script has no more records than a log has entries.
-const MOST_REQUESTS: u32 = MOST_ENTRIES as u32;
+const MOST_REQUESTS: u32 = LONGEST_LOG;
 
 /// The settings of `tpcc script`: paths of files, and the parameters of the scripts.
 #[derive(Debug, Drop)]
@@ -30,7 +30,7 @@ pub struct ScriptSettings<'a> {
     pub requests: u32,
     pub seed: u32,
     pub mix: Mix,
-    /// The home warehouse of all sessions, 1 to 64; if `None`, each session has its own.
+    /// The home warehouse of all sessions, 1 to 256; if `None`, each session has its own.
     pub home: Option<u32>,
     /// Whether other warehouses take part.
     pub remote: bool,
@@ -156,7 +156,7 @@ pub fn command<'a>(alloc: Global) -> Result<Command<'a>, AllocError>
         .arg(counted(
             alloc,
             "requests",
-            "How many requests each script has, 0 to 16,777,216; 1,000 by default",
+            "How many records each script has, 0 to 16,777,216, of which a Delivery is ten requests; 1,000 by default",
         ))?
         .arg(counted(
             alloc,
@@ -173,7 +173,7 @@ pub fn command<'a>(alloc: Global) -> Result<Command<'a>, AllocError>
             alloc,
             "home",
             "W",
-            "The home warehouse of all sessions, 1 to 64; each has its own by default",
+            "The home warehouse of all sessions, 1 to 256; each has its own by default",
         ))?
         .arg(option(
             alloc,

@@ -6,12 +6,13 @@ ghost use Rattle.command_line.specs.Settings.{IsPlayable};
 ghost use Rattle.command_line.specs.Words.{AsksToSimulate};
 
 use crate::settings::arguments::{
-    LARGEST_INBOX, LONGEST_LOG, argument, data, executors, flag, inbox, log, log_limit, named,
-    number, option, quiet, same, word,
+    argument, data, executors, flag, inbox, log, log_limit, named, number, option, quiet, same,
+    word,
 };
 use crate::usage::UsageFault;
 use clap::{ArgMatches, Command};
 use routing::MOST_EXECUTORS;
+use rows::{LARGEST_INBOX, LONGEST_LOG};
 use std::alloc::{AllocError, Global};
 
 /// The settings of `tpcc sim`: paths of files, how many executors there are, and the limits of the log and of

@@ -70,7 +70,7 @@ fn order_of(rows: &Partition, home: DistrictKey, o_id: u32) -> OrderDelivered
     }
 }
 
-// The sum of the amounts of an order's lines, of which there are 300 at most.
+// The sum of the amounts of an order's lines, of which there are 600 at most.
 fn amount_of(rows: &Partition, order: OrderKey) -> u32
     requires { IsPart rows.now }
     ensures { result ≡ amount_of rows.now.tables order }

@@ -34,7 +34,7 @@ overflow_sub-deliveries c =
     let delivered_there : place < length deliveries = total_there c.args.tables.now.scale rows c.rows-rows.ensures.fits _ deliveries c.requires.totals place below in
     let paid_there : place < length payments = total_there c.args.tables.now.scale rows c.rows-rows.ensures.fits _ payments c.in_ok-payments.ensures.totals place below in
     let owing : IsWithin (2 ^ 124) (get_or deliveries place (pos 0)) = c.requires.within place _ (there deliveries place delivered_there) in
-    let paying : IsWithin (2 ^ 124) (get_or payments place (pos 0)) = c.in_ok-payments.ensures.within place _ (there payments place paid_there) in
+    let paying : IsWithin (2 ^ 126) (get_or payments place (pos 0)) = c.in_ok-payments.ensures.within place _ (there payments place paid_there) in
     let read : get_or payments place (pos 0) ≡ c.index.result.now =
     get_or_from_slice_get payments place _ (pos 0) (row_read payments payments refl place _ paid_there c.index.ensures) in
     omega (arith, ints)
@@ -50,7 +50,7 @@ returns-then-from-deliveries c =
     let delivered_there : place < length deliveries = total_there c.args.tables.now.scale rows c.rows-rows.ensures.fits _ deliveries c.requires.totals place below in
     let paid_there : place < length payments = total_there c.args.tables.now.scale rows c.rows-rows.ensures.fits _ payments c.in_ok-payments.ensures.totals place below in
     let owing : IsWithin (2 ^ 124) (get_or deliveries place (pos 0)) = c.requires.within place _ (there deliveries place delivered_there) in
-    let paying : IsWithin (2 ^ 124) (get_or payments place (pos 0)) = c.in_ok-payments.ensures.within place _ (there payments place paid_there) in
+    let paying : IsWithin (2 ^ 126) (get_or payments place (pos 0)) = c.in_ok-payments.ensures.within place _ (there payments place paid_there) in
     let read : get_or payments place (pos 0) ≡ c.index.result.now =
     get_or_from_slice_get payments place _ (pos 0) (row_read payments payments refl place _ paid_there c.index.ensures) in
     let row = c.customer-item.result in
@@ -70,7 +70,7 @@ loop-place-preserved c =
     let delivered_there : place < length deliveries = total_there c.args.tables.now.scale rows c.rows-rows.ensures.fits _ deliveries c.requires.totals place below in
     let paid_there : place < length payments = total_there c.args.tables.now.scale rows c.rows-rows.ensures.fits _ payments c.in_ok-payments.ensures.totals place below in
     let owing : IsWithin (2 ^ 124) (get_or deliveries place (pos 0)) = c.requires.within place _ (there deliveries place delivered_there) in
-    let paying : IsWithin (2 ^ 124) (get_or payments place (pos 0)) = c.in_ok-payments.ensures.within place _ (there payments place paid_there) in
+    let paying : IsWithin (2 ^ 126) (get_or payments place (pos 0)) = c.in_ok-payments.ensures.within place _ (there payments place paid_there) in
     let read : get_or payments place (pos 0) ≡ c.index.result.now =
     get_or_from_slice_get payments place _ (pos 0) (row_read payments payments refl place _ paid_there c.index.ensures) in
     let row = c.customer-item.result in

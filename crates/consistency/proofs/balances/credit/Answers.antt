@@ -1,4 +1,4 @@
-use Rattle.std.proofs.Common.{◌≡◌, ◌+◌, ◌<◌, ◌^◌, get_or, length, Some, sym, ◌∙◌, arith}
+use Rattle.std.proofs.Common.{◌≡◌, ◌+◌, ◌*◌, ◌<◌, ◌^◌, get_or, length, Some, sym, ◌∙◌, arith}
 use Rattle.std.proofs.lemmas.Int.{ints}
 use Rattle.std.specs.Prelude.{pos}
 use Rattle.schema.specs.Scale.{customer_slot}
@@ -12,7 +12,7 @@ overflow_add-totals c =
     let slot = c.in-Some.slot in
     let at : customer_slot c.args.scale c.args.customer ≡ Some slot = sym c.customer_slot.ensures ∙ c.in-Some.is in
     let below : slot < length totals = c.requires.room c.args.customer slot at in
-    let had : IsWithin (2 ^ 125) (get_or totals slot (pos 0)) = c.requires.within slot _ (there totals slot below) in
+    let had : IsWithin (3 * 2 ^ 125) (get_or totals slot (pos 0)) = c.requires.within slot _ (there totals slot below) in
     omega (arith, ints)
 
 pub returns-in-Some-clause-added : goal.returns-in-Some-clause-added
@@ -21,7 +21,7 @@ returns-in-Some-clause-added c =
     let slot = c.in-Some.slot in
     let at : customer_slot c.args.scale c.args.customer ≡ Some slot = sym c.customer_slot.ensures ∙ c.in-Some.is in
     let below : slot < length totals = c.requires.room c.args.customer slot at in
-    let had : IsWithin (2 ^ 125) (get_or totals slot (pos 0)) = c.requires.within slot _ (there totals slot below) in
+    let had : IsWithin (3 * 2 ^ 125) (get_or totals slot (pos 0)) = c.requires.within slot _ (there totals slot below) in
     totals-set c.args.scale totals c.args.customer slot at below c.args.amount _ (omega (arith, ints))
 
 pub returns-in-Some-clause-within : goal.returns-in-Some-clause-within
@@ -30,7 +30,7 @@ returns-in-Some-clause-within c =
     let slot = c.in-Some.slot in
     let at : customer_slot c.args.scale c.args.customer ≡ Some slot = sym c.customer_slot.ensures ∙ c.in-Some.is in
     let below : slot < length totals = c.requires.room c.args.customer slot at in
-    let had : IsWithin (2 ^ 125) (get_or totals slot (pos 0)) = c.requires.within slot _ (there totals slot below) in
+    let had : IsWithin (3 * 2 ^ 125) (get_or totals slot (pos 0)) = c.requires.within slot _ (there totals slot below) in
     within-set c.args.scale totals c.args.customer slot at below c.args.amount _ (omega (arith, ints)) c.requires.amount
 
 pub returns-in_default-clause-within : goal.returns-in_default-clause-within

@@ -14,7 +14,7 @@ loop-payment-init c = record {
 
 pub credit-requires-clause-within : goal.credit-requires-clause-within
 credit-requires-clause-within c =
-    within-more (2 ^ 124 + 2 ^ 50 * c.loop-payment.payment-index) (2 ^ 125) c.loop-payment.totals (omega arith) (c.loop-payment.invariant.within (2 ^ 124) c.requires.within)
+    within-more (2 ^ 126 + 2 ^ 50 * c.loop-payment.payment-index) (3 * 2 ^ 125) c.loop-payment.totals (omega arith) (c.loop-payment.invariant.within (2 ^ 126) c.requires.within)
 
 pub loop-payment-preserved : goal.loop-payment-preserved
 loop-payment-preserved c =

@@ -38,8 +38,8 @@ credit_payers-requires-clause-within c =
     let fits = c.rows-rows.ensures.fits in
     let limits = c.args.tables.now.scale.limits in
     let few : c.loop-list.list-index ≤ 10 * MOST_WAREHOUSES = omega (arith, fits.counts.histories, limits.most_warehouses, ap length c.deref-list-items.ensures.value) in
-    subst (λ (totals : List ℤ). AreWithin (2 ^ 124) totals) (sym c.deref_mut.ensures.value)
-    (within-more (2 ^ 114 * c.loop-list.list-index) (2 ^ 124) c.loop-list.totals.items (omega arith) c.loop-list.invariant.within)
+    subst (λ (totals : List ℤ). AreWithin (2 ^ 126) totals) (sym c.deref_mut.ensures.value)
+    (within-more (2 ^ 114 * c.loop-list.list-index) (2 ^ 126) c.loop-list.totals.items (omega arith) c.loop-list.invariant.within)
 
 pub loop-list-preserved : goal.loop-list-preserved
 loop-list-preserved c =
@@ -82,4 +82,4 @@ returns-clause-within c =
     let fits = c.rows-rows.ensures.fits in
     let limits = c.args.tables.now.scale.limits in
     let few : c.loop-list.list-index ≤ 10 * MOST_WAREHOUSES = omega (arith, fits.counts.histories, limits.most_warehouses, ap length c.deref-list-items.ensures.value) in
-    within-more (2 ^ 114 * c.loop-list.list-index) (2 ^ 124) c.loop-list.totals.items (omega arith) c.loop-list.invariant.within
+    within-more (2 ^ 114 * c.loop-list.list-index) (2 ^ 126) c.loop-list.totals.items (omega arith) c.loop-list.invariant.within

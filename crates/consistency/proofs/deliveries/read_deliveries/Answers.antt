@@ -94,8 +94,8 @@ pub credit-requires-clause-within : goal.credit-requires-clause-within
 credit-requires-clause-within c =
     let count = length c.loop-key.yielded in
     let few : count ≤ 2 ^ 63 = omega (arith, c.lines-key-items.ensures.fits, ap length c.lines-key-items.ensures.rows, c.loop-key.invariant.count) in
-    subst (λ (totals : List ℤ). AreWithin (2 ^ 125) totals) (sym c.deref_mut.ensures.value)
-    (within-more (2 ^ 50 * count) (2 ^ 125) c.loop-key.totals.items (omega arith) c.loop-key.invariant.within)
+    subst (λ (totals : List ℤ). AreWithin (3 * 2 ^ 125) totals) (sym c.deref_mut.ensures.value)
+    (within-more (2 ^ 50 * count) (3 * 2 ^ 125) c.loop-key.totals.items (omega arith) c.loop-key.invariant.within)
 
 pub loop-key-preserved-in-Some-receiver : goal.loop-key-preserved-in-Some-receiver
 loop-key-preserved-in-Some-receiver c =
