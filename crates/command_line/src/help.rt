@@ -1,5 +1,5 @@
 // The date of the newest changes, and the toolchain. A build does not contain its commit.
-pub const VERSION: &str = "2026-12-02, made by rattle-kit-13b logic dac8208d650f15bf";
+pub const VERSION: &str = "2026-12-02, made by rattle-kit-13f logic dac8208d650f15bf";
 
 // The text of `tpcc --help` after the list of commands.
 pub const PROGRAM: &str = "\
