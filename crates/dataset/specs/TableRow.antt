@@ -149,10 +149,8 @@ line_row_of items warehouses (i_id, (supply_w_id, (delivery_d, (quantity, (amoun
 -- so many lines of the order
 abbrev pub lines_made : (scale : Sizes) → OrderKey → (n : ℕ) → Values (lines_columns scale n) → List (OrderLineKey × OrderLine)
 lines_made scale order zero v = []
-lines_made scale order (suc n) (number, (i_id, (supply_w_id, (delivery_d, (quantity, (amount, (dist_info, rest))))))) = (
-  line_key order number,
-  record { i_id = i_id; supply_w_id = supply_w_id; delivery_d = delivery_d; quantity = quantity; amount = amount; dist_info = dist_info },
-)
+lines_made scale order (suc n) (number, (i_id, (supply_w_id, (delivery_d, (quantity, (amount, (dist_info, rest))))))) =
+    (line_key order number, line_row_of scale.items scale.warehouses (i_id, (supply_w_id, (delivery_d, (quantity, (amount, (dist_info, tt)))))))
     ∷ lines_made scale order n rest
 
 -- the row, with its key, made from the values of the fields after the letter, of which there are so many
@@ -211,15 +209,8 @@ row_of scale Orders count (w_id, (d_id, (o_id, (c_id, (entry_d, (carrier_id, (ol
     OfOrder key (record { c_id = c_id; entry_d = entry_d; carrier_id = carrier_id; ol_cnt = ol_cnt; all_local = all_local == 1 })
     (lines_made scale key (line_count scale.format (count - 8)) lines)
 row_of scale NewOrders count (w_id, (d_id, (o_id, _))) = OfNewOrder (record { w_id = w_id; d_id = d_id; o_id = o_id }) (record {})
-row_of scale Lines count (w_id, (d_id, (o_id, (number, (i_id, (supply_w_id, (delivery_d, (quantity, (amount, (dist_info, _)))))))))) =
-    OfLine (record { w_id = w_id; d_id = d_id; o_id = o_id; number = number }) (record {
-      i_id = i_id;
-      supply_w_id = supply_w_id;
-      delivery_d = delivery_d;
-      quantity = quantity;
-      amount = amount;
-      dist_info = dist_info;
-    })
+row_of scale Lines count (w_id, (d_id, (o_id, (number, columns)))) =
+    OfLine (record { w_id = w_id; d_id = d_id; o_id = o_id; number = number }) (line_row_of scale.items scale.warehouses columns)
 
 -- the same from the fields themselves; the value of a faulty field is irrelevant
 abbrev pub row_read : (scale : Sizes) (table : Table) → List (List ℕ) → TableRow
