@@ -24,27 +24,23 @@ use Rattle.files.proofs.KindsRead.{count_complete}
 use Rattle.files.proofs.RecordsLeft.{short_record}
 use Rattle.dataset.specs.declared.place.Place.{Place}
 use Rattle.dataset.specs.declared.place.Place.TheVariants as at
-use Rattle.rows.specs.declared.limits.TheConstants.{MOST_LINES}
-use Rattle.rows.specs.declared.keys.OrderKey.{OrderKey}
-use Rattle.rows.specs.declared.keys.OrderLineKey.{OrderLineKey}
-use Rattle.rows.specs.declared.records.OrderLine.{OrderLine}
 use Rattle.std.specs.FinMap.{entries}
 use Rattle.dataset.specs.declared.format.Format.{Format}
 use Rattle.dataset.specs.declared.format.Format.TheVariants.{One, Two}
 use Rattle.dataset.specs.Formats.{IsWithinFormat, format_number, most_warehouses}
 use Rattle.dataset.specs.Columns.{Sizes, Table, Items, Warehouses, Districts, Stocks, Customers, Histories, Orders, NewOrders, Lines, Of, ascend_from, comes_after, fields_fault, has_ascending_lines, kind_fault, kind_of, letter, or_order, place_in, record_columns, record_fault, sizes}
 use Rattle.dataset.specs.FirstFault.{HasNoTables, IsFault, Reports, counts, first_fault, header_columns, header_fault, header_first, header_format, header_sizes, is_end, kind_place, last_place, number_of, number_of_lines, numbers_fault, record_place, rows_fault, reported_header}
-use Rattle.dataset.specs.Loading.{AreInOrder, AreLinesOf, IsKnown}
+use Rattle.dataset.specs.Loading.{AreInOrder}
 use Rattle.dataset.specs.Order.{follows, place_numbers}
 use Rattle.dataset.specs.Ranges.{InRange}
 use Rattle.dataset.specs.Records.{Field, Words, Number, IsHeader, IsSpelt, AreSpelt, AreRecordsIn, AreRecordsOfEither, customer_fields, district_fields, end_fields, header_fields, history_fields, item_fields, line_fields, lines_in_order, new_order_fields, order_record, records, records_by_table, row_records, scale_fields, stock_fields, warehouse_fields}
-use Rattle.dataset.specs.TableRow.{TableRow, OfItem, OfWarehouse, OfDistrict, OfStock, OfCustomer, OfHistory, OfOrder, OfNewOrder, OfLine, LinesFit, RowFits, has_rising_lines, numbers_of, row_fields, row_place}
+use Rattle.dataset.specs.TableRow.{TableRow, OfItem, OfOrder, RowFits, has_rising_lines, numbers_of, row_fields, row_place}
 use Rattle.dataset.proofs.AllRows.{after_header, all_records, all_rows, entries_at, records_of_rows, rows_fit, rows_in_order}
 use Rattle.dataset.proofs.ColumnFields.{spelt_are_read}
 use Rattle.dataset.proofs.HeaderFault.{sizes_spelt}
 use Rattle.dataset.proofs.Keys.{all-weaker}
 use Rattle.dataset.proofs.LetterFault.{letter_is_not_end}
-use Rattle.dataset.proofs.OrderLines.{few_lines, few_rising}
+use Rattle.dataset.proofs.OrderLines.{few_lines}
 use Rattle.dataset.proofs.Loading.{header_place, last-push}
 use Rattle.dataset.proofs.Payments.{payments_recorded}
 use Rattle.dataset.proofs.RowFields.{row_reads}
@@ -144,8 +140,8 @@ order_of : (fault : Option FaultKind) (in_order : Bool) → fault ≡ None → i
 order_of fault in_order none after = rw (none, after) refl
 
 rising_fits : (format : Format) (scale : Scale) (row : TableRow) → RowFits format scale row → IsTrue (has_rising_lines row)
-rising_fits One scale (OfOrder key row lines) fits = ap (λ ls. ascend_from 0 (numbers_of ls)) fits.3
-rising_fits Two scale (OfOrder key row lines) fits = fits.3.1
+rising_fits One scale (OfOrder key row lines) fits = ap (λ ls. ascend_from 0 (numbers_of ls)) fits.0.1
+rising_fits Two scale (OfOrder key row lines) fits = fits.0.1.1
 rising_fits format scale (OfItem key row) fits = refl
 rising_fits format scale row fits = refl
 
@@ -229,24 +225,6 @@ ends R (w ∷ xs) x (y ∷ ys) h =
     let rest = ends R xs x ys h.1 in
     record { front = y ∷ rest.front; last = rest.last; are = ap (λ l. y ∷ l) rest.are; firsts = (h.0, rest.firsts); is_last = rest.is_last }
 
--- what fits is known
-lines_fit : (format : Format) (scale : Scale) (order : OrderKey) (lines : List (OrderLineKey × OrderLine)) → LinesFit format scale order lines → AreLinesOf format order lines
-lines_fit One scale order lines fit = fit
-lines_fit Two scale order lines fit =
-    let few = few_rising 0 MOST_LINES lines fit.1 (all-weaker _ _ (λ e f. let most = f.few in omega (arith, most)) lines fit.0) in
-    (all-weaker _ _ (λ e f. f.of_order) lines fit.0, fit.1, omega (arith, few))
-
-fits_known : (format : Format) (scale : Scale) (row : TableRow) → RowFits format scale row → IsKnown format scale row
-fits_known format scale (OfItem key row) fits = fits.0
-fits_known format scale (OfWarehouse key row) fits = fits.0
-fits_known format scale (OfDistrict key row) fits = fits.0
-fits_known format scale (OfStock key row) fits = fits.0
-fits_known format scale (OfCustomer key row) fits = fits.0
-fits_known format scale (OfHistory key row) fits = fits.0
-fits_known format scale (OfOrder key row lines) fits = (fits.2, lines_fit format scale key lines fits.3)
-fits_known format scale (OfNewOrder key row) fits = tt
-fits_known format scale (OfLine key row) fits = fits.2
-
 warehouses_within : (format : Format) (t : Database) → IsWithinFormat format t → t.scale.warehouses ≤ most_warehouses format
 warehouses_within One t within = within.warehouses
 warehouses_within Two t within = t.scale.limits.most_warehouses
@@ -263,7 +241,7 @@ module _ (format : Format) (t : Database) (within : IsWithinScale t) (fit : AllB
 
   pub lines_number : number_of_lines format (header ∷ texts) ≡ length (entries t.lines)
   lines_number =
-      lines_counted format t.scale header (all_rows format t) texts is_header (all-weaker _ _ (λ row fits. fits_known format t.scale row fits) (all_rows format t) fit) spelt
+      lines_counted format t.scale header (all_rows format t) texts is_header (all-weaker _ _ (λ row fits. fits.0) (all_rows format t) fit) spelt
       ∙ ap length (lines_in_all format t within)
 
   -- as many of each table as the tables have
