@@ -29,7 +29,7 @@ use Rattle.dataset.specs.Ranges.{AddressInRange, IsFrom}
 use Rattle.dataset.specs.Records.{Words, Number, Date, IsSpelt, AreSpelt, carrier_field, delivery_field, lines_fields}
 use Rattle.dataset.specs.TableRow.{TableRow, OfItem, OfWarehouse, OfDistrict, OfStock, OfCustomer, OfHistory, OfOrder, OfNewOrder, OfLine, AreLinesOf, FormatHasLine, IsKnown, LineFits, RowFits, has_rising_lines, infos_of, lines_made, numbers_of, row_fields, row_of, row_read}
 use Rattle.files.specs.Columns.{Value, Values, read_columns}
-use Rattle.dataset.proofs.Bounds.{bounds}
+use Rattle.dataset.proofs.Bounds.{bounds, most_lines_within}
 use Rattle.dataset.proofs.ColumnFields.{AreBetween, AreIn, AreSmall, IsBetween, IsIn, fields_of, read_are_between, read_are_spelt, spelt_are_read}
 use Rattle.dataset.proofs.RowTaken.{IsRead}
 use Rattle.std.proofs.lemmas.Slice.Zip.{AllZip-long}
@@ -47,8 +47,7 @@ few_customers : (scale : Scale) → scale.customers < 2 ^ 64
 few_customers scale = let most = scale.limits.most_customers in omega (arith, most)
 
 few_lines : (format : Format) → most_lines format < 2 ^ 64
-few_lines One = omega arith
-few_lines Two = omega arith
+few_lines format = let most = most_lines_within format in omega (arith, most)
 
 small_lines : (format : Format) (scale : Scale) (n : ℕ) → AreSmall (lines_columns (sizes format scale) n)
 small_lines format scale zero = tt
@@ -90,9 +89,9 @@ unfolding is_narrow widest
 narrow_columns s Orders count = narrow_lines s (line_count s.format (count - 8))
 narrow_columns s table count = refl
 
-long_lines : (s : Sizes) (n : ℕ) → length (lines_columns s n) ≡ 7 * n
-long_lines s zero = refl
-long_lines s (suc n) = let rest = long_lines s n in omega (arith, rest)
+long_columns : (s : Sizes) (n : ℕ) → length (lines_columns s n) ≡ 7 * n
+long_columns s zero = refl
+long_columns s (suc n) = let rest = long_columns s n in omega (arith, rest)
 
 pub few_in_record : (format : Format) (left : ℕ) → line_count format left ≤ MOST_LINES
 few_in_record One left = omega arith
@@ -104,7 +103,7 @@ unfolding widest
 few_bytes s Orders count =
     let n = line_count s.format (count - 8) in
     let few = few_in_record s.format (count - 8) in
-    let long = long_lines s n in
+    let long = long_columns s n in
     let is = bytes_of_32 (suc (length (record_columns s Orders count))) in
     omega (arith, few, long, is)
 few_bytes s table count = let is = bytes_of_500 (suc (length (record_columns s table count))) in omega (arith, is)
@@ -202,7 +201,7 @@ order_lines_values Two scale order lines own fit =
     let n = length lines in
     let few : n ≤ MOST_LINES = own.2 in
     let same : line_count Two (7 * n + 8 - 8) ≡ n = omega (arith, few) in
-    let long = long_lines (sizes Two scale) n in record {
+    let long = long_columns (sizes Two scale) n in record {
       count = 7 * n + 8;
       some = omega arith;
       many = ap (λ k. length (lines_columns (sizes Two scale) k) + 8) same ∙ ap (λ l. l + 8) long;

@@ -11,8 +11,8 @@ use Rattle.dataset.specs.Columns.{Orders, lines_columns, or_order, order_key, si
 use Rattle.dataset.specs.Formats.{line_count, most_lines}
 use Rattle.dataset.specs.TableRow.{TableRow, OfOrder, lines_made}
 use Rattle.dataset.specs.TakenAs.{ReadsLines}
+use Rattle.dataset.proofs.Bounds.{most_lines_within, some_lines_within}
 use Rattle.dataset.proofs.FieldsLeft.{columns_long, field_long}
-use Rattle.dataset.proofs.HeaderFault.{most_lines_within, some_lines_within}
 use Rattle.dataset.proofs.LinesTaken.{order_added, order_follows}
 use Rattle.dataset.proofs.RowTaken.{TakesRow, none_added, row_taken}
 use Rattle.files.proofs.ColumnValues.{of_reads, read_more, read_then}
