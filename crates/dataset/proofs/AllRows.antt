@@ -13,7 +13,7 @@ use Rattle.rows.specs.declared.keys.DistrictKey.{DistrictKey}
 use Rattle.rows.specs.declared.keys.OrderKey.{OrderKey}
 use Rattle.rows.specs.declared.records.History.{History}
 use Rattle.rows.specs.declared.keys.OrderLineKey.{OrderLineKey}
-use Rattle.rows.specs.declared.limits.TheConstants.{LAST_LINE}
+use Rattle.rows.specs.declared.limits.TheConstants.{LAST_LINE, MOST_LINES}
 use Rattle.rows.specs.declared.records.Order.{Order}
 use Rattle.rows.specs.declared.records.OrderLine.{OrderLine}
 use Rattle.rows.specs.Keys.{district_cmp, order_cmp, line_cmp, order_of_line}
@@ -26,17 +26,17 @@ use Rattle.schema.proofs.EachRows.{keys_ascend}
 use Rattle.dataset.specs.declared.format.Format.{Format}
 use Rattle.dataset.specs.declared.format.Format.TheVariants.{One, Two}
 use Rattle.dataset.specs.Formats.{IsWithinFormat, most_lines}
-use Rattle.dataset.specs.Columns.{Table, Items, Warehouses, Districts, Stocks, Customers, Histories, Orders, NewOrders, Lines, table_number, ascend_from}
+use Rattle.dataset.specs.Columns.{Table, Items, Warehouses, Districts, Stocks, Customers, Histories, Orders, NewOrders, Lines, table_number}
 use Rattle.dataset.specs.Order.{follows}
 use Rattle.dataset.specs.declared.place.Place.TheVariants as at
-use Rattle.dataset.specs.Ranges.{InRange, ItemInRange, WarehouseInRange, DistrictInRange, StockInRange, CustomerInRange, HistoryInRange, OrderInRange, LineInRange, IsOrder, IsOrderKey, IsLine, IsLineKey}
+use Rattle.dataset.specs.Ranges.{InRange, ItemInRange, WarehouseInRange, DistrictInRange, StockInRange, CustomerInRange, HistoryInRange, OrderInRange, LineInRange, IsFrom, IsOrder, IsOrderKey, IsLine, IsLineKey}
 use Rattle.dataset.specs.Records.{Field, line_records, lines_in_order, order_record, records_by_table, row_records}
-use Rattle.dataset.specs.TableRow.{TableRow, OfItem, OfHistory, LineFits, LinesFit, RowFits, numbers_of, row_fields, row_place}
+use Rattle.dataset.specs.TableRow.{TableRow, OfItem, OfHistory, AreLinesOf, LineFits, RowFits, row_fields, row_place}
 use Rattle.dataset.specs.Loading.{AreInOrder}
 use Rattle.dataset.proofs.Bounds.{bounds}
 use Rattle.dataset.proofs.Keys.{all-append, all-each, all-flat_map, all-map, all-weaker}
 use Rattle.dataset.proofs.EachTable.{EntryOf, RowOf, all_tables, cmp_of, make, number_made, number_of_row, same_place}
-use Rattle.dataset.proofs.OrderLines.{all-filter, known_order, of_order_is, order_known, rising, sorted-filter}
+use Rattle.dataset.proofs.OrderLines.{AreOf, all-filter, few_rising, known_order, of_order_is, order_known, rising, sorted-filter}
 use Rattle.dataset.proofs.Order.{earlier_table, follows_less, place_itself, same_history}
 use Rattle.dataset.proofs.Payments.{all-payments, payments_of, payments_recorded}
 use Rattle.dataset.proofs.TableEntries.{all-both, all-of_values, each_entry}
@@ -215,34 +215,33 @@ module _ (t : Database) (w : IsWithinScale t) (h : InRange t) where
   line_fits : (e : OrderLineKey × OrderLine) → get t.lines e.0 ≡ Some e.1 → LineInRange e.1 → IsLine t.scale e.1
   line_fits e found range = record { item = w.lines_have_items e.0 e.1 found; supplier = w.lines_have_suppliers e.0 e.1 found; in_range = range }
 
-  all_lines_fit : AllByRecursion (λ e. IsLineKey t.scale e.0 × IsLine t.scale e.1) (entries t.lines)
+  all_lines_fit : AllByRecursion (LineFits t.scale) (entries t.lines)
   all_lines_fit = each_entry LineInRange lines_total t.lines h.lines (λ e found range. (line_key_fits e found, line_fits e found range))
 
-  -- the lines of an order fit it
-  lines_of_order_fit : (key : OrderKey) → AllByRecursion (LineFits Two t.scale key) (lines_of t key)
-  lines_of_order_fit key =
-      all-filter _ _ _ (λ e own fit. record {
-        of_order = of_order_is key e.0 own;
-        number = fit.0.number;
-        few = (bounds 1 LAST_LINE e.0.number fit.0.number).1;
-        row = fit.1;
-      }) (entries t.lines) all_lines_fit
+  -- the lines of an order fit
+  lines_of_order_fit : (key : OrderKey) → AllByRecursion (LineFits t.scale) (lines_of t key)
+  lines_of_order_fit key = all-filter _ _ _ (λ e own fit. fit) (entries t.lines) all_lines_fit
 
-  lines_rise : (key : OrderKey) → IsTrue (ascend_from 0 (numbers_of (lines_of t key)))
-  lines_rise key =
-      let fit = lines_of_order_fit key in
-      rising key 0 (lines_of t key) (all-weaker _ _ (λ e f. f.of_order) (lines_of t key) fit)
-      (sorted-filter line_cmp (is_of_order key) (entries t.lines) (keys_ascend _ t.lines))
-      (all-weaker _ _ (λ e f. let least = (bounds 1 LAST_LINE e.0.number f.number).0 in omega (arith, least)) (lines_of t key) fit)
+  -- and are as format 2 has them
+  own_lines : (key : OrderKey) → AreLinesOf Two key (lines_of t key)
+  own_lines key =
+      let numbers : AllByRecursion (λ (e : OrderLineKey × OrderLine). IsFrom 1 LAST_LINE e.0.number) (lines_of t key) =
+      all-weaker _ _ (λ e f. bounds 1 LAST_LINE e.0.number f.0.number) (lines_of t key) (lines_of_order_fit key) in
+      let own : AreOf key (lines_of t key) = all-filter _ _ _ (λ e own fit. of_order_is key e.0 own) (entries t.lines) all_lines_fit in
+      let rise =
+      rising key 0 (lines_of t key) own (sorted-filter line_cmp (is_of_order key) (entries t.lines) (keys_ascend _ t.lines))
+      (all-weaker _ _ (λ e n. let least = n.0 in omega (arith, least)) (lines_of t key) numbers) in
+      let few = few_rising 0 MOST_LINES (lines_of t key) rise (all-weaker _ _ (λ e n. let most = n.1 in omega (arith, most)) (lines_of t key) numbers) in
+      (own, rise, omega (arith, few))
 
-  lines_in_order_fit : (format : Format) (key : OrderKey) → LinesFit format t.scale key (lines_in_order format t key)
-  lines_in_order_fit One key = refl
-  lines_in_order_fit Two key = (lines_of_order_fit key, lines_rise key)
+  lines_in_order_fit : (format : Format) (key : OrderKey) → AreLinesOf format key (lines_in_order format t key) × AllByRecursion (LineFits t.scale) (lines_in_order format t key)
+  lines_in_order_fit One key = (refl, tt)
+  lines_in_order_fit Two key = (own_lines key, lines_of_order_fit key)
 
   orders_fit : (format : Format) → IsWithinFormat format t → AllByRecursion (λ e. RowFits format t.scale (make Orders e)) (entries_at format Orders t)
   orders_fit format f =
       all-map (λ e. RowFits format t.scale (make Orders e)) (λ e. (e.0, (e.1, lines_in_order format t e.0))) (entries t.orders)
-      (all-both (λ e. IsOrderKey t.scale e.0 × IsOrder t.scale e.1) _ _ (λ e fits few. (fits.0, fits.1, few, lines_in_order_fit format e.0)) (entries t.orders)
+      (all-both (λ e. IsOrderKey t.scale e.0 × IsOrder t.scale e.1) _ _ (λ e fits few. let lines = lines_in_order_fit format e.0 in ((few, lines.0), (fits.0, fits.1, lines.1))) (entries t.orders)
       (each_entry OrderInRange orders_total t.orders h.orders (λ e found range.
       let known = order_known t w e.0 e.1 (w.orders_numbered e.0 e.1 found) (w.orders_have_customers e.0 e.1 found) in
       let row : IsOrder t.scale e.1 = record { c_id = known.1; in_range = range } in
@@ -251,7 +250,7 @@ module _ (t : Database) (w : IsWithinScale t) (h : InRange t) where
 
   line_rows_fit : (format : Format) → IsWithinFormat format t → AllByRecursion (λ e. RowFits format t.scale (make Lines e)) (own_line_rows format t)
   line_rows_fit One f =
-      all-both _ _ _ (λ e fits few. (fits.0, fits.1, few)) (entries t.lines) all_lines_fit (all-of_keys _ (entries t.lines) f.lines)
+      all-both _ _ _ (λ e fits few. (few, fits)) (entries t.lines) all_lines_fit (all-of_keys _ (entries t.lines) f.lines)
   line_rows_fit Two f = tt
 
   entries_fit : (format : Format) → IsWithinFormat format t → (table : Table) → AllByRecursion (λ e. RowFits format t.scale (make table e)) (entries_at format table t)
@@ -266,7 +265,7 @@ module _ (t : Database) (w : IsWithinScale t) (h : InRange t) where
   entries_fit format f Orders = orders_fit format f
   entries_fit format f NewOrders =
       each_entry (λ _. Unit {0}) orders_total t.new_orders (all-each _ (λ _. tt) (values_of (entries t.new_orders))) (λ e found _.
-      (known_order t w e.0 (w.new_orders_have_orders e.0 e.1 found), tt))
+      (tt, known_order t w e.0 (w.new_orders_have_orders e.0 e.1 found)))
   entries_fit format f Lines = line_rows_fit format f
 
 pub rows_fit : (format : Format) (t : Database) → IsWithinFormat format t → IsWithinScale t → InRange t → AllByRecursion (RowFits format t.scale) (all_rows format t)

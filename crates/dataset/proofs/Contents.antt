@@ -30,9 +30,9 @@ use Rattle.dataset.specs.declared.place.Place.TheVariants as at
 use Rattle.dataset.specs.declared.format.Format.{Format}
 use Rattle.dataset.specs.declared.format.Format.TheVariants.{One, Two}
 use Rattle.dataset.specs.Columns.{Table, Items, Warehouses, Districts, Stocks, Customers, Histories, Orders, NewOrders, Lines, table_number}
-use Rattle.dataset.specs.Loading.{AddsRows, AreInOrder, AreLinesOf, IsKnown}
+use Rattle.dataset.specs.Loading.{AddsRows, AreInOrder}
 use Rattle.dataset.specs.Order.{place_cmp, place_numbers, follows}
-use Rattle.dataset.specs.TableRow.{TableRow, OfItem, OfWarehouse, OfDistrict, OfStock, OfCustomer, OfHistory, OfOrder, OfNewOrder, OfLine, AddsRow, insert_lines, row_place}
+use Rattle.dataset.specs.TableRow.{TableRow, OfItem, OfWarehouse, OfDistrict, OfStock, OfCustomer, OfHistory, OfOrder, OfNewOrder, OfLine, AddsRow, AreLinesOf, IsKnown, insert_lines, row_place}
 use Rattle.dataset.proofs.AllRows.{rows_of}
 use Rattle.dataset.proofs.EachTable.{EntryOf, Found, Other, Own, RowOf, all_tables, cmp_of, find, get, is_keyed, make, number_of_row, rises}
 use Rattle.dataset.proofs.Keys.{all-append, all-each, all-map, all-weaker, sorted-district_keys}

@@ -1,14 +1,10 @@
 -- The records of tables have no fault.
-use Rattle.std.proofs.Common.{◌≡◌, ◌≤◌, ◌<◌, ◌^◌, ◌-◌, ◌*◌, ◌==◌, ◌&&◌, inl, inr, ℕ, suc, List, [], ◌∷◌, ◌++◌, map, length, Bool, true, false, Option, Some, None, Ok, codes, IsTrue, lit<, refl, sym, ap, subst, ◌∙◌, append_assoc, arith}
+use Rattle.std.proofs.Common.{◌≡◌, ◌≤◌, ◌<◌, ◌^◌, ◌-◌, ◌*◌, ◌&&◌, inl, inr, ℕ, suc, List, [], ◌∷◌, ◌++◌, map, length, Bool, true, false, Option, Some, None, Ok, codes, IsTrue, refl, sym, ap, subst, ◌∙◌, append_assoc, arith}
 use Rattle.std.specs.Prelude.{IfErr, IsOk, MatchOption, MatchResult, Result, Err}
 use Rattle.std.specs.Result.{is_ok}
 use Rattle.std.specs.List.{AllByRecursion, AllZip}
 use Rattle.std.specs.Str.{bytes_eq}
-use Rattle.std.proofs.lemmas.Bool.Decides.{nat_tests}
-use Rattle.std.specs.Fmt.{decimal}
-use Rattle.std.proofs.lemmas.Fmt.{decimal_digit}
 use Rattle.std.proofs.lemmas.List.{append-nil, length-append, length-map}
-use Rattle.std.proofs.lemmas.Slice.Zip.{AllZip-long}
 use Rattle.schema.specs.declared.scale.Scale.{Scale}
 use Rattle.schema.specs.Database.{Database, IsWithinScale}
 use Rattle.files.specs.declared.fault.FaultKind.{FaultKind}
@@ -24,27 +20,24 @@ use Rattle.files.proofs.KindsRead.{count_complete}
 use Rattle.files.proofs.RecordsLeft.{short_record}
 use Rattle.dataset.specs.declared.place.Place.{Place}
 use Rattle.dataset.specs.declared.place.Place.TheVariants as at
-use Rattle.rows.specs.declared.limits.TheConstants.{MOST_LINES}
-use Rattle.rows.specs.declared.keys.OrderKey.{OrderKey}
-use Rattle.rows.specs.declared.keys.OrderLineKey.{OrderLineKey}
-use Rattle.rows.specs.declared.records.OrderLine.{OrderLine}
 use Rattle.std.specs.FinMap.{entries}
 use Rattle.dataset.specs.declared.format.Format.{Format}
 use Rattle.dataset.specs.declared.format.Format.TheVariants.{One, Two}
-use Rattle.dataset.specs.Formats.{IsWithinFormat, format_number, most_warehouses}
+use Rattle.dataset.specs.Formats.{IsWithinFormat, most_warehouses}
 use Rattle.dataset.specs.Columns.{Sizes, Table, Items, Warehouses, Districts, Stocks, Customers, Histories, Orders, NewOrders, Lines, Of, ascend_from, comes_after, fields_fault, has_ascending_lines, kind_fault, kind_of, letter, or_order, place_in, record_columns, record_fault, sizes}
-use Rattle.dataset.specs.FirstFault.{HasNoTables, IsFault, Reports, counts, first_fault, header_columns, header_fault, header_first, header_format, header_sizes, is_end, kind_place, last_place, number_of, number_of_lines, numbers_fault, record_place, rows_fault, reported_header}
-use Rattle.dataset.specs.Loading.{AreInOrder, AreLinesOf, IsKnown}
+use Rattle.dataset.specs.FirstFault.{HasNoTables, IsFault, Reports, counts, first_fault, header_columns, header_fault, header_first, header_sizes, is_end, kind_place, last_place, number_of, number_of_lines, numbers_fault, record_place, rows_fault, reported_header}
+use Rattle.dataset.specs.Loading.{AreInOrder}
 use Rattle.dataset.specs.Order.{follows, place_numbers}
 use Rattle.dataset.specs.Ranges.{InRange}
-use Rattle.dataset.specs.Records.{Field, Words, Number, IsHeader, IsSpelt, AreSpelt, AreRecordsIn, AreRecordsOfEither, customer_fields, district_fields, end_fields, header_fields, history_fields, item_fields, line_fields, lines_in_order, new_order_fields, order_record, records, records_by_table, row_records, scale_fields, stock_fields, warehouse_fields}
-use Rattle.dataset.specs.TableRow.{TableRow, OfItem, OfWarehouse, OfDistrict, OfStock, OfCustomer, OfHistory, OfOrder, OfNewOrder, OfLine, LinesFit, RowFits, has_rising_lines, numbers_of, row_fields, row_place}
+use Rattle.dataset.specs.Records.{Field, Words, Number, IsHeader, AreSpelt, AreRecordsIn, AreRecordsOfEither, customer_fields, district_fields, end_fields, header_fields, history_fields, item_fields, line_fields, lines_in_order, new_order_fields, order_record, records, records_by_table, row_records, scale_fields, stock_fields, warehouse_fields}
+use Rattle.dataset.specs.TableRow.{TableRow, OfItem, OfOrder, RowFits, has_rising_lines, numbers_of, row_fields, row_place}
 use Rattle.dataset.proofs.AllRows.{after_header, all_records, all_rows, entries_at, records_of_rows, rows_fit, rows_in_order}
 use Rattle.dataset.proofs.ColumnFields.{spelt_are_read}
-use Rattle.dataset.proofs.HeaderFault.{sizes_spelt}
+use Rattle.dataset.proofs.Bounds.{most_within}
+use Rattle.dataset.proofs.HeaderFault.{format_spelt, format_word, number_word, sizes_spelt, some_format}
 use Rattle.dataset.proofs.Keys.{all-weaker}
 use Rattle.dataset.proofs.LetterFault.{letter_is_not_end}
-use Rattle.dataset.proofs.OrderLines.{few_lines, few_rising}
+use Rattle.dataset.proofs.OrderLines.{few_lines}
 use Rattle.dataset.proofs.Loading.{header_place, last-push}
 use Rattle.dataset.proofs.Payments.{payments_recorded}
 use Rattle.dataset.proofs.RowFields.{row_reads}
@@ -73,19 +66,6 @@ numbers_counted (n ∷ ns) (text ∷ texts) small spelt =
 
 -- ---- the header
 
--- the number of a format as text
-abbrev format_text : Format → List ℕ
-format_text One = codes "1"
-format_text Two = codes "2"
-
-format_spelt : (format : Format) → decimal (format_number format) ≡ format_text format
-format_spelt One = decimal_digit 1 (lit< tt)
-format_spelt Two = decimal_digit 2 (lit< tt)
-
-short_format : (format : Format) → length (format_text format) ≤ 32
-short_format One = omega arith
-short_format Two = omega arith
-
 -- the texts of a header
 record Five (format : Format) (scale : Scale) (header : List (List ℕ)) : Type 0 where
   name : List ℕ
@@ -93,13 +73,13 @@ record Five (format : Format) (scale : Scale) (header : List (List ℕ)) : Type 
   others : List (List ℕ)
   are : header ≡ name ∷ version ∷ others
   is_name : name ≡ codes "TPCC"
-  is_version : version ≡ format_text format
+  is_version : version ≡ format_word format
   spelt : AreSpelt (scale_fields scale) others
 
 five : (format : Format) (scale : Scale) (header : List (List ℕ)) → AreSpelt (header_fields format scale) header → Five format scale header
 five format scale [] spelt = absurd spelt
 five format scale (a ∷ []) spelt = absurd spelt.1
-five format scale (a ∷ b ∷ others) spelt = record { name = a; version = b; others = others; are = refl; is_name = spelt.0; is_version = spelt.1.0 ∙ format_spelt format; spelt = spelt.1.1 }
+five format scale (a ∷ b ∷ others) spelt = record { name = a; version = b; others = others; are = refl; is_name = spelt.0; is_version = spelt.1.0 ∙ number_word format; spelt = spelt.1.1 }
 
 pub header_kept : (format : Format) (scale : Scale) (header : List (List ℕ)) → AreSpelt (header_fields format scale) header → record_size header ≤ 65536
 header_kept format scale header spelt =
@@ -109,34 +89,26 @@ header_kept format scale header spelt =
     let most_i = limits.most_items in
     let most_c = limits.most_customers in
     let numbers = numbers_kept (scale.warehouses ∷ scale.items ∷ scale.customers ∷ []) f.others (omega (arith, most_w), (omega (arith, most_i), (omega (arith, most_c), tt))) f.spelt in
-    let version : length f.version ≤ 32 = rw f.is_version (short_format format) in
+    let one = some_format format in
+    let version : length f.version ≤ 32 = rw f.is_version (omega (arith, one)) in
     let name : length f.name ≤ 32 = rw f.is_name (omega arith) in
     let size = longer 32 (omega arith) f.name (f.version ∷ f.others) 4 name (longer 32 (omega arith) f.version f.others 3 version numbers) in
     let few = bytes_of_32 5 in
     subst (λ h. record_size h ≤ 65536) (sym f.are) (omega (arith, size, few))
-
-few_of_format : (format : Format) → most_warehouses format < 2 ^ 64
-few_of_format One = omega arith
-few_of_format Two = omega arith
-
-format_found : (format : Format) (others : List (List ℕ)) → length others ≡ 3 → header_format (codes "TPCC" ∷ format_text format ∷ others) ≡ Some format
-format_found One others long = let many : (length (codes "TPCC" ∷ codes "1" ∷ others) == 5) ≡ true = grind (arith, nat_tests, long) in rw many refl
-format_found Two others long = let many : (length (codes "TPCC" ∷ codes "2" ∷ others) == 5) ≡ true = grind (arith, nat_tests, long) in rw many refl
 
 pub header_free : (format : Format) (scale : Scale) (header : List (List ℕ)) → IsHeader format scale header → header_fault header ≡ None
 header_free format scale header h =
     let f = five format scale header h.is_spelt in
     let limits = scale.limits in
     let columns = header_columns format in
-    let read = spelt_are_read columns (scale.warehouses, (scale.items, (scale.customers, tt))) f.others (few_of_format format, (omega arith, (omega arith, tt)))
+    let most = most_within format in
+    let read = spelt_are_read columns (scale.warehouses, (scale.items, (scale.customers, tt))) f.others (omega (arith, most), (omega arith, (omega arith, tt)))
     ((limits.some_warehouse, h.within), ((limits.some_item, limits.most_items), ((limits.some_customer, limits.most_customers), tt))) f.spelt in
     let start : FieldsView = record { left = f.others; fault = None } in
     let none : columns_fault columns f.others ≡ None = ap (λ (t : FieldsView). at_end t.left t.fault) (sym (read-take columns start) ∙ ap (λ (p : Values columns × FieldsView). p.1) read) in
-    let long : length f.others ≡ 3 = AllZip-long IsSpelt (scale_fields scale) f.others f.spelt in
-    let reported : reported_header (codes "TPCC" ∷ format_text format ∷ f.others) ≡ None =
-    ap (λ k. numbers_fault k (codes "TPCC" ∷ format_text format ∷ f.others)) (format_found format f.others long) ∙ none in
-    let all : header ≡ codes "TPCC" ∷ format_text format ∷ f.others = f.are ∙ (λ i. f.is_name i ∷ f.is_version i ∷ f.others) in
-    short_record header (reported_header header) (header_kept format scale header h.is_spelt) ∙ ap reported_header all ∙ reported
+    let reported : reported_header header ≡ None =
+    ap (λ k. numbers_fault k header) (format_spelt format scale header h.is_spelt) ∙ ap (numbers_fault (Some format)) f.are ∙ none in
+    short_record header (reported_header header) (header_kept format scale header h.is_spelt) ∙ reported
 
 -- ---- a row's record
 
@@ -144,8 +116,8 @@ order_of : (fault : Option FaultKind) (in_order : Bool) → fault ≡ None → i
 order_of fault in_order none after = rw (none, after) refl
 
 rising_fits : (format : Format) (scale : Scale) (row : TableRow) → RowFits format scale row → IsTrue (has_rising_lines row)
-rising_fits One scale (OfOrder key row lines) fits = ap (λ ls. ascend_from 0 (numbers_of ls)) fits.3
-rising_fits Two scale (OfOrder key row lines) fits = fits.3.1
+rising_fits One scale (OfOrder key row lines) fits = ap (λ ls. ascend_from 0 (numbers_of ls)) fits.0.1
+rising_fits Two scale (OfOrder key row lines) fits = fits.0.1.1
 rising_fits format scale (OfItem key row) fits = refl
 rising_fits format scale row fits = refl
 
@@ -229,24 +201,6 @@ ends R (w ∷ xs) x (y ∷ ys) h =
     let rest = ends R xs x ys h.1 in
     record { front = y ∷ rest.front; last = rest.last; are = ap (λ l. y ∷ l) rest.are; firsts = (h.0, rest.firsts); is_last = rest.is_last }
 
--- what fits is known
-lines_fit : (format : Format) (scale : Scale) (order : OrderKey) (lines : List (OrderLineKey × OrderLine)) → LinesFit format scale order lines → AreLinesOf format order lines
-lines_fit One scale order lines fit = fit
-lines_fit Two scale order lines fit =
-    let few = few_rising 0 MOST_LINES lines fit.1 (all-weaker _ _ (λ e f. let most = f.few in omega (arith, most)) lines fit.0) in
-    (all-weaker _ _ (λ e f. f.of_order) lines fit.0, fit.1, omega (arith, few))
-
-fits_known : (format : Format) (scale : Scale) (row : TableRow) → RowFits format scale row → IsKnown format scale row
-fits_known format scale (OfItem key row) fits = fits.0
-fits_known format scale (OfWarehouse key row) fits = fits.0
-fits_known format scale (OfDistrict key row) fits = fits.0
-fits_known format scale (OfStock key row) fits = fits.0
-fits_known format scale (OfCustomer key row) fits = fits.0
-fits_known format scale (OfHistory key row) fits = fits.0
-fits_known format scale (OfOrder key row lines) fits = (fits.2, lines_fit format scale key lines fits.3)
-fits_known format scale (OfNewOrder key row) fits = tt
-fits_known format scale (OfLine key row) fits = fits.2
-
 warehouses_within : (format : Format) (t : Database) → IsWithinFormat format t → t.scale.warehouses ≤ most_warehouses format
 warehouses_within One t within = within.warehouses
 warehouses_within Two t within = t.scale.limits.most_warehouses
@@ -263,7 +217,7 @@ module _ (format : Format) (t : Database) (within : IsWithinScale t) (fit : AllB
 
   pub lines_number : number_of_lines format (header ∷ texts) ≡ length (entries t.lines)
   lines_number =
-      lines_counted format t.scale header (all_rows format t) texts is_header (all-weaker _ _ (λ row fits. fits_known format t.scale row fits) (all_rows format t) fit) spelt
+      lines_counted format t.scale header (all_rows format t) texts is_header (all-weaker _ _ (λ row fits. fits.0) (all_rows format t) fit) spelt
       ∙ ap length (lines_in_all format t within)
 
   -- as many of each table as the tables have

@@ -37,8 +37,8 @@ use Rattle.dataset.specs.Columns.{Table, Items, Warehouses, Districts, Stocks, C
 use Rattle.dataset.specs.Payments.{Opens}
 use Rattle.dataset.specs.Records.{Field, AreSpelt, AreRecordsIn, IsHeader, row_records, payment_records, header_fields, history_fields, line_fields, order_fields, order_record}
 use Rattle.dataset.specs.Writing.{count_fields, records_with}
-use Rattle.dataset.specs.Loading.{HasRows, IsKnown}
-use Rattle.dataset.specs.TableRow.{TableRow, AddsRow, OfLine, row_fields, row_place}
+use Rattle.dataset.specs.Loading.{HasRows}
+use Rattle.dataset.specs.TableRow.{TableRow, AddsRow, IsKnown, OfLine, row_fields, row_place}
 use Rattle.dataset.proofs.AllRows.{after_header, entry_records, fields_of_rows, map-flat_map}
 use Rattle.dataset.proofs.Contents.{Kept, PaysAll, Pushed, PutSome, all_entries, by_tables, entries_of, kept, keys-without_lines, keys_ascend, lines_are, lines_ascend, lines_of_format, new_orders_are, of_entries, of_table, orders_are, orders_own, paid_all, pushed, row_put}
 use Rattle.dataset.proofs.EachTable.{EntryOf, KeyOf, RowOf, all_tables, cmp_of, get, is_keyed, make}

@@ -32,8 +32,7 @@ use Rattle.dataset.specs.Columns.{sizes}
 use Rattle.files.specs.Columns.{at_end, columns_fault, take_columns}
 use Rattle.dataset.specs.declared.format.Format.{Format}
 use Rattle.dataset.specs.declared.format.Format.TheVariants.{One, Two}
-use Rattle.dataset.specs.Formats.{format_number, most_lines, most_warehouses}
-use Rattle.rows.specs.declared.limits.TheConstants.{LAST_LINE, MOST_WAREHOUSES}
+use Rattle.dataset.specs.Formats.{format_number, most_warehouses}
 use Rattle.dataset.specs.FirstFault.{HasNoTables, Reports, first_fault, format_of, header_columns, header_fault, header_first, header_format, header_sizes, numbers_fault, rows_fault, reported_header}
 use Rattle.files.specs.FirstFault.{behind_end, fault_at, fault_or}
 use Rattle.dataset.specs.Records.{AreSpelt, AreRecordsOfEither, IsHeader, header_fields, scale_fields}
@@ -85,33 +84,16 @@ other_format left mid known name word after five is read not_one not_two =
     let no : format_of (get_or left 1 []) ≡ None = rw (one, two) refl in
     ap (λ (f : Option Format). if length left == 5 && bytes_eq (get_or left 0 []) (codes "TPCC") then f else None) no ∙ same_either (length left == 5 && bytes_eq (get_or left 0 []) (codes "TPCC")) None
 
--- the limits of the format are those of tables, or less
-pub some_within : (format : Format) → 1 ≤ most_warehouses format
-some_within One = omega arith
-some_within Two = omega arith
-
-pub most_within : (format : Format) → most_warehouses format ≤ MOST_WAREHOUSES
-most_within One = omega arith
-most_within Two = omega arith
-
-pub most_lines_within : (format : Format) → most_lines format ≤ LAST_LINE
-most_lines_within One = omega arith
-most_lines_within Two = omega arith
-
-pub some_lines_within : (format : Format) → 1 ≤ most_lines format
-some_lines_within One = omega arith
-some_lines_within Two = omega arith
-
 -- the number of the format as a word
 abbrev pub format_word : Format → List ℕ
 format_word One = codes "1"
 format_word Two = codes "2"
 
-number_word : (format : Format) → decimal (format_number format) ≡ format_word format
+pub number_word : (format : Format) → decimal (format_number format) ≡ format_word format
 number_word One = decimal_digit 1 (lit< tt)
 number_word Two = decimal_digit 2 (lit< tt)
 
-some_format : (format : Format) → length (format_word format) ≡ 1
+pub some_format : (format : Format) → length (format_word format) ≡ 1
 some_format One = refl
 some_format Two = refl
 

@@ -22,7 +22,6 @@ pub mod LetterFault
 pub mod RowsFault
 pub mod HeaderFault
 pub mod RowTaken
-pub mod FieldsLeft
 pub mod LinesTaken
 pub mod LinesPut
 pub mod ColumnFields

@@ -15,11 +15,11 @@ use Rattle.dataset.specs.declared.place.Place.{Place}
 use Rattle.dataset.specs.declared.place.Place.TheVariants as at
 use Rattle.dataset.specs.Columns.{Sizes, comes_after, has_ascending_lines, kind_of, or_order, place_in, record_columns, sizes}
 use Rattle.dataset.specs.FirstFault.{kind_place, last_place, record_place}
-use Rattle.dataset.specs.Loading.{AddsRows, AreInOrder, HasLoaded, HasRows, IsKnown}
+use Rattle.dataset.specs.Loading.{AddsRows, AreInOrder, HasLoaded, HasRows}
 use Rattle.dataset.specs.Order.{place_cmp, place_numbers, follows}
 use Rattle.dataset.specs.declared.format.Format.{Format}
 use Rattle.dataset.specs.Records.{AreSpelt, IsHeader, header_fields}
-use Rattle.dataset.specs.TableRow.{AddsRow, TableRow, has_rising_lines, kind_rows, record_rows, row_fields, row_place, row_read, rows_read}
+use Rattle.dataset.specs.TableRow.{AddsRow, IsKnown, TableRow, has_rising_lines, kind_rows, record_rows, row_fields, row_place, row_read, rows_read}
 use Rattle.dataset.specs.TakenAs.{HasRow}
 use Rattle.files.specs.Columns.{read_columns}
 use Rattle.dataset.proofs.ColumnFields.{read_are_between}

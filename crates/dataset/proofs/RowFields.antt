@@ -25,15 +25,12 @@ use Rattle.dataset.specs.Formats.{line_count, most_lines}
 use Rattle.files.specs.FieldRead.{FieldsView}
 use Rattle.files.specs.Columns.{Column, Whole, Words as Texts, Cents, Moment, Credit, at_end, columns_fault}
 use Rattle.dataset.specs.Columns.{Sizes, Table, Items, Warehouses, Districts, Stocks, Customers, Histories, Orders, NewOrders, Lines, Of, address_columns, ascend_from, counter, info_columns, kind_of, letter, lines_columns, record_columns, sizes}
-use Rattle.dataset.specs.Loading.{AreLinesOf, IsKnown}
 use Rattle.dataset.specs.Ranges.{AddressInRange, IsFrom}
 use Rattle.dataset.specs.Records.{Words, Number, Date, IsSpelt, AreSpelt, carrier_field, delivery_field, lines_fields}
-use Rattle.dataset.specs.TableRow.{TableRow, OfItem, OfWarehouse, OfDistrict, OfStock, OfCustomer, OfHistory, OfOrder, OfNewOrder, OfLine, FormatHasLine, LineFits, LinesFit, RowFits, has_rising_lines, infos_of, lines_made, numbers_of, row_fields, row_of, row_read}
+use Rattle.dataset.specs.TableRow.{TableRow, OfItem, OfWarehouse, OfDistrict, OfStock, OfCustomer, OfHistory, OfOrder, OfNewOrder, OfLine, AreLinesOf, FormatHasLine, IsKnown, LineFits, RowFits, has_rising_lines, infos_of, lines_made, numbers_of, row_fields, row_of, row_read}
 use Rattle.files.specs.Columns.{Value, Values, read_columns}
-use Rattle.dataset.proofs.Bounds.{bounds}
+use Rattle.dataset.proofs.Bounds.{bounds, most_lines_within}
 use Rattle.dataset.proofs.ColumnFields.{AreBetween, AreIn, AreSmall, IsBetween, IsIn, fields_of, read_are_between, read_are_spelt, spelt_are_read}
-use Rattle.dataset.proofs.Keys.{all-weaker}
-use Rattle.dataset.proofs.OrderLines.{few_rising}
 use Rattle.dataset.proofs.RowTaken.{IsRead}
 use Rattle.std.proofs.lemmas.Slice.Zip.{AllZip-long}
 use Rattle.files.proofs.ColumnValues.{join, read-take}
@@ -50,8 +47,7 @@ few_customers : (scale : Scale) → scale.customers < 2 ^ 64
 few_customers scale = let most = scale.limits.most_customers in omega (arith, most)
 
 few_lines : (format : Format) → most_lines format < 2 ^ 64
-few_lines One = omega arith
-few_lines Two = omega arith
+few_lines format = let most = most_lines_within format in omega (arith, most)
 
 small_lines : (format : Format) (scale : Scale) (n : ℕ) → AreSmall (lines_columns (sizes format scale) n)
 small_lines format scale zero = tt
@@ -93,9 +89,9 @@ unfolding is_narrow widest
 narrow_columns s Orders count = narrow_lines s (line_count s.format (count - 8))
 narrow_columns s table count = refl
 
-long_lines : (s : Sizes) (n : ℕ) → length (lines_columns s n) ≡ 7 * n
-long_lines s zero = refl
-long_lines s (suc n) = let rest = long_lines s n in omega (arith, rest)
+long_columns : (s : Sizes) (n : ℕ) → length (lines_columns s n) ≡ 7 * n
+long_columns s zero = refl
+long_columns s (suc n) = let rest = long_columns s n in omega (arith, rest)
 
 pub few_in_record : (format : Format) (left : ℕ) → line_count format left ≤ MOST_LINES
 few_in_record One left = omega arith
@@ -107,7 +103,7 @@ unfolding widest
 few_bytes s Orders count =
     let n = line_count s.format (count - 8) in
     let few = few_in_record s.format (count - 8) in
-    let long = long_lines s n in
+    let long = long_columns s n in
     let is = bytes_of_32 (suc (length (record_columns s Orders count))) in
     omega (arith, few, long, is)
 few_bytes s table count = let is = bytes_of_500 (suc (length (record_columns s table count))) in omega (arith, is)
@@ -173,21 +169,21 @@ record LinesValues (s : Sizes) (order : OrderKey) (lines : List (OrderLineKey ×
 same_line_key : (order : OrderKey) (key : OrderLineKey) → order_of_line key ≡ order → line_key order key.number ≡ key
 same_line_key order key is i = record { w_id = (sym is i).w_id; d_id = (sym is i).d_id; o_id = (sym is i).o_id; number = key.number }
 
-lines_values : (scale : Scale) (order : OrderKey) (lines : List (OrderLineKey × OrderLine)) → AllByRecursion (LineFits Two scale order) lines
+lines_values : (scale : Scale) (order : OrderKey) (lines : List (OrderLineKey × OrderLine)) → AllByRecursion (λ e. order_of_line e.0 ≡ order) lines → AllByRecursion (LineFits scale) lines
     → LinesValues (sizes Two scale) order lines (length lines)
-lines_values scale order [] fit = record { values = tt; is = refl; inside = tt }
-lines_values scale order (line ∷ lines) fit =
-    let rest = lines_values scale order lines fit.1 in
+lines_values scale order [] own fit = record { values = tt; is = refl; inside = tt }
+lines_values scale order (line ∷ lines) own fit =
+    let rest = lines_values scale order lines own.1 fit.1 in
     let f = fit.0 in
     let row = line.1 in
-    let r = f.row.in_range in
-    let key = same_line_key order line.0 f.of_order in
+    let r = f.1.in_range in
+    let key = same_line_key order line.0 own.0 in
     record {
       values = (line.0.number, (row.i_id, (row.supply_w_id, (row.delivery_d, (row.quantity, (row.amount, (row.dist_info, rest.values)))))));
       is = λ i. (key i, row) ∷ rest.is i;
       inside = (
-        bounds 1 LAST_LINE line.0.number f.number,
-        (bounds 1 scale.items row.i_id f.row.item, (bounds 1 scale.warehouses row.supply_w_id f.row.supplier, (r.delivery_d, (r.quantity, (r.amount, (r.dist_info, rest.inside)))))),
+        bounds 1 LAST_LINE line.0.number f.0.number,
+        (bounds 1 scale.items row.i_id f.1.item, (bounds 1 scale.warehouses row.supply_w_id f.1.supplier, (r.delivery_d, (r.quantity, (r.amount, (r.dist_info, rest.inside)))))),
       );
     }
 
@@ -198,17 +194,18 @@ record OrderLinesValues (format : Format) (scale : Scale) (order : OrderKey) (li
   many : length (lines_columns (sizes format scale) (line_count format (count - 8))) + 8 ≡ count
   lines_are : LinesValues (sizes format scale) order lines (line_count format (count - 8))
 
-order_lines_values : (format : Format) (scale : Scale) (order : OrderKey) (lines : List (OrderLineKey × OrderLine)) → LinesFit format scale order lines → OrderLinesValues format scale order lines
-order_lines_values One scale order lines fit = record { count = 8; some = omega arith; many = refl; lines_are = record { values = tt; is = sym fit; inside = tt } }
-order_lines_values Two scale order lines fit =
+order_lines_values : (format : Format) (scale : Scale) (order : OrderKey) (lines : List (OrderLineKey × OrderLine)) → AreLinesOf format order lines → AllByRecursion (LineFits scale) lines
+    → OrderLinesValues format scale order lines
+order_lines_values One scale order lines own fit = record { count = 8; some = omega arith; many = refl; lines_are = record { values = tt; is = sym own; inside = tt } }
+order_lines_values Two scale order lines own fit =
     let n = length lines in
-    let few : n ≤ MOST_LINES = (let few_of = few_rising 0 MOST_LINES lines fit.1 (all-weaker _ _ (λ e f. let most = f.few in omega (arith, most)) lines fit.0) in omega (arith, few_of)) in
+    let few : n ≤ MOST_LINES = own.2 in
     let same : line_count Two (7 * n + 8 - 8) ≡ n = omega (arith, few) in
-    let long = long_lines (sizes Two scale) n in record {
+    let long = long_columns (sizes Two scale) n in record {
       count = 7 * n + 8;
       some = omega arith;
       many = ap (λ k. length (lines_columns (sizes Two scale) k) + 8) same ∙ ap (λ l. l + 8) long;
-      lines_are = subst (LinesValues (sizes Two scale) order lines) (sym same) (lines_values scale order lines fit.0);
+      lines_are = subst (LinesValues (sizes Two scale) order lines) (sym same) (lines_values scale order lines own.0 fit);
     }
 
 -- ten texts
@@ -333,9 +330,9 @@ row_values format scale (OfHistory key row) h =
       inside = (k.0, (k.1, (payer.0, (payer.1.0, (payer.1.1, (r.date, (r.amount, (r.history_data, tt))))))));
     }
 row_values format scale (OfOrder key row lines) h =
-    let k = district_within scale (district_of_order key) h.0.home in
-    let r = h.1.in_range in
-    let o = order_lines_values format scale key lines h.3 in
+    let k = district_within scale (district_of_order key) h.1.0.home in
+    let r = h.1.1.in_range in
+    let o = order_lines_values format scale key lines h.0.1 h.1.2 in
     let many = o.many in record {
       table = Orders;
       is_kind = refl;
@@ -343,22 +340,22 @@ row_values format scale (OfOrder key row lines) h =
       many = omega (arith, many);
       values = (key.w_id, (key.d_id, (key.o_id, (row.c_id, (row.entry_d, (row.carrier_id, (row.ol_cnt, ((if row.all_local then 1 else 0), o.lines_are.values))))))));
       is = λ n. OfOrder key (record { c_id = row.c_id; entry_d = row.entry_d; carrier_id = row.carrier_id; ol_cnt = row.ol_cnt; all_local = number_flag row.all_local n }) (o.lines_are.is n);
-      inside = (k.0, (k.1, (bounds 1 9999999 key.o_id h.0.number, (h.1.c_id, (r.entry_d, (r.carrier_id, ((r.ol_cnt.0, h.2), (flag_within row.all_local, o.lines_are.inside))))))));
+      inside = (k.0, (k.1, (bounds 1 9999999 key.o_id h.1.0.number, (h.1.1.c_id, (r.entry_d, (r.carrier_id, ((r.ol_cnt.0, h.0.0), (flag_within row.all_local, o.lines_are.inside))))))));
     }
 row_values format scale (OfNewOrder key row) h =
-    let k = district_within scale (district_of_order key) h.0.home in record {
+    let k = district_within scale (district_of_order key) h.1.home in record {
       table = NewOrders;
       is_kind = refl;
       count = length (record_columns (sizes format scale) NewOrders 0);
       many = refl;
       values = (key.w_id, (key.d_id, (key.o_id, tt)));
       is = refl;
-      inside = (k.0, (k.1, (bounds 1 9999999 key.o_id h.0.number, tt)));
+      inside = (k.0, (k.1, (bounds 1 9999999 key.o_id h.1.number, tt)));
     }
 row_values One scale (OfLine key row) h =
-    let k = district_within scale (district_of_order (order_of_line key)) h.0.order.home in
-    let number = bounds 1 LAST_LINE key.number h.0.number in
-    let r = h.1.in_range in record {
+    let k = district_within scale (district_of_order (order_of_line key)) h.1.0.order.home in
+    let number = bounds 1 LAST_LINE key.number h.1.0.number in
+    let r = h.1.1.in_range in record {
       table = Lines;
       is_kind = refl;
       count = length (record_columns (sizes One scale) Lines 0);
@@ -370,16 +367,16 @@ row_values One scale (OfLine key row) h =
         (
           k.1,
           (
-            bounds 1 9999999 key.o_id h.0.order.number,
+            bounds 1 9999999 key.o_id h.1.0.order.number,
             (
-              (number.0, h.2),
-              (bounds 1 scale.items row.i_id h.1.item, (bounds 1 scale.warehouses row.supply_w_id h.1.supplier, (r.delivery_d, (r.quantity, (r.amount, (r.dist_info, tt)))))),
+              (number.0, h.0),
+              (bounds 1 scale.items row.i_id h.1.1.item, (bounds 1 scale.warehouses row.supply_w_id h.1.1.supplier, (r.delivery_d, (r.quantity, (r.amount, (r.dist_info, tt)))))),
             ),
           ),
         ),
       );
     }
-row_values Two scale (OfLine key row) h = absurd h.2
+row_values Two scale (OfLine key row) h = absurd h.0
 
 -- ---- what spells a row that fits is read as it
 

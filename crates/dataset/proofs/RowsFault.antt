@@ -23,7 +23,7 @@ use Rattle.dataset.specs.declared.loader.Taken.TheVariants.{Row, End}
 use Rattle.dataset.specs.Columns.{Sizes, Table, Items, Warehouses, Districts, Stocks, Customers, Histories, Orders, NewOrders, Lines, fields_fault, letter, record_fault, sizes, table_number}
 use Rattle.files.specs.FirstFault.{ReportsFault, ReportsKind, behind_end, fault_at}
 use Rattle.dataset.specs.FirstFault.{counts, is_end, is_of, last_place, lines_in, number_of, number_of_lines, rows_fault}
-use Rattle.dataset.specs.Loading.{HasLoaded, HasRows, IsKnown}
+use Rattle.dataset.specs.Loading.{HasLoaded, HasRows}
 use Rattle.dataset.specs.Order.{place_numbers}
 use Rattle.rows.specs.declared.limits.TheConstants.{MOST_LINES}
 use Rattle.rows.specs.declared.keys.OrderLineKey.{OrderLineKey}
@@ -32,7 +32,7 @@ use Rattle.dataset.specs.declared.format.Format.{Format}
 use Rattle.dataset.specs.declared.format.Format.TheVariants.{One, Two}
 use Rattle.dataset.specs.Formats.{line_count}
 use Rattle.dataset.specs.Records.{AreSpelt, IsSpelt, header_fields, lines_fields}
-use Rattle.dataset.specs.TableRow.{TableRow, OfItem, OfWarehouse, OfDistrict, OfStock, OfCustomer, OfHistory, OfOrder, OfNewOrder, OfLine, row_fields, rows_read}
+use Rattle.dataset.specs.TableRow.{TableRow, OfItem, OfWarehouse, OfDistrict, OfStock, OfCustomer, OfHistory, OfOrder, OfNewOrder, OfLine, IsKnown, row_fields, rows_read}
 use Rattle.dataset.specs.TakenAs.{IsDone, ReachesEnd}
 use Rattle.dataset.specs.Writing.{table_counts}
 use Rattle.dataset.proofs.Contents.{entries_of, kept, lines_added, lines_of_format, lines_of_rows, of_entries, of_table, with_row}

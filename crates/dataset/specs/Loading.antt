@@ -1,30 +1,22 @@
 -- What has been read of a dataset so far.
-use Rattle.std.specs.Prelude.{◌≡◌, ◌≤◌, ℕ, List, [], ◌∷◌, ◌++◌, Option, length, map, IsTrue}
+use Rattle.std.specs.Prelude.{◌≡◌, ℕ, List, [], ◌∷◌, ◌++◌, Option, map, IsTrue}
 use Rattle.std.specs.List.{AllByRecursion, AllZip}
 use Rattle.std.specs.Ordering.{is_le}
 use Rattle.schema.specs.declared.scale.Scale.{Scale}
 use Rattle.schema.specs.declared.table_rows.TableRows.{TableRows}
 use Rattle.schema.specs.Database.{Database}
 use Rattle.schema.specs.Rows.{AreNoRows}
-use Rattle.rows.specs.Keys.{order_of_line}
-use Rattle.rows.specs.declared.keys.OrderKey.{OrderKey}
-use Rattle.rows.specs.declared.keys.OrderLineKey.{OrderLineKey}
-use Rattle.rows.specs.declared.limits.TheConstants.{MOST_LINES}
-use Rattle.rows.specs.declared.records.OrderLine.{OrderLine}
-use Rattle.schema.specs.Scale.{has_item, has_warehouse, has_district, has_stock, has_customer}
 use Rattle.files.specs.declared.records.Records.{Records}
 use Rattle.files.specs.Place.{Rows, HasRead}
 use Rattle.dataset.specs.declared.loader.Loader.{Loader}
 use Rattle.dataset.specs.declared.place.Place.{Place}
-use Rattle.dataset.specs.Columns.{ascend_from, sizes}
+use Rattle.dataset.specs.Columns.{sizes}
 use Rattle.dataset.specs.FirstFault.{last_place}
 use Rattle.dataset.specs.Order.{place_cmp, place_numbers, follows}
 use Rattle.dataset.specs.declared.header.Header.{Header}
 use Rattle.dataset.specs.declared.format.Format.{Format}
-use Rattle.dataset.specs.declared.format.Format.TheVariants.{One, Two}
-use Rattle.dataset.specs.Formats.{most_lines}
 use Rattle.dataset.specs.Records.{AreRecordsIn, AreSpelt, IsHeader}
-use Rattle.dataset.specs.TableRow.{TableRow, OfItem, OfWarehouse, OfDistrict, OfStock, OfCustomer, OfHistory, OfOrder, OfNewOrder, OfLine, AddsRow, FormatHasLine, row_fields, row_place, rows_read, numbers_of}
+use Rattle.dataset.specs.TableRow.{TableRow, AddsRow, IsKnown, row_fields, row_place, rows_read}
 use Rattle.dataset.specs.Writing.{count_fields}
 
 -- new consists of old with these rows added, one after another
@@ -36,26 +28,6 @@ AddsRows scale (row ∷ rows) old new = (mid : TableRows) × (AddsRow scale row 
 abbrev pub AreInOrder : List TableRow → Type 0
 AreInOrder [] = Unit {0}
 AreInOrder (row ∷ rows) = AllByRecursion (λ later. IsTrue (follows (row_place later) (row_place row))) rows × AreInOrder rows
-
--- the lines in the record of an order: none in format 1; in format 2 lines of that order, by ascending numbers, as many as
--- a record can have
-abbrev pub AreLinesOf : Format → OrderKey → List (OrderLineKey × OrderLine) → Type 0
-AreLinesOf One order lines = lines ≡ []
-AreLinesOf Two order lines =
-    AllByRecursion (λ e. order_of_line e.0 ≡ order) lines × IsTrue (ascend_from 0 (numbers_of lines)) × (length lines ≤ MOST_LINES)
-
--- The key of the row is one of the scale, for the tables whose keys the scale determines. An order and its lines are as the
--- format has them.
-abbrev pub IsKnown : Format → Scale → TableRow → Type 0
-IsKnown format scale (OfItem key row) = IsTrue (has_item scale key)
-IsKnown format scale (OfWarehouse key row) = IsTrue (has_warehouse scale key)
-IsKnown format scale (OfDistrict key row) = IsTrue (has_district scale key)
-IsKnown format scale (OfStock key row) = IsTrue (has_stock scale key)
-IsKnown format scale (OfCustomer key row) = IsTrue (has_customer scale key)
-IsKnown format scale (OfHistory key row) = IsTrue (has_district scale key)
-IsKnown format scale (OfOrder key row lines) = (row.ol_cnt ≤ most_lines format) × AreLinesOf format key lines
-IsKnown format scale (OfNewOrder key row) = Unit {0}
-IsKnown format scale (OfLine key row) = FormatHasLine format key
 
 -- These are the rows of the records, in order, and no row's place is after last. The rows in has are exactly these, and
 -- the records spell them.

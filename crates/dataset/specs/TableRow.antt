@@ -3,9 +3,9 @@ use Rattle.std.specs.Prelude.{◌≡◌, ◌≤◌, ◌-◌, ℕ, zero, suc, Lis
 use Rattle.std.specs.List.{AllByRecursion, flat_map}
 use Rattle.std.specs.BTreeMap.{insert_entry}
 use Rattle.rows.specs.Keys.{order_cmp, line_cmp, order_of_line}
+use Rattle.rows.specs.declared.limits.TheConstants.{MOST_LINES}
 use Rattle.rows.specs.declared.records.Address.{Address}
 use Rattle.schema.specs.declared.table_rows.TableRows.{TableRows}
-use Rattle.schema.specs.Database.{is_line_number}
 use Rattle.schema.specs.Scale.{district_slot}
 use Rattle.schema.specs.OrderRows.{line_key}
 use Rattle.dataset.specs.declared.loader.Loader.{Loader}
@@ -86,36 +86,51 @@ has_rising_lines row = true
 abbrev pub row_follows : TableRow → Place → Bool
 row_follows row last = has_rising_lines row && follows (row_place row) last
 
--- the line is of that order and fits the scale, and its number is within the format
-pub record LineFits (format : Format) (scale : Scale) (order : OrderKey) (e : OrderLineKey × OrderLine) : Type 0 where
-  pub of_order : order_of_line e.0 ≡ order
-  pub number : IsTrue (is_line_number e.0.number)
-  pub few : e.0.number ≤ most_lines format
-  pub row : IsLine scale e.1
-
--- the lines in the record of an order: none in format 1; in format 2 lines that fit, by ascending numbers
-abbrev pub LinesFit : Format → Scale → OrderKey → List (OrderLineKey × OrderLine) → Type 0
-LinesFit One scale order lines = lines ≡ []
-LinesFit Two scale order lines = AllByRecursion (LineFits Two scale order) lines × IsTrue (ascend_from 0 (numbers_of lines))
+-- the lines in the record of an order: none in format 1; in format 2 lines of that order, by ascending numbers, as many as
+-- a record can have
+abbrev pub AreLinesOf : Format → OrderKey → List (OrderLineKey × OrderLine) → Type 0
+AreLinesOf One order lines = lines ≡ []
+AreLinesOf Two order lines =
+    AllByRecursion (λ e. order_of_line e.0 ≡ order) lines × IsTrue (ascend_from 0 (numbers_of lines)) × (length lines ≤ MOST_LINES)
 
 -- the row is one of ORDER-LINE that has a record in the format
 abbrev pub FormatHasLine : Format → OrderLineKey → Type 0
 FormatHasLine One key = key.number ≤ most_lines One
 FormatHasLine Two key = ⊥
 
--- the row's key and the rows that it refers to are within the scale, and its columns are in their ranges, as the format
--- has them
+-- The key of the row is one of the scale, for the tables whose keys the scale determines. An order and its lines are as the
+-- format has them.
+abbrev pub IsKnown : Format → Scale → TableRow → Type 0
+IsKnown format scale (OfItem key row) = IsTrue (has_item scale key)
+IsKnown format scale (OfWarehouse key row) = IsTrue (has_warehouse scale key)
+IsKnown format scale (OfDistrict key row) = IsTrue (has_district scale key)
+IsKnown format scale (OfStock key row) = IsTrue (has_stock scale key)
+IsKnown format scale (OfCustomer key row) = IsTrue (has_customer scale key)
+IsKnown format scale (OfHistory key row) = IsTrue (has_district scale key)
+IsKnown format scale (OfOrder key row lines) = (row.ol_cnt ≤ most_lines format) × AreLinesOf format key lines
+IsKnown format scale (OfNewOrder key row) = Unit {0}
+IsKnown format scale (OfLine key row) = FormatHasLine format key
+
+-- the line's key, its columns and the rows that it refers to are within the scale and their ranges
+abbrev pub LineFits : Scale → (OrderLineKey × OrderLine) → Type 0
+LineFits scale e = IsLineKey scale e.0 × IsLine scale e.1
+
+-- the row's columns and the rows that it refers to are within the scale and their ranges, and its key, for the tables whose
+-- keys the scale does not determine
+abbrev pub RowInRange : Scale → TableRow → Type 0
+RowInRange scale (OfItem key row) = ItemInRange row
+RowInRange scale (OfWarehouse key row) = WarehouseInRange row
+RowInRange scale (OfDistrict key row) = DistrictInRange row
+RowInRange scale (OfStock key row) = StockInRange row
+RowInRange scale (OfCustomer key row) = CustomerInRange row
+RowInRange scale (OfHistory key row) = IsPayment scale row
+RowInRange scale (OfOrder key row lines) = IsOrderKey scale key × IsOrder scale row × AllByRecursion (LineFits scale) lines
+RowInRange scale (OfNewOrder key row) = IsOrderKey scale key
+RowInRange scale (OfLine key row) = LineFits scale (key, row)
+
+-- the row is known, and is within the scale and its ranges
 abbrev pub RowFits : Format → Scale → TableRow → Type 0
-RowFits format scale (OfItem key row) = IsTrue (has_item scale key) × ItemInRange row
-RowFits format scale (OfWarehouse key row) = IsTrue (has_warehouse scale key) × WarehouseInRange row
-RowFits format scale (OfDistrict key row) = IsTrue (has_district scale key) × DistrictInRange row
-RowFits format scale (OfStock key row) = IsTrue (has_stock scale key) × StockInRange row
-RowFits format scale (OfCustomer key row) = IsTrue (has_customer scale key) × CustomerInRange row
-RowFits format scale (OfHistory key row) = IsTrue (has_district scale key) × IsPayment scale row
-RowFits format scale (OfOrder key row lines) =
-    IsOrderKey scale key × IsOrder scale row × (row.ol_cnt ≤ most_lines format) × LinesFit format scale key lines
-RowFits format scale (OfNewOrder key row) = IsOrderKey scale key × Unit {0}
-RowFits format scale (OfLine key row) = IsLineKey scale key × IsLine scale row × FormatHasLine format key
+RowFits format scale row = IsKnown format scale row × RowInRange scale row
 
 -- ---- a row that is read
 
@@ -149,10 +164,8 @@ line_row_of items warehouses (i_id, (supply_w_id, (delivery_d, (quantity, (amoun
 -- so many lines of the order
 abbrev pub lines_made : (scale : Sizes) → OrderKey → (n : ℕ) → Values (lines_columns scale n) → List (OrderLineKey × OrderLine)
 lines_made scale order zero v = []
-lines_made scale order (suc n) (number, (i_id, (supply_w_id, (delivery_d, (quantity, (amount, (dist_info, rest))))))) = (
-  line_key order number,
-  record { i_id = i_id; supply_w_id = supply_w_id; delivery_d = delivery_d; quantity = quantity; amount = amount; dist_info = dist_info },
-)
+lines_made scale order (suc n) (number, (i_id, (supply_w_id, (delivery_d, (quantity, (amount, (dist_info, rest))))))) =
+    (line_key order number, line_row_of scale.items scale.warehouses (i_id, (supply_w_id, (delivery_d, (quantity, (amount, (dist_info, tt)))))))
     ∷ lines_made scale order n rest
 
 -- the row, with its key, made from the values of the fields after the letter, of which there are so many
@@ -211,15 +224,8 @@ row_of scale Orders count (w_id, (d_id, (o_id, (c_id, (entry_d, (carrier_id, (ol
     OfOrder key (record { c_id = c_id; entry_d = entry_d; carrier_id = carrier_id; ol_cnt = ol_cnt; all_local = all_local == 1 })
     (lines_made scale key (line_count scale.format (count - 8)) lines)
 row_of scale NewOrders count (w_id, (d_id, (o_id, _))) = OfNewOrder (record { w_id = w_id; d_id = d_id; o_id = o_id }) (record {})
-row_of scale Lines count (w_id, (d_id, (o_id, (number, (i_id, (supply_w_id, (delivery_d, (quantity, (amount, (dist_info, _)))))))))) =
-    OfLine (record { w_id = w_id; d_id = d_id; o_id = o_id; number = number }) (record {
-      i_id = i_id;
-      supply_w_id = supply_w_id;
-      delivery_d = delivery_d;
-      quantity = quantity;
-      amount = amount;
-      dist_info = dist_info;
-    })
+row_of scale Lines count (w_id, (d_id, (o_id, (number, columns)))) =
+    OfLine (record { w_id = w_id; d_id = d_id; o_id = o_id; number = number }) (line_row_of scale.items scale.warehouses columns)
 
 -- the same from the fields themselves; the value of a faulty field is irrelevant
 abbrev pub row_read : (scale : Sizes) (table : Table) → List (List ℕ) → TableRow

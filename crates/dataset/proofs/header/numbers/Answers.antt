@@ -8,7 +8,8 @@ use Rattle.files.proofs.ColumnsRead.{and_then, ended, whole}
 use Rattle.dataset.specs.Formats.{most_warehouses}
 use Rattle.dataset.specs.FirstFault.{header_columns}
 use Rattle.dataset.specs.Records.{Number}
-use Rattle.dataset.proofs.HeaderFault.{most_within, numbers_taken, scale_made, some_within}
+use Rattle.dataset.proofs.Bounds.{most_within, some_within}
+use Rattle.dataset.proofs.HeaderFault.{numbers_taken, scale_made}
 use Rattle.dataset.proofs.Taking.{TakesFields, all_spelt, none_before, on_any_ok, scale_spelt, takes-number, takes-then}
 use Rattle.dataset.proofs.header.numbers.Goals.{After-finish}
 use Rattle.dataset.proofs.header.numbers.Goals as goal

@@ -11,11 +11,11 @@ use Rattle.dataset.specs.Columns.{Orders, lines_columns, or_order, order_key, si
 use Rattle.dataset.specs.Formats.{line_count, most_lines}
 use Rattle.dataset.specs.TableRow.{TableRow, OfOrder, lines_made}
 use Rattle.dataset.specs.TakenAs.{ReadsLines}
-use Rattle.dataset.proofs.FieldsLeft.{columns_long, field_long}
-use Rattle.dataset.proofs.HeaderFault.{most_lines_within, some_lines_within}
+use Rattle.dataset.proofs.Bounds.{most_lines_within, some_lines_within}
 use Rattle.dataset.proofs.LinesTaken.{order_added, order_follows}
 use Rattle.dataset.proofs.RowTaken.{TakesRow, none_added, row_taken}
-use Rattle.files.proofs.ColumnValues.{of_reads, read_more, read_then}
+use Rattle.files.proofs.ColumnValues.{of_reads, read-take, read_more, read_then}
+use Rattle.files.proofs.FieldsLeft.{columns_long, field_long}
 use Rattle.dataset.proofs.orders.take.Goals.{In_ok-lines_ascend}
 use Rattle.dataset.proofs.orders.take.Goals as goal
 
@@ -35,7 +35,8 @@ takes c =
     let count = subst (λ (m : ℕ). ◌≡◌ {A = ℕ × FieldsView} (c.whole-2.result, fields_view c.whole-2.new.self) (field_read (whole_read 1 m) 1 (fields_view c.optional_ranged.new.self)))
     c.most_lines.ensures c.whole-2.ensures.field in
     let left_key : length (fields_left c.key-key.new.fields) ≡ length (fields_left fields) - 3 =
-    ap (λ (t : FieldsView). length t.left) c.key-key.ensures.after ∙ columns_long (order_key l.scale.warehouses) (fields_view fields) in
+    ap (λ (t : FieldsView). length t.left) (c.key-key.ensures.after ∙ read-take (order_key l.scale.warehouses) (fields_view fields))
+    ∙ columns_long (order_key l.scale.warehouses) (fields_view fields) in
     let left_1 = field_long (whole_read 1 l.scale.customers) 1 c.whole.result c.key-key.new.fields c.whole.new.self c.whole.ensures.field in
     let left_2 = field_long moment_read 0 c.moment.result c.whole.new.self c.moment.new.self c.moment.ensures.field in
     let left_3 = field_long (optional_read (whole_read 1 10)) None c.optional_ranged.result c.moment.new.self c.optional_ranged.new.self c.optional_ranged.ensures.field in

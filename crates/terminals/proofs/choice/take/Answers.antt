@@ -2,7 +2,7 @@ use Rattle.std.proofs.Common.{ℕ, List, [], ap, ◌∙◌}
 use Rattle.files.specs.FieldRead.{FieldsView}
 use Rattle.files.specs.KindsRead.{word_read}
 use Rattle.files.specs.Taken.{fault_of, fields_left}
-use Rattle.terminals.proofs.ColumnsTaken.{next_left}
+use Rattle.files.proofs.FieldsLeft.{next_left}
 use Rattle.terminals.proofs.choice.take.Goals as goal
 
 pub returns-in-Err-clause-left : goal.returns-in-Err-clause-left

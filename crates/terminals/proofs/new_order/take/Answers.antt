@@ -7,7 +7,7 @@ use Rattle.files.specs.Taken.{fields_left}
 use Rattle.files.proofs.ColumnsRead.{and_then, moment, several, take-append, whole}
 use Rattle.terminals.specs.declared.new_order.TheConstants.{MOST_RECORD_LINES}
 use Rattle.terminals.specs.RequestColumns.{line_columns, lines_in, number, repeated}
-use Rattle.terminals.proofs.ColumnsTaken.{columns_long}
+use Rattle.files.proofs.FieldsLeft.{columns_long}
 use Rattle.terminals.proofs.new_order.take.Goals as goal
 
 pub returns-clause-taken : goal.returns-clause-taken

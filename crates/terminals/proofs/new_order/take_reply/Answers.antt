@@ -8,7 +8,7 @@ use Rattle.files.specs.Taken.{fields_left}
 use Rattle.files.proofs.ColumnsRead.{and_then, cents, credit, moment, take-append, whole, words}
 use Rattle.terminals.specs.ReplyColumns.{rate, shown_columns, shown_in}
 use Rattle.terminals.specs.RequestColumns.{repeated}
-use Rattle.terminals.proofs.ColumnsTaken.{columns_long}
+use Rattle.files.proofs.FieldsLeft.{columns_long}
 use Rattle.terminals.proofs.new_order.take_reply.Goals as goal
 
 pub returns-clause-taken : goal.returns-clause-taken

@@ -12,9 +12,10 @@ use Rattle.files.specs.Columns.{Column, take_columns}
 use Rattle.files.specs.FieldRead.{FieldsView, fields_view}
 use Rattle.files.proofs.Unlike.{true_false}
 use Rattle.files.proofs.ColumnsRead.{and_then, maybe_whole, moment, take-append, whole}
+use Rattle.files.proofs.FieldsLeft.{columns_long}
 use Rattle.terminals.specs.ReplyColumns.{status_columns}
 use Rattle.terminals.specs.RequestColumns.{repeated}
-use Rattle.terminals.proofs.ColumnsTaken.{columns_long, once_more}
+use Rattle.terminals.proofs.ColumnsTaken.{once_more}
 use Rattle.terminals.proofs.order_status.take_order.Goals as goal
 
 pub loop-init : goal.loop-init

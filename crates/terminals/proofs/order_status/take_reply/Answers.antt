@@ -7,7 +7,7 @@ use Rattle.files.specs.Taken.{fields_left}
 use Rattle.files.proofs.ColumnsRead.{and_then, cents, take-append, whole, words}
 use Rattle.terminals.specs.ReplyColumns.{status_order}
 use Rattle.terminals.specs.RequestColumns.{number}
-use Rattle.terminals.proofs.ColumnsTaken.{columns_left}
+use Rattle.files.proofs.FieldsLeft.{columns_left}
 use Rattle.terminals.proofs.order_status.take_reply.Goals as goal
 
 pub returns-clause-taken : goal.returns-clause-taken
