@@ -57,6 +57,7 @@ pub fn take_all(loader: &mut Loader, fields: &mut Fields, order: OrderKey) -> Re
 }
 
 // Takes the columns of ORDER-LINE after its key. OL_DELIVERY_D is null if the field is empty.
+#[inline(always)]
 fn take_row(fields: &mut Fields, scale: Scale) -> OrderLine
     ensures { Reads (line_row_columns scale.items scale.warehouses)
         (line_row_of scale.items scale.warehouses) result fields.old fields.new }
