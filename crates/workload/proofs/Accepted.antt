@@ -1,9 +1,11 @@
 -- Which requests the check accepts, by their fields.
-use Rattle.std.proofs.Common.{◌≡◌, ℕ, true, List, [], ◌∷◌, length, map, refl}
+use Rattle.std.proofs.Common.{◌≡◌, ◌≤◌, ℕ, true, List, [], ◌∷◌, length, map, refl, arith}
 use Rattle.std.specs.Prelude.{All}
 use Rattle.std.specs.List.{AllByRecursion, list_all, range_with_len}
+use Rattle.std.proofs.lemmas.Bool.Decides.{nat_tests}
 use Rattle.std.proofs.lemmas.List.Elements.{All-nil, All-cons}
 use Rattle.rows.specs.Ranged.{is_between}
+use Rattle.rows.specs.declared.limits.TheConstants.{FEWEST_LINES, MOST_DRAWN_LINES, MOST_LINES}
 use Rattle.schema.specs.declared.scale.Scale.{Scale}
 use Rattle.schema.specs.Scale.{has_warehouse}
 use Rattle.requests.specs.declared.request.Request.{Request}
@@ -19,7 +21,11 @@ use Rattle.requests.specs.Check.{IsAccepted}
 use Rattle.requests.specs.TerminalRequest.{delivery_in}
 use Rattle.workload.specs.Within.{AreAccepted}
 
-pub accepted-new_order : (scale : Scale) (n : OrderRequest) → has_warehouse scale n.home.w_id ≡ true → is_between 1 10 n.home.d_id ≡ true → is_between 5 15 (length n.lines) ≡ true
+-- as many lines as an order is drawn with are some that the check accepts
+pub drawn-accepted : (count : ℕ) → is_between FEWEST_LINES MOST_DRAWN_LINES count ≡ true → is_between FEWEST_LINES MOST_LINES count ≡ true
+drawn-accepted count drawn = grind (arith, nat_tests)
+
+pub accepted-new_order : (scale : Scale) (n : OrderRequest) → has_warehouse scale n.home.w_id ≡ true → is_between 1 10 n.home.d_id ≡ true → is_between FEWEST_LINES MOST_LINES (length n.lines) ≡ true
     → list_all (λ line. is_between 1 10 line.quantity) n.lines ≡ true → list_all (λ line. has_warehouse scale line.supply_w_id) n.lines ≡ true → IsAccepted scale (NewOrder n)
 accepted-new_order scale n warehouse district count quantities suppliers = rw (warehouse, district, count, quantities, suppliers) refl
 

@@ -20,7 +20,7 @@ use Rattle.workload.specs.Payments.{payment_drawn}
 use Rattle.workload.specs.Requests.{moment_at, order_status_drawn, request_drawn, requests_drawn}
 use Rattle.workload.specs.Within.{AreAccepted, IsCustomer, IsWithin, NameItems}
 use Rattle.workload.proofs.Numbers.{rest_between, random-between, nu_rand-within, nu_rand-between}
-use Rattle.workload.proofs.Accepted.{accepted-alone, accepted-new_order, accepted-payment, accepted-order_status, accepted-stock_level, accepted-warehouse_delivery}
+use Rattle.workload.proofs.Accepted.{accepted-alone, accepted-new_order, drawn-accepted, accepted-payment, accepted-order_status, accepted-stock_level, accepted-warehouse_delivery}
 use Rattle.workload.proofs.OtherWarehouses.{IsDistrict, customer_home-there, customer_home-near}
 use Rattle.workload.proofs.Lines.{lines-count, lines-quantities, lines-suppliers, lines-near, lines-items}
 
@@ -47,7 +47,7 @@ new_order-accepted terminal moment generator there =
     let count = random_of FEWEST_LINES MOST_DRAWN_LINES (beyond 3 generator) in
     let lines = (lines_drawn terminal back count (beyond 5 generator)).0 in
     let many : is_between FEWEST_LINES MOST_DRAWN_LINES (length lines) ≡ true = ap (is_between FEWEST_LINES MOST_DRAWN_LINES) (lines-count terminal back count (beyond 5 generator)) ∙ random-between FEWEST_LINES MOST_DRAWN_LINES (beyond 3 generator) (omega arith) in
-    accepted-alone terminal.scale _ (accepted-new_order terminal.scale (new_order_drawn terminal moment generator).0 there.warehouse (random-between 1 10 generator (omega arith)) many
+    accepted-alone terminal.scale _ (accepted-new_order terminal.scale (new_order_drawn terminal moment generator).0 there.warehouse (random-between 1 10 generator (omega arith)) (drawn-accepted (length lines) many)
     (lines-quantities terminal back count (beyond 5 generator)) (lines-suppliers terminal back count (beyond 5 generator) there))
 
 -- of so many lines as are some
