@@ -16,7 +16,7 @@ bytes of a dataset for each warehouse. The last column is the ratio of the first
 
 import argparse
 import datetime
-import itertools
+import filecmp
 import os
 import re
 import shlex
@@ -86,11 +86,6 @@ def measured(warehouses, work, commands, runs, folder):
     return rows
 
 
-def same(one, other):
-    with open(one, "rb") as first, open(other, "rb") as second:
-        return all(a == b for a, b in itertools.zip_longest(first, second))
-
-
 def measure(program, beside, warehouses, runs):
     """Returns the rows of the table."""
     rows = []
@@ -104,7 +99,7 @@ def measure(program, beside, warehouses, runs):
             rows += measured(count, "reading", [[program, "check", two], [program, "check", one], check], runs, folder)
             ours = [program, "populate", made, "--warehouses", str(count)]
             rows += measured(count, "populating and writing", [ours, None, populate], runs, folder)
-            if beside and not same(one, others):
+            if beside and not filecmp.cmp(one, others, shallow=False):
                 sys.exit(f"{shlex.join(populate)}: its tables are not those that {shlex.join(ours)} makes")
             sizes = [os.path.getsize(path) / count / MB for path in (two, one)]
             rows.append(row(count, "a dataset, for each warehouse", "MB", [*sizes, sizes[1] if beside else None], "{:.1f}".format))
